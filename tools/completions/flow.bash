@@ -14,7 +14,7 @@ _flow() {
         ;;
     esac
     [ "$COMP_CWORD" -ne 1 ] || words="encode run audit explain report statement checkpoint resume keep sample"
-    [ "$COMP_CWORD" -ne 2 ] || [ "$before" != encode ] || words="2 3"
+    [ "$COMP_CWORD" -ne 2 ] || [ "$before" != encode ] || words="2 3 4"
     mapfile -t COMPREPLY < <(compgen -W "$words" -- "$word")
 }
 complete -F _flow flow ./flow

@@ -16,3 +16,4 @@ complete -c flow -n 'test (count (commandline -opc)) -eq 1' -a sample -d 'a numb
 complete -c flow -n 'test (count (commandline -opc)) -eq 2; and test (commandline -opc)[2] = keep' -F
 complete -c flow -n 'test (count (commandline -opc)) -eq 2; and test (commandline -opc)[2] = encode' -a 2 -d 'of version 2'
 complete -c flow -n 'test (count (commandline -opc)) -eq 2; and test (commandline -opc)[2] = encode' -a 3 -d 'of version 3'
+complete -c flow -n 'test (count (commandline -opc)) -eq 2; and test (commandline -opc)[2] = encode' -a 4 -d 'of version 4'

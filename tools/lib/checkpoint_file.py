@@ -3,7 +3,7 @@ consistent, by the market's rules, and the market of a day as a checkpoint."""
 import struct
 from collections import Counter, namedtuple
 
-from formats import MONEY_KEY, TICK, Terms, is_row, is_ticker, name_of
+from formats import MONEY_KEY, TICK, VERSIONS, Terms, is_row, is_ticker, name_of
 from journal_day import Day, Order
 
 MAGIC = b"FLOWSNP1"
@@ -122,7 +122,7 @@ def covers(account, needed):
 
 def are_counts(kept):
     """Numbers and lists within their limits."""
-    numbers = kept.version in (1, 2, 3) and 1 <= kept.next_number < NO_NUMBER and kept.batches <= MOST_BATCHES
+    numbers = kept.version in VERSIONS and 1 <= kept.next_number < NO_NUMBER and kept.batches <= MOST_BATCHES
     lists = len(kept.tickers) <= MOST_ASSETS and len(kept.accounts) <= MOST_ACCOUNTS and len(kept.orders) <= MOST_ORDERS
     tickers = len(set(kept.tickers)) == len(kept.tickers) and all(map(is_ticker, kept.tickers))
     return numbers and lists and tickers and all(abs(price) <= MOST_PRICE for price in kept.prices)

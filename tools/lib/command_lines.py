@@ -25,7 +25,7 @@ COMMANDS = {
     12: ("credit", ["account", "asset", "units"], ["I", "H", "Q"]),
 }
 # The highest tag of each version.
-MOST_TAG = {1: 9, 2: 12, 3: 12}
+MOST_TAG = {1: 9, 2: 12, 3: 12, 4: 12}
 TAGS = {(word, frozenset(keys)): tag for tag, (word, keys, _) in COMMANDS.items()}
 
 # The further keys of a ladder.

@@ -3,6 +3,9 @@ by the formats alone and shares nothing with the program."""
 import struct
 from collections import namedtuple
 
+# The versions of command files and journals.
+VERSIONS = (1, 2, 3, 4)
+
 # Grains in a tick.
 TICK = 1 << 32
 

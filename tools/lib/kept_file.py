@@ -1,10 +1,10 @@
 """A reader of the files that `flow keep` writes, and files that it may write, by the formats alone."""
 import struct
 
-from formats import HEAD
+from formats import HEAD, VERSIONS
 
 # By the version of the journal.
-MAGICS = {1: b"FLOWDSK1", 2: b"FLOWDSK2", 3: b"FLOWDSK3"}
+MAGICS = {version: b"FLOWDSK%d" % version for version in VERSIONS}
 MAGIC = MAGICS[2]
 OPEN, CLOSED = b"\x01", b"\0"
 

@@ -2,10 +2,11 @@
 import random
 import struct
 
-from formats import MONEY, UNITS, Terms, order_body, record
+from formats import MONEY, UNITS, VERSIONS, Terms, order_body, record
 
 TICKERS = [b"AAPL    ", b"MSFT    ", b"BRK.B   ", b"Z-9     ", b"aapl    ", b"AAPL    ", b"        "]
-MAGICS = [b"FLOWCMD1", b"FLOWCMD2", b"FLOWCMD3", b"FLOWCMD4", b"FLOWJNL1", b"FLOWJNL2", b"FLOWJNL3", b"FLOWJNL4", b"FLOWSNP1", b"FLOWCMD", b""]
+# The magics of each version, and of the one after the last.
+MAGICS = [b"FLOW%s%d" % (kind, version) for kind in (b"CMD", b"JNL") for version in (*VERSIONS, VERSIONS[-1] + 1)] + [b"FLOWSNP1", b"FLOWCMD", b""]
 BUDGETS = [0, 1, 1, 2, 3, 10, 100, 1000, 1000, 1000, 10_000, 65_536, 65_537]
 EDGES = [0, 1, 2, 4096, 1 << 16, 1 << 24, 1 << 28, (1 << 32) - 1, 1 << 40, 1 << 60, (1 << 63) - 1, (1 << 64) - 1]
 # Lengths that a record may state, whatever follows it.
@@ -62,7 +63,7 @@ def command():
 
 def command_file():
     """A market with accounts, assets and money in it, most often, and random commands after that."""
-    made = [random.choice([b"FLOWCMD1", b"FLOWCMD2", b"FLOWCMD3"])]
+    made = [b"FLOWCMD%d" % random.choice(VERSIONS)]
     if random.random() < 0.9:
         made += [record(1, ticker) for ticker in TICKERS[:3]] + [record(2)] * 3
         for number in (1, 2, 3):

@@ -1,6 +1,8 @@
 """Markets as checkpoints have them, altered in a part or some. Many are still consistent. All go by the state of `random`."""
 import random
 
+from formats import VERSIONS
+
 AMOUNTS = [-(1 << 62), -(1 << 61), -1, 0, 1, 1 << 20, 1 << 59, 1 << 60, (1 << 60) + 1, 1 << 61, 1 << 62]
 CREDITS = [0, 1, 1 << 20, 1 << 40, 1 << 40, (1 << 40) + 1, (1 << 64) - 1]
 BATCHES = [0, 1, 2, 100, (1 << 24) - 1, 1 << 24, (1 << 24) + 1, (1 << 32) - 1]
@@ -66,7 +68,7 @@ def with_ticker(kept):
 
 
 def with_count(kept):
-    name, numbers = random.choice([("batches", BATCHES), ("next_number", NUMBERS), ("version", [0, 1, 2, 3])])
+    name, numbers = random.choice([("batches", BATCHES), ("next_number", NUMBERS), ("version", [0, *VERSIONS, VERSIONS[-1] + 1])])
     return kept._replace(**{name: random.choice(numbers)})
 
 

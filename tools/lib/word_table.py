@@ -14,9 +14,9 @@ STATUSES = ("Done Usage NotFlow Torn ReadFault WriteFault NoMemory Rejected TooL
 Word = namedtuple("Word", "name forms source reads out writes ends line")
 
 WORDS = [
-    Word("encode", ["", "2", "3"],
+    Word("encode", ["", "2", "3", "4"],
          "LINES", "[lines of JSON](#json-lines), perhaps after a checkpoint",
-         "COMMANDS", "the [command file](#command-files) of version 1, 2 or 3 that they ask for",
+         "COMMANDS", "the [command file](#command-files) of version 1, 2, 3 or 4 that they ask for",
          "BadText TooLong BadCheckpoint",
          "lines of JSON: write a command file"),
     Word("run", [""],

@@ -15,7 +15,7 @@ use Rattle.flow_orders.specs.Outcomes.{Clearing, Skipping, Outcome, Cleared, Ski
 use Rattle.flow_orders.proofs.Moving.{has_walked}
 use Rattle.price_moves.proofs.MadeAgain.{illegal_whole}
 use Rattle.journal_records.specs.Replies.{SpellsAnswer}
-use Rattle.market_rules.specs.Market.{Market, parts_of, start_prices}
+use Rattle.market_rules.specs.Market.{Market, parts_of, search_of, start_prices}
 use Rattle.market_rules.specs.Step.{FirstRefusal, refusal_of, after_batch}
 use Rattle.market_rules.proofs.LawProofs.{plain_by_any}
 use Rattle.market_core.specs.Expected.{IsExpected}
@@ -67,7 +67,7 @@ module _ (m : Market) (pair : Record × Record) (budget : ℕ) (due : IsDue m pa
   other_batch answer number spelled next other = record { answer = answer; spelled = spelled; budget = budget; due = due; next = next; other = other }
 
   -- an admissible outcome makes a valid entry
-  pub right_batch : (outcome : Outcome) → SpellsAnswer pair.1 (Batch (m.batches + 1) outcome) → IsAdmissibleOutcome (parts_of m.version) m.orders (start_prices m) budget outcome → IsFinding m pair finding.Legal
+  pub right_batch : (outcome : Outcome) → SpellsAnswer pair.1 (Batch (m.batches + 1) outcome) → IsAdmissibleOutcome (search_of m.version) m.orders (start_prices m) budget outcome → IsFinding m pair finding.Legal
   right_batch outcome spelled right = (
     after_batch m outcome,
     record {

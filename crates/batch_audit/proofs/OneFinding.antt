@@ -23,7 +23,7 @@ use Rattle.batch_certificate.proofs.OneVerdict.{one_verdict}
 use Rattle.batch_certificate.proofs.Verdicts.{right_parts}
 use Rattle.journal_records.specs.Replies.{SpellsAnswer}
 use Rattle.journal_records.proofs.Spelled.{answer_unique}
-use Rattle.market_rules.specs.Market.{Market, parts_of, start_prices}
+use Rattle.market_rules.specs.Market.{Market, parts_of, search_of, start_prices}
 use Rattle.market_rules.specs.Step.{FirstRefusal, Accepts, Answers, Serves, ServesRead, holds_batch}
 use Rattle.market_rules.specs.Journal.{Step}
 use Rattle.market_rules.proofs.LawProofs.{plain_commands_have_one_answer, batch_of}
@@ -268,7 +268,7 @@ one_outcome : (m : Market) (budget : ℕ) (o : Outcome) → IsOne (OutcomeFound 
 one_outcome m budget (Cleared c) = one_clearing m.orders (start_prices m) c
 one_outcome m budget (Skipped s) = one_skip (parts_of m.version) m.orders (start_prices m) budget s
 
-admissible_outcome : (m : Market) (budget : ℕ) (o : Outcome) → IsAdmissibleOutcome (parts_of m.version) m.orders (start_prices m) budget o → OutcomeFound m budget o finding.Legal
+admissible_outcome : (m : Market) (budget : ℕ) (o : Outcome) → IsAdmissibleOutcome (search_of m.version) m.orders (start_prices m) budget o → OutcomeFound m budget o finding.Legal
 admissible_outcome m budget (Cleared c) right = right
 admissible_outcome m budget (Skipped s) right = right
 

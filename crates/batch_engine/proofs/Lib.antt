@@ -1,1 +1,2 @@
 pub mod CanonicalClearing
+mod Tried

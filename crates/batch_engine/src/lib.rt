@@ -11,10 +11,12 @@
 //! one over the orders alone, with a division each, for the gap. The price of an order's portfolio and its demand
 //! are those that the workspace has, and its list of prices is the one that is published: neither is computed or copied
 //! again. Memory is allocated for the workspace, for one number for each asset and one for each order, and, if some order
-//! names two assets or more, for a byte for each move of the budget; nothing in between.
+//! names two assets or more, for a byte for each move of the budget; nothing in between. If joint prices are tried, they
+//! cost what `joint_prices` says, and each test of prices one pass over the legs of all orders.
 #![tactic(auto)]
 
 mod batch;
+mod joint;
 
 pub use batch::clear;
 pub use out_of_memory::Memory;

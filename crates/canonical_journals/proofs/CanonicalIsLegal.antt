@@ -4,7 +4,7 @@ use Rattle.flow_orders.specs.Outcomes.{Outcome, IsAdmissibleOutcome}
 use Rattle.canonical_rule.specs.Canonical.{IsCanonicalOutcome}
 use Rattle.wire_records.specs.Commands.{Command, RunBatch, Answer, Pair}
 use Rattle.wire_records.specs.declared.reply.Refusal.{Refusal}
-use Rattle.market_rules.specs.Market.{Market, IsConsistent, parts_of, start_prices, empty_market}
+use Rattle.market_rules.specs.Market.{Market, IsConsistent, search_of, start_prices, empty_market}
 use Rattle.market_rules.specs.Step.{FirstRefusal, Accepts, Answers, Serves, ServesRead}
 use Rattle.wire_records.specs.declared.command.BodyFault.{BodyFault}
 use Rattle.wire_records.specs.declared.version.Version.{Version}
@@ -17,7 +17,7 @@ use Rattle.canonical_rule.proofs.CanonicalIsAdmissible.{canonical_is_admissible}
 
 accepted_right : (m : Market) (c : Command) (a : Answer Outcome) (n : Market) → IsConsistent m → FirstRefusal m c None → Accepts IsCanonicalOutcome m c a n → Accepts IsAdmissibleOutcome m c a n
 accepted_right m (RunBatch budget) a n consistent none accepts =
-    (accepts.0, canonical_is_admissible (parts_of m.version) (some_parts m.version) m.orders (start_prices m) budget accepts.0 (λ k d inside. (consistent.live k d inside).order) (start_within m) (past_unless none).0.1 accepts.1, accepts.2)
+    (accepts.0, canonical_is_admissible (search_of m.version) (some_parts m.version) m.orders (start_prices m) budget accepts.0 (λ k d inside. (consistent.live k d inside).order) (start_within m) (past_unless none).0.1 accepts.1, accepts.2)
 accepted_right m command a n consistent none accepts = accepts
 
 -- a canonical step of a consistent market is a step

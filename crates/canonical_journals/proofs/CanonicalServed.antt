@@ -5,7 +5,7 @@ use Rattle.flow_orders.specs.Outcomes.{Outcome}
 use Rattle.canonical_rule.specs.Canonical.{IsCanonicalOutcome}
 use Rattle.wire_records.specs.Commands.{Command, RunBatch, Answer, Plain, Batch, Pair}
 use Rattle.wire_records.specs.declared.reply.Reply.TheVariants.{Refused}
-use Rattle.market_rules.specs.Market.{Market, parts_of, start_prices, empty_market}
+use Rattle.market_rules.specs.Market.{Market, search_of, start_prices, empty_market}
 use Rattle.market_rules.specs.Step.{FirstRefusal, Serves, after_batch, refusal_of, ServesRead}
 use Rattle.wire_records.specs.declared.command.BodyFault.{BodyFault}
 use Rattle.wire_records.specs.declared.version.Version.{Version}
@@ -24,7 +24,7 @@ served_is_there m c =
   where
     due_is_there : (budget : ℕ) → c ≡ RunBatch budget → FirstRefusal m c None → (a : Answer Outcome) × (n : Market) × Serves IsCanonicalOutcome m c a n
     due_is_there budget is first =
-        let own = own_is_there (parts_of m.version) m.orders (start_prices m) budget in
+        let own = own_is_there (search_of m.version) m.orders (start_prices m) budget in
         let batch : Serves IsCanonicalOutcome m (RunBatch budget) (Batch (m.batches + 1) own.0) (after_batch m own.0) =
         record { first = None; refused = subst (λ d. FirstRefusal m d None) is first; answered = (own.0, own.1, (refl, refl)) } in
         (Batch (m.batches + 1) own.0, after_batch m own.0, subst (λ d. Serves IsCanonicalOutcome m d (Batch (m.batches + 1) own.0) (after_batch m own.0)) (sym is) batch)

@@ -4,7 +4,7 @@ use Rattle.std.specs.Prelude.{map}
 use Rattle.flow_orders.specs.Outcomes.{Outcome}
 use Rattle.canonical_rule.specs.Canonical.{IsCanonicalOutcome}
 use Rattle.wire_records.specs.Commands.{Command, Answer, Pair, RunBatch}
-use Rattle.market_rules.specs.Market.{Market, empty_market, parts_of, start_prices}
+use Rattle.market_rules.specs.Market.{Market, empty_market, search_of, start_prices}
 use Rattle.wire_records.specs.declared.command.BodyFault.{BodyFault}
 use Rattle.wire_records.specs.declared.version.Version.{Version}
 use Rattle.market_rules.specs.Step.{ServesRead}
@@ -14,7 +14,7 @@ use Rattle.canonical_rule.proofs.OneCanonical.{one_own}
 
 -- every command has one outcome by the canonical rule
 pub own_has_one : (m : Market) (c : Command) → HasOneOutcome IsCanonicalOutcome m c
-own_has_one m (RunBatch budget) = one_own (parts_of m.version) m.orders (start_prices m) budget
+own_has_one m (RunBatch budget) = one_own (search_of m.version) m.orders (start_prices m) budget
 own_has_one m command = tt
 
 -- records that are read in one way

@@ -7,7 +7,7 @@ use Rattle.wire_records.proofs.Readings.{reading_unique, read_own}
 use Rattle.flow_orders.specs.Outcomes.{Outcome, IsAdmissibleOutcome}
 use Rattle.canonical_rule.specs.Canonical.{IsCanonicalOutcome}
 use Rattle.canonical_rule.proofs.CanonicalLaws.{one_asset_books_clear}
-use Rattle.market_rules.specs.Market.{Market, IsConsistent, parts_of, start_prices}
+use Rattle.market_rules.specs.Market.{Market, IsConsistent, search_of, start_prices}
 use Rattle.market_rules.specs.Journal.{Step, Follows}
 use Rattle.market_rules.specs.Promises.{HoldsBatch, ClearNear}
 use Rattle.market_rules.proofs.OneJournal.{follows-parts, journal_market}
@@ -19,7 +19,7 @@ use Rattle.market_rules.proofs.Promised.{batch_served, consistent_before}
 
 module _ (start : Market) (pairs : List (Pair Record Outcome)) (market : Market) (begins : IsConsistent start) (steps : Follows IsReadAs IsCanonicalOutcome start pairs market) where
   -- the batch's outcome is the canonical one
-  own_step : (old : Market) (outcome : Outcome) (new : Market) → HoldsBatch IsReadAs start pairs old outcome new → (budget : ℕ) × IsCanonicalOutcome (parts_of old.version) old.orders (start_prices old) budget outcome
+  own_step : (old : Market) (outcome : Outcome) (new : Market) → HoldsBatch IsReadAs start pairs old outcome new → (budget : ℕ) × IsCanonicalOutcome (search_of old.version) old.orders (start_prices old) budget outcome
   own_step old outcome new batch =
       let pair : Pair Record Outcome = record { asked = batch.asked; answer = Batch batch.number outcome } in
       let parts = follows-parts IsReadAs reading_unique IsCanonicalOutcome start market batch.before (pair ∷ batch.after) (subst (λ ps. Follows IsReadAs IsCanonicalOutcome start ps market) batch.stands steps) in
@@ -35,4 +35,4 @@ module _ (start : Market) (pairs : List (Pair Record Outcome)) (market : Market)
   canonical_journal_clears_near old new outcome batch single =
       let own = own_step old outcome new batch in
       let consistent = consistent_before begins old outcome new batch in
-      one_asset_books_clear (parts_of old.version) (some_parts old.version) old.orders (start_prices old) own.0 outcome (λ k d inside. (consistent.live k d inside).order) single (start_within old) own.1
+      one_asset_books_clear (search_of old.version) (some_parts old.version) old.orders (start_prices old) own.0 outcome (λ k d inside. (consistent.live k d inside).order) single (start_within old) own.1

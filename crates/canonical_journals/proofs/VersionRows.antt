@@ -18,6 +18,7 @@ use Rattle.flow_accounts.specs.Balances.{Account, Credit, Balances, IsAccount, I
 use Rattle.flow_orders.specs.Orders.{Order, AreLimits, IsFrom1To, most_cap, unit_need, terms_of}
 use Rattle.flow_orders.specs.Excess.{price_for, residual_bound, steepness, is_unsettled}
 use Rattle.flow_orders.specs.Moves.{moved, walk_reach, single_reach}
+use Rattle.canonical_rule.specs.Attempts.{walks_alone}
 use Rattle.canonical_rule.specs.Canonical.{IsCanonicalOutcome}
 use Rattle.canonical_rule.specs.Turns.{visits, IsInTurnFrom, Settles}
 use Rattle.canonical_rule.proofs.CanonicalWalks.{skip_of_trace}
@@ -187,7 +188,7 @@ pair_moves : (last : ℕ) → moved 1 (pair_until last) single_reach (pos 0 ∷ 
 unfolding steepness weight_in portfolio_price floor_rate ceil_rate floor_in ceil_in scaled_demand line span distance
 pair_moves last = (rises_to 1 (pair_until last) single_reach (pos 0 ∷ []) 0 429410830254 (pair_is_consistent last) (omega arith) (omega arith) refl refl refl).0
 
-pair_is_own : (last : ℕ) → IsCanonicalOutcome 1 (pair_until last) (pos 0 ∷ []) 10 (Cleared even_clearing)
+pair_is_own : (last : ℕ) → IsCanonicalOutcome (walks_alone 1) (pair_until last) (pos 0 ∷ []) 10 (Cleared even_clearing)
 unfolding is_unsettled steepness weight_in portfolio_price floor_rate ceil_rate floor_in ceil_in scaled_demand loss line span distance
 pair_is_own last = (sym (pair_moves last), refl)
 
@@ -269,7 +270,7 @@ seller_moves : moved 1 (seller_left ∷ []) single_reach (pos 429410830255 ∷ [
 unfolding steepness weight_in portfolio_price floor_rate ceil_rate floor_in ceil_in scaled_demand line span distance
 seller_moves = (falls_to 1 (seller_left ∷ []) single_reach (pos 429410830255 ∷ []) 0 42691974923 seller_is_consistent (omega arith) (omega arith) refl refl refl refl).0
 
-seller_is_own : IsCanonicalOutcome 1 (seller_left ∷ []) (pos 429410830255 ∷ []) 10 (Cleared lone_clearing)
+seller_is_own : IsCanonicalOutcome (walks_alone 1) (seller_left ∷ []) (pos 429410830255 ∷ []) 10 (Cleared lone_clearing)
 unfolding is_unsettled steepness weight_in portfolio_price floor_rate ceil_rate floor_in ceil_in scaled_demand loss line span distance
 seller_is_own = (sym seller_moves, refl)
 
@@ -499,7 +500,7 @@ duals : skipped ≡ record { trace = 0 ∷ []; start_dual = pos (dual_of wide_un
 unfolding portfolio_price dual_floor scaled_dual scaled_demand line span distance
 duals = refl
 
-skip_is_admissible : IsAdmissibleOutcome 1 wide_until (pos 0 ∷ pos 0 ∷ []) 1 (Skipped skipped)
+skip_is_admissible : IsAdmissibleOutcome (walks_alone 1) wide_until (pos 0 ∷ pos 0 ∷ []) 1 (Skipped skipped)
 skip_is_admissible = record {
   wide = (order_of 1 0 basket_bought, (0, omega arith, refl), omega arith);
   legal = (omega arith, unsettled_facts.0, tt);
@@ -516,7 +517,7 @@ first_turn = refl
 same_asset : (a c : ℕ) → Some a ≡ Some c → a ≡ c
 same_asset a c e = cc
 
-skip_is_canonical : IsCanonicalOutcome 1 wide_until (pos 0 ∷ pos 0 ∷ []) 1 (Skipped skipped)
+skip_is_canonical : IsCanonicalOutcome (walks_alone 1) wide_until (pos 0 ∷ pos 0 ∷ []) 1 (Skipped skipped)
 skip_is_canonical = skip_of_trace 1 wide_until (pos 0 ∷ pos 0 ∷ []) 1 skipped refl
     (record {
       in_turn = (first_turn, tt);

@@ -15,12 +15,15 @@ use Rattle.flow_orders.specs.Moves.{moved, single_reach}
 use Rattle.canonical_rule.specs.Choice.{left_by}
 use Rattle.flow_orders.specs.Trades.{Trade, trades, residual}
 use Rattle.flow_orders.specs.Outcomes.{most_budget, IsUnnamed, IsWide, Fill, Outcome, Cleared, Skipped, trades_of, fill_of, step_of, end_of, IsAdmissibleOutcome, IsAdmissibleClearing, IsAdmissibleSkip, are_single, clearing_at}
-use Rattle.canonical_rule.specs.Canonical.{canonical_walk, moved_once, ArePricesOf, floor_at, is_fraction_at, floor_rates, rates_by_choice, IsCanonicalOutcome}
+use Rattle.flow_orders.specs.declared.search.Search.{Search}
+use Rattle.canonical_rule.specs.Attempts.{canonical_walk, Attempt, attempts, Succeeds, end_of_attempt, EndsFirst}
+use Rattle.canonical_rule.specs.Canonical.{moved_once, ArePricesOf, floor_at, is_fraction_at, floor_rates, rates_by_choice, IsCanonicalOutcome}
 use Rattle.flow_orders.proofs.Book.{IsConsistent as IsConsistentOrder, IsSettled}
 use Rattle.canonical_rule.proofs.Choice.{chosen_are_roundings}
 use Rattle.canonical_rule.proofs.ChoiceByEntries.{choice_is_rounding}
 use Rattle.flow_orders.proofs.Residuals.{residual_within_bound}
 use Rattle.canonical_rule.proofs.Walks.{in_turn-legal, shortest_where, trace_where}
+use Rattle.canonical_rule.proofs.Attempting.{last_fails, IsFair, AreFair, attempts_are_fair}
 use Rattle.flow_orders.proofs.Singles.{IsSingle}
 use Rattle.flow_orders.proofs.DualWalks.{length-move}
 use Rattle.flow_orders.proofs.SettleSingle.{IsVisit, AreVisited, IsSettledOnce, settles_single}
@@ -100,7 +103,7 @@ bounded_at orders prices rates each roundings asset settled =
 
 -- prices at which all is settled, and that an unnamed asset keeps, give an admissible clearing with any rates that round the demands
 pub right_at : (orders : List Order) (start prices : List ℤ) (rates : List ℕ) → All IsOrder orders → AreRoundings orders prices rates → length prices ≡ length start → All IsPrice prices
-    → ((asset : ℕ) → IsUnnamed orders asset → price_of prices asset ≡ price_of start asset) → ((asset : ℕ) → asset < length start → IsSettled orders prices asset)
+    → ((asset : ℕ) → asset < length start → IsUnnamed orders asset → price_of prices asset ≡ price_of start asset) → ((asset : ℕ) → asset < length start → IsSettled orders prices asset)
     → IsAdmissibleClearing orders start (clearing_at (length start) prices (trades orders rates))
 right_at orders start prices rates each roundings count small unnamed settled =
     let ts = trades orders rates in
@@ -108,7 +111,7 @@ right_at orders start prices rates each roundings count small unnamed settled =
     record {
       one_price_each = count;
       small = small;
-      unnamed = λ asset inside none. unnamed asset none;
+      unnamed = unnamed;
       numbers = numbers_back orders rates roundings.count;
       roundings = rw back roundings.each;
       residual_each = rw back refl;
@@ -161,63 +164,77 @@ visited_count parts orders (a ∷ assets) start stop visits =
 record AreRightPrices (orders : List Order) (start prices : List ℤ) : Type 0 where
   count : length prices ≡ length start
   small : All IsPrice prices
-  unnamed : (asset : ℕ) → IsUnnamed orders asset → price_of prices asset ≡ price_of start asset
+  unnamed : (asset : ℕ) → asset < length start → IsUnnamed orders asset → price_of prices asset ≡ price_of start asset
   settled : (asset : ℕ) → asset < length start → IsSettled orders prices asset
 
-all_visited : (parts : ℕ) (orders : List Order) (start : List ℤ) (budget : ℕ) (end : List ℤ) → ArePricesOf parts true orders start budget end → AreVisited parts orders single_reach start (range_with_len 0 (length start)) end
-all_visited parts orders start budget end own =
+all_visited : (parts : ℕ) (orders : List Order) (start end : List ℤ) → end ≡ moved_once parts orders (visits (length start) 0) start → AreVisited parts orders single_reach start (range_with_len 0 (length start)) end
+all_visited parts orders start end own =
     let visits_of = visited_once parts orders (visits (length start) 0) start in
     rw (own, ← visits_all (length start)) visits_of
 
 -- moving each unsettled asset once settles all assets
-pub settles_once : (parts : ℕ) → 1 ≤ parts → (orders : List Order) (start : List ℤ) (budget : ℕ) (end : List ℤ) → are_single orders ≡ true → All IsOrder orders → All (IsWithin (2 ^ 60)) start → ArePricesOf parts true orders start budget end → IsSettledOnce orders start end
-settles_once parts whole orders start budget end is each range own =
-    settles_single parts whole orders single_reach (λ k d inside. record { limits = (each k d inside).terms; lawful = (each k d inside).row }) (single_each orders is) (omega arith) start end range (all_visited parts orders start budget end own)
+pub settles_once : (parts : ℕ) → 1 ≤ parts → (orders : List Order) (start end : List ℤ) → are_single orders ≡ true → All IsOrder orders → All (IsWithin (2 ^ 60)) start → end ≡ moved_once parts orders (visits (length start) 0) start → IsSettledOnce orders start end
+settles_once parts whole orders start end is each range own =
+    settles_single parts whole orders single_reach (λ k d inside. record { limits = (each k d inside).terms; lawful = (each k d inside).row }) (single_each orders is) (omega arith) start end range (all_visited parts orders start end own)
 
-prices_are_right : (parts : ℕ) → 1 ≤ parts → (single : Bool) (orders : List Order) (start : List ℤ) (budget : ℕ) (end : List ℤ) → are_single orders ≡ single → All IsOrder orders → All (IsWithin (2 ^ 60)) start → budget ≤ most_budget → ArePricesOf parts single orders start budget end → AreRightPrices orders start end
-prices_are_right parts whole true orders start budget end is each range few own =
-    let once = settles_once parts whole orders start budget end is each range own in
+near : (p : ℤ) → IsWithin (2 ^ 60) p → unsigned_abs p ≤ 2 ^ 60
+near p within = omega (arith, ints, within.0, within.1)
+
+-- the prices at the end of an attempt that succeeds
+attempt_is_right : (parts : ℕ) (orders : List Order) (start : List ℤ) (a : Attempt) → IsFair orders start a → Succeeds parts orders a → AreRightPrices orders start (end_of_attempt parts orders a)
+attempt_is_right parts orders start a fair settled =
+    let walk = canonical_walk parts orders a.from a.budget in
+    let n = length a.from in
+    let short = shortest_where n (is_unsettled orders) (step_of parts orders) a.budget a.from settled in
+    let legal = in_turn-legal n (is_unsettled orders) (step_of parts orders) 0 a.from walk (omega arith) short.in_turn in
+    let walked = has_walked parts orders n a.from walk refl legal in
+    let at_start : AreWithin (2 ^ 60) a.from = λ k d inside. let one = fair.range k d inside in near (slice_index_or a.from k d) one in
     record {
-      count = visited_count parts orders (range_with_len 0 (length start)) start end (all_visited parts orders start budget end own);
+      count = walked.count ∙ fair.count;
+      small = λ k d inside. let one = walked.range (2 ^ 60) at_start k d inside in let length_most = short.within in let few = fair.few in omega (arith, one, length_most, few);
+      unnamed = λ asset inside none. walked.unnamed asset none ∙ fair.unnamed asset inside none;
+      settled = λ asset inside. let there : asset < length a.from = omega (arith, inside, fair.count) in settled_is orders (end_of parts orders a.from walk) asset (settled asset there);
+    }
+
+attempts_are_right : (parts : ℕ) (orders : List Order) (start end : List ℤ) (tries : List Attempt) → AreFair orders start tries → EndsFirst parts orders tries end → AreRightPrices orders start end
+attempts_are_right parts orders start end [] fair first = absurd first
+attempts_are_right parts orders start end (a ∷ tries) fair first =
+    ⊎_elim
+    (λ here. subst (AreRightPrices orders start) (sym here.1) (attempt_is_right parts orders start a fair.0 here.0))
+    (λ after. attempts_are_right parts orders start end tries fair.1 after.1)
+    first
+
+prices_are_right : (search : Search) → 1 ≤ search.parts → (single : Bool) (orders : List Order) (start : List ℤ) (budget : ℕ) (end : List ℤ) → are_single orders ≡ single → All IsOrder orders → All (IsWithin (2 ^ 60)) start → budget ≤ most_budget → ArePricesOf search single orders start budget end → AreRightPrices orders start end
+prices_are_right search whole true orders start budget end is each range few own =
+    let once = settles_once search.parts whole orders start end is each range own in
+    record {
+      count = visited_count search.parts orders (range_with_len 0 (length start)) start end (all_visited search.parts orders start end own);
       small = λ k d inside. small_price (slice_index_or end k d) (once.range k d inside);
-      unnamed = λ asset none. once.kept asset (unnamed_is_settled orders start asset none);
+      unnamed = λ asset inside none. once.kept asset (unnamed_is_settled orders start asset none);
       settled = once.settled;
     }
-prices_are_right parts whole false orders start budget end is each range few own =
-    let walk = canonical_walk parts orders start budget in
-    let n = length start in
-    let short = shortest_where n (is_unsettled orders) (step_of parts orders) budget start own.0 in
-    let legal = in_turn-legal n (is_unsettled orders) (step_of parts orders) 0 start walk (omega arith) short.in_turn in
-    let walked = has_walked parts orders n start walk refl legal in
-    let at_start : AreWithin (2 ^ 60) start = λ k d inside. let one = range k d inside in near (slice_index_or start k d) one in
-    rw own.1 (record {
-      count = walked.count;
-      small = λ k d inside. let one = walked.range (2 ^ 60) at_start k d inside in let length_most = short.within in omega (arith, one, length_most, few);
-      unnamed = walked.unnamed;
-      settled = λ asset inside. settled_is orders (end_of parts orders start walk) asset (own.0 asset inside);
-    })
-  where
-    near : (p : ℤ) → IsWithin (2 ^ 60) p → unsigned_abs p ≤ 2 ^ 60
-    near p within = omega (arith, ints, within.0, within.1)
+prices_are_right search whole false orders start budget end is each range few own =
+    attempts_are_right search.parts orders start end (attempts search.joint orders start budget) (attempts_are_fair orders start each range search.joint budget few) own
 
 -- the prices that the canonical rule reaches are one for each asset
-pub canonical_prices_count : (parts : ℕ) → 1 ≤ parts → (orders : List Order) (start : List ℤ) (budget : ℕ) (end : List ℤ) → All IsOrder orders → All (IsWithin (2 ^ 60)) start → budget ≤ most_budget
-    → ArePricesOf parts (are_single orders) orders start budget end → length end ≡ length start
-canonical_prices_count parts whole orders start budget end each range few own = (prices_are_right parts whole (are_single orders) orders start budget end refl each range few own).count
+pub canonical_prices_count : (search : Search) → 1 ≤ search.parts → (orders : List Order) (start : List ℤ) (budget : ℕ) (end : List ℤ) → All IsOrder orders → All (IsWithin (2 ^ 60)) start → budget ≤ most_budget
+    → ArePricesOf search (are_single orders) orders start budget end → length end ≡ length start
+canonical_prices_count search whole orders start budget end each range few own = (prices_are_right search whole (are_single orders) orders start budget end refl each range few own).count
 
 -- a canonical outcome is admissible
-pub canonical_is_admissible : (parts : ℕ) → 1 ≤ parts → (orders : List Order) (start : List ℤ) (budget : ℕ) (o : Outcome) → All IsOrder orders → All (IsWithin (2 ^ 60)) start → budget ≤ most_budget → IsCanonicalOutcome parts orders start budget o → IsAdmissibleOutcome parts orders start budget o
-canonical_is_admissible parts whole orders start budget (Cleared c) each range few own =
-    let prices = prices_are_right parts whole (are_single orders) orders start budget c.prices refl each range few own.0 in
+pub canonical_is_admissible : (search : Search) → 1 ≤ search.parts → (orders : List Order) (start : List ℤ) (budget : ℕ) (o : Outcome) → All IsOrder orders → All (IsWithin (2 ^ 60)) start → budget ≤ most_budget → IsCanonicalOutcome search orders start budget o → IsAdmissibleOutcome search orders start budget o
+canonical_is_admissible search whole orders start budget (Cleared c) each range few own =
+    let prices = prices_are_right search whole (are_single orders) orders start budget c.prices refl each range few own.0 in
     subst (IsAdmissibleClearing orders start) (sym own.1) (right_at orders start c.prices (rates_by_choice (length start) orders c.prices) each (choices_are_roundings orders each (length start) c.prices) prices.count prices.small prices.unnamed prices.settled)
-canonical_is_admissible parts whole orders start budget (Skipped s) each range few own =
+canonical_is_admissible search whole orders start budget (Skipped s) each range few own =
     let n = length start in
-    let walk = canonical_walk parts orders start budget in
-    let trace = trace_where n (is_unsettled orders) (step_of parts orders) budget start own.1 in
-    subst (IsAdmissibleSkip parts orders start budget) (sym own.2) (record {
+    let walk = canonical_walk search.parts orders start budget in
+    let left = last_fails search.parts orders search.joint start budget own.1 in
+    let trace = trace_where n (is_unsettled orders) (step_of search.parts orders) budget start left in
+    subst (IsAdmissibleSkip search.parts orders start budget) (sym own.2) (record {
       wide = wide_is orders each own.0;
-      legal = in_turn-legal n (is_unsettled orders) (step_of parts orders) 0 start walk (omega arith) trace.in_turn;
+      legal = in_turn-legal n (is_unsettled orders) (step_of search.parts orders) 0 start walk (omega arith) trace.in_turn;
       whole = trace.whole;
-      unsettled = own.1;
+      unsettled = left;
       duals = refl;
     })

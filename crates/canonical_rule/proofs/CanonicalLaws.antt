@@ -26,10 +26,10 @@ pub canonical_outcomes_are_admissible : CanonicalOutcomesAreAdmissible
 canonical_outcomes_are_admissible = canonical_is_admissible
 
 pub one_asset_books_clear : OneAssetBooksClear
-one_asset_books_clear parts whole orders start budget (Cleared c) each is range own =
-    let once = settles_once parts whole orders start budget c.prices is each range (subst (λ single. ArePricesOf parts single orders start budget c.prices) is own.0) in
+one_asset_books_clear search whole orders start budget (Cleared c) each is range own =
+    let once = settles_once search.parts whole orders start c.prices is each range (subst (λ single. ArePricesOf search single orders start budget c.prices) is own.0) in
     (once.range, λ asset settled. once.kept asset (settled_is orders start asset settled))
-one_asset_books_clear parts whole orders start budget (Skipped s) each is range own = absurd (false≢true (sym own.0 ∙ is))
+one_asset_books_clear search whole orders start budget (Skipped s) each is range own = absurd (false≢true (sym own.0 ∙ is))
 
 -- the imbalances at rates are those of the trades
 residuals_are : (orders : List Order) (rates : List ℕ) (asset : ℕ) → left_by (λ o asset. weight_in o.row asset) orders rates asset ≡ residual (trades orders rates) asset

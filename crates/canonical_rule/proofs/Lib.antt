@@ -1,3 +1,4 @@
+pub mod Attempting
 pub mod Choice
 pub mod ChoiceByEntries
 pub mod Loops

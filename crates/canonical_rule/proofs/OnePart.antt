@@ -1,5 +1,5 @@
 -- With one part the rule of moves is that by whole units.
-use Rattle.std.proofs.Common.{◌≡◌, ℕ, ◌*◌, Bool, true, false, not, cond, ℤ, pos, negsuc, List, [], ◌∷◌, length, refl, ap, sym, subst, ◌∙◌, ◌↔◌, arith}
+use Rattle.std.proofs.Common.{◌≡◌, ℕ, Bool, true, false, not, cond, ℤ, pos, List, [], ◌∷◌, length, inl, ⊎_elim, refl, ap, sym, subst, ◌∙◌, ◌↔◌, arith}
 use Rattle.std.proofs.Math.Path.{fun_ext}
 use Rattle.flow_orders.specs.Orders.{Order}
 use Rattle.flow_orders.specs.Excess.{is_below_in, is_unsettled}
@@ -9,7 +9,8 @@ use Rattle.flow_orders.specs.Walks.{walk_end, IsLegal, AreSettled}
 use Rattle.canonical_rule.specs.Turns.{visits, walk_in_turn}
 use Rattle.flow_orders.specs.Moves.{least_amount, risen, fallen, rise_of, fall_of, moved, amount_of, walk_reach, single_reach}
 use Rattle.flow_orders.specs.Outcomes.{Outcome, Cleared, Skipped, dual_of, step_of, end_of, IsLegalFrom, IsAdmissibleOutcome, skipping_at, are_single}
-use Rattle.canonical_rule.specs.Canonical.{canonical_walk, moved_once, ArePricesOf, IsCanonicalOutcome}
+use Rattle.canonical_rule.specs.Attempts.{walks_alone, canonical_walk}
+use Rattle.canonical_rule.specs.Canonical.{moved_once, ArePricesOf, IsCanonicalOutcome}
 use Rattle.flow_orders.specs.Duals.{movement_of}
 use Rattle.canonical_rule.specs.Units.{rise_by_units, fall_by_units, moved_by_units, amount_by_units, step_by_units, IsLegalByUnits, end_by_units, movement_by_units, skipping_by_units, IsAdmissibleByUnits, moved_once_by_units, walk_by_units, ArePricesByUnits, IsCanonicalByUnits}
 use Rattle.canonical_rule.specs.Laws.{OnePartIsWholeUnits}
@@ -74,7 +75,7 @@ once_is orders (a ∷ assets) start =
     once_is orders assets (cond (is_unsettled orders start a) (moved 1 orders single_reach start a) start)
     ∙ ap (λ p. moved_once_by_units orders assets (cond (is_unsettled orders start a) p start)) (moved_is orders single_reach start a)
 
-right_is : (orders : List Order) (start : List ℤ) (budget : ℕ) (o : Outcome) → IsAdmissibleOutcome 1 orders start budget o ↔ IsAdmissibleByUnits orders start budget o
+right_is : (orders : List Order) (start : List ℤ) (budget : ℕ) (o : Outcome) → IsAdmissibleOutcome (walks_alone 1) orders start budget o ↔ IsAdmissibleByUnits orders start budget o
 right_is orders start budget (Cleared c) = ((λ right. right), (λ right. right))
 right_is orders start budget (Skipped s) = (
   (λ right. record {
@@ -99,14 +100,16 @@ walk_is orders start budget = ap (λ step. walk_in_turn (length start) (is_unset
 end_of_walk : (orders : List Order) (start : List ℤ) (budget : ℕ) → end_of 1 orders start (canonical_walk 1 orders start budget) ≡ end_by_units orders start (walk_by_units orders start budget)
 end_of_walk orders start budget = ap (end_of 1 orders start) (walk_is orders start budget) ∙ end_is orders start (walk_by_units orders start budget)
 
-prices_are : (single : Bool) (orders : List Order) (start : List ℤ) (budget : ℕ) (end : List ℤ) → ArePricesOf 1 single orders start budget end ↔ ArePricesByUnits single orders start budget end
+prices_are : (single : Bool) (orders : List Order) (start : List ℤ) (budget : ℕ) (end : List ℤ) → ArePricesOf (walks_alone 1) single orders start budget end ↔ ArePricesByUnits single orders start budget end
 prices_are true orders start budget end = ((λ own. own ∙ once_is orders (visits (length start) 0) start), (λ own. own ∙ sym (once_is orders (visits (length start) 0) start)))
 prices_are false orders start budget end =
     let same = end_of_walk orders start budget in
-    let settled = AreSettled (length start) (is_unsettled orders) in
-    ((λ own. (subst settled same own.0, own.1 ∙ same)), (λ own. (subst settled (sym same) own.0, own.1 ∙ sym same)))
+    let settled = AreSettled (length start) (is_unsettled orders) in (
+      (λ own. ⊎_elim (λ here. (subst settled same here.0, here.1 ∙ same)) (λ after. absurd after.1) own),
+      (λ own. inl (subst settled (sym same) own.0, own.1 ∙ sym same)),
+    )
 
-own_is : (orders : List Order) (start : List ℤ) (budget : ℕ) (o : Outcome) → IsCanonicalOutcome 1 orders start budget o ↔ IsCanonicalByUnits orders start budget o
+own_is : (orders : List Order) (start : List ℤ) (budget : ℕ) (o : Outcome) → IsCanonicalOutcome (walks_alone 1) orders start budget o ↔ IsCanonicalByUnits orders start budget o
 own_is orders start budget (Cleared c) =
     let prices = prices_are (are_single orders) orders start budget c.prices in
     ((λ own. (prices.0 own.0, own.1)), (λ own. (prices.1 own.0, own.1)))
@@ -114,8 +117,8 @@ own_is orders start budget (Skipped s) =
     let same = end_of_walk orders start budget in
     let settled = AreSettled (length start) (is_unsettled orders) in
     let skip = ap (skipping_at 1 orders start) (walk_is orders start budget) ∙ skipping_is orders start (walk_by_units orders start budget) in (
-      (λ own. (own.0, (λ ends. own.1 (subst settled (sym same) ends)), own.2 ∙ skip)),
-      (λ own. (own.0, (λ ends. own.1 (subst settled same ends)), own.2 ∙ sym skip)),
+      (λ own. (own.0, (λ ends. own.1.0 (subst settled (sym same) ends)), own.2 ∙ skip)),
+      (λ own. (own.0, ((λ ends. own.1 (subst settled same ends)), tt), own.2 ∙ sym skip)),
     )
 
 pub one_part_is_whole_units : OnePartIsWholeUnits

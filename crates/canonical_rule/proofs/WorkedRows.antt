@@ -14,7 +14,8 @@ use Rattle.flow_orders.specs.Excess.{price_for, steepness, spread, residual_boun
 use Rattle.flow_orders.specs.WholeUnits.{high_excess, is_above, is_below}
 use Rattle.flow_orders.specs.Trades.{Trade, trades, residual, staying}
 use Rattle.flow_orders.specs.Outcomes.{trades_of, Clearing, Cleared, Skipping, Skipped, IsUnnamed, IsAdmissibleClearing, IsAdmissibleOutcome, dual_of, step_of, clearing_at}
-use Rattle.canonical_rule.specs.Canonical.{canonical_walk, floor_rates, rates_by_choice, IsCanonicalOutcome}
+use Rattle.canonical_rule.specs.Attempts.{walks_alone, canonical_walk}
+use Rattle.canonical_rule.specs.Canonical.{floor_rates, rates_by_choice, IsCanonicalOutcome}
 use Rattle.canonical_rule.specs.Turns.{visits, IsInTurnFrom, Settles}
 use Rattle.flow_orders.specs.Walks.{first_that, walk_end}
 use Rattle.flow_orders.specs.Duals.{movement_of}
@@ -92,11 +93,11 @@ steep_published = refl
 
 -- ---- no order
 
-no_orders_clear : IsCanonicalOutcome 1 [] (pos 0 ∷ []) 1 (Cleared (record { prices = pos 0 ∷ []; fills = []; residuals = pos 0 ∷ []; gap = pos 0 }))
+no_orders_clear : IsCanonicalOutcome (walks_alone 1) [] (pos 0 ∷ []) 1 (Cleared (record { prices = pos 0 ∷ []; fills = []; residuals = pos 0 ∷ []; gap = pos 0 }))
 unfolding is_unsettled steepness
 no_orders_clear = (refl, refl)
 
-no_assets_clear : IsCanonicalOutcome 1 [] [] 1 (Cleared (record { prices = []; fills = []; residuals = []; gap = pos 0 }))
+no_assets_clear : IsCanonicalOutcome (walks_alone 1) [] [] 1 (Cleared (record { prices = []; fills = []; residuals = []; gap = pos 0 }))
 no_assets_clear = (refl, refl)
 
 -- ---- a buyer who has one unit left in the second batch
@@ -193,12 +194,12 @@ abbrev pub chosen_published : Clearing
 chosen_published =
     record { prices = pos 429410830255 ∷ []; fills = record { order = 1; rate = 500 } ∷ record { order = 2; rate = 500 } ∷ []; residuals = pos 0 ∷ []; gap = pos 85899346 }
 
-pub own : IsCanonicalOutcome 1 pair (pos 0 ∷ []) 10 (Cleared chosen_published)
+pub own : IsCanonicalOutcome (walks_alone 1) pair (pos 0 ∷ []) 10 (Cleared chosen_published)
 unfolding is_unsettled steepness weight_in portfolio_price floor_rate ceil_rate floor_in ceil_in scaled_demand loss line span distance
 own = (sym pair_move.0, refl)
 
 chosen_are_right : IsAdmissibleClearing pair (pos 0 ∷ []) chosen_published
-chosen_are_right = canonical_outcomes_are_admissible 1 (omega arith) pair (pos 0 ∷ []) 10 (Cleared chosen_published) pair_is_lawful (All-from_recursion (IsWithin (2 ^ 60)) (pos 0 ∷ []) ((omega (arith, ints), omega (arith, ints)), tt)) (omega arith) own
+chosen_are_right = canonical_outcomes_are_admissible (walks_alone 1) (omega arith) pair (pos 0 ∷ []) 10 (Cleared chosen_published) pair_is_lawful (All-from_recursion (IsWithin (2 ^ 60)) (pos 0 ∷ []) ((omega (arith, ints), omega (arith, ints)), tt)) (omega arith) own
 
 -- a price that the program doesn't publish: all demands are whole there, and the gap is 0
 abbrev even_published : Clearing
@@ -411,7 +412,7 @@ walk_of_3 : walk_end (step_of 1 wide_book) at_0 (0 ∷ 1 ∷ 0 ∷ []) ≡ at_3
 walk_of_3 = ap (λ p. step_of 1 wide_book (step_of 1 wide_book p 1) 0) move_1.0 ∙ ap (λ p. step_of 1 wide_book p 0) move_2 ∙ move_3
 
 -- with a budget of 3 the batch clears at the end of the third move
-wide_clears : IsCanonicalOutcome 1 wide_book at_0 3 (Cleared (record {
+wide_clears : IsCanonicalOutcome (walks_alone 1) wide_book at_0 3 (Cleared (record {
   prices = at_3;
   fills = record { order = 1; rate = 79 } ∷ record { order = 2; rate = 81 } ∷ record { order = 3; rate = 78 } ∷ [];
   residuals = neg_ℤ (pos 2) ∷ pos 1 ∷ [];
@@ -443,7 +444,7 @@ duals_of_1 : skipped_after_1 ≡ record { trace = 0 ∷ []; start_dual = pos (du
 unfolding portfolio_price dual_floor scaled_dual scaled_demand line span distance
 duals_of_1 = refl
 
-wide_is_skipped : IsCanonicalOutcome 1 wide_book at_0 1 (Skipped skipped_after_1)
+wide_is_skipped : IsCanonicalOutcome (walks_alone 1) wide_book at_0 1 (Skipped skipped_after_1)
 wide_is_skipped =
     skip_of_trace 1 wide_book at_0 1 skipped_after_1 refl
     (record {
@@ -457,8 +458,8 @@ wide_is_skipped =
 wide_start : All (IsWithin (2 ^ 60)) at_0
 wide_start = All-from_recursion (IsWithin (2 ^ 60)) at_0 ((omega (arith, ints), omega (arith, ints)), ((omega (arith, ints), omega (arith, ints)), tt))
 
-skipped_is_admissible : IsAdmissibleOutcome 1 wide_book at_0 1 (Skipped skipped_after_1)
-skipped_is_admissible = canonical_outcomes_are_admissible 1 (omega arith) wide_book at_0 1 (Skipped skipped_after_1) wide_is_lawful wide_start (omega arith) wide_is_skipped
+skipped_is_admissible : IsAdmissibleOutcome (walks_alone 1) wide_book at_0 1 (Skipped skipped_after_1)
+skipped_is_admissible = canonical_outcomes_are_admissible (walks_alone 1) (omega arith) wide_book at_0 1 (Skipped skipped_after_1) wide_is_lawful wide_start (omega arith) wide_is_skipped
 
 -- the movement of the walk of one move
 movement_is : movement_of 1 wide_book at_0 (0 ∷ []) ≡ 394965192541
@@ -480,7 +481,7 @@ duals_of_other : skipped_after_other ≡ record { trace = 1 ∷ []; start_dual =
 unfolding portfolio_price dual_floor scaled_dual scaled_demand line span distance
 duals_of_other = refl
 
-other_is_right : IsAdmissibleOutcome 1 wide_book at_0 1 (Skipped skipped_after_other)
+other_is_right : IsAdmissibleOutcome (walks_alone 1) wide_book at_0 1 (Skipped skipped_after_other)
 other_is_right = record {
   wide = (basket, (0, omega arith, refl), omega arith);
   legal = (omega arith, other_facts.0, tt);
@@ -489,9 +490,9 @@ other_is_right = record {
   duals = duals_of_other ∙ ap (λ p. record { trace = 1 ∷ []; start_dual = pos (dual_of wide_book at_0); end_dual = pos (dual_of wide_book p) }) (sym other_move);
 }
 
-other_is_not_own : ¬ IsCanonicalOutcome 1 wide_book at_0 1 (Skipped skipped_after_other)
+other_is_not_own : ¬ IsCanonicalOutcome (walks_alone 1) wide_book at_0 1 (Skipped skipped_after_other)
 other_is_not_own own =
-    let trace = (canonical_walks_are_shortest.leaves 1 wide_book at_0 1 own.1).in_turn in
+    let trace = (canonical_walks_are_shortest.leaves 1 wide_book at_0 1 own.1.0).in_turn in
     let walk : 1 ∷ [] ≡ canonical_walk 1 wide_book at_0 1 = ap (λ (s : Skipping). s.trace) own.2 in
     omega (arith, same_asset 1 0 (sym (subst (InTurn 0 at_0) (sym walk) trace).0 ∙ first_turn))
 
@@ -582,7 +583,7 @@ second_falls : moved 1 second_book single_reach (pos 429410830255 ∷ []) 0 ≡ 
 unfolding steepness weight_in portfolio_price floor_rate ceil_rate floor_in ceil_in scaled_demand line span distance
 second_falls = (falls_to 1 second_book single_reach (pos 429410830255 ∷ []) 0 42606075577 (consistent second_book second_is_lawful) (omega arith) (omega arith) refl refl refl refl).0
 
-second_own : IsCanonicalOutcome 1 second_book (pos 429410830255 ∷ []) 10 (Cleared (record {
+second_own : IsCanonicalOutcome (walks_alone 1) second_book (pos 429410830255 ∷ []) 10 (Cleared (record {
   prices = pos 386804754677 ∷ [];
   fills = record { order = 1; rate = 1 } ∷ record { order = 2; rate = 2 } ∷ [];
   residuals = neg_ℤ (pos 1) ∷ [];

@@ -8,31 +8,40 @@ use Rattle.flow_orders.specs.Moves.{rise_of, fall_of, moved, amount_of}
 use Rattle.canonical_rule.specs.Turns.{IsInTurn, IsCanonicalWalk, IsCanonicalTrace}
 use Rattle.canonical_rule.specs.Choice.{absolute_sum}
 use Rattle.flow_orders.specs.Trades.{trades, residual}
-use Rattle.flow_orders.specs.Outcomes.{Outcome, step_of, IsLegalFrom, end_of, EndsSettled, skipping_at, IsAdmissibleOutcome, most_budget, are_single, ClearsNear}
+use Rattle.flow_orders.specs.Outcomes.{Clearing, Skipping, Outcome, Cleared, Skipped, step_of, IsLegalFrom, end_of, EndsSettled, skipping_at, IsAdmissibleOutcome, most_budget, are_single, ClearsNear}
 use Rattle.flow_orders.specs.Duals.{movement_of}
-use Rattle.canonical_rule.specs.Canonical.{canonical_walk, floor_rates, rates_by_choice, IsCanonicalOutcome}
+use Rattle.flow_orders.specs.declared.search.Search.{Search}
+use Rattle.canonical_rule.specs.Attempts.{walks_alone, with_joint_prices, canonical_walk}
+use Rattle.canonical_rule.specs.Canonical.{floor_rates, rates_by_choice, IsCanonicalOutcome}
 use Rattle.canonical_rule.specs.Units.{rise_by_units, fall_by_units, moved_by_units, amount_by_units, end_by_units, movement_by_units, IsLegalByUnits, skipping_by_units, IsAdmissibleByUnits, IsCanonicalByUnits}
 
 -- a batch has at most one canonical outcome
 abbrev pub OneCanonicalOutcome : Type 0
-OneCanonicalOutcome = (parts : ℕ) (orders : List Order) (start : List ℤ) (budget : ℕ) (o p : Outcome)
-    → IsCanonicalOutcome parts orders start budget o → IsCanonicalOutcome parts orders start budget p → o ≡ p
+OneCanonicalOutcome = (search : Search) (orders : List Order) (start : List ℤ) (budget : ℕ) (o p : Outcome)
+    → IsCanonicalOutcome search orders start budget o → IsCanonicalOutcome search orders start budget p → o ≡ p
 
 -- every batch has a canonical outcome
 abbrev pub EveryBatchHasACanonicalOutcome : Type 0
-EveryBatchHasACanonicalOutcome = (parts : ℕ) (orders : List Order) (start : List ℤ) (budget : ℕ) → (o : Outcome) × IsCanonicalOutcome parts orders start budget o
+EveryBatchHasACanonicalOutcome = (search : Search) (orders : List Order) (start : List ℤ) (budget : ℕ) → (o : Outcome) × IsCanonicalOutcome search orders start budget o
 
 -- a canonical outcome is admissible
 abbrev pub CanonicalOutcomesAreAdmissible : Type 0
-CanonicalOutcomesAreAdmissible = (parts : ℕ) → 1 ≤ parts → (orders : List Order) (start : List ℤ) (budget : ℕ) (o : Outcome)
+CanonicalOutcomesAreAdmissible = (search : Search) → 1 ≤ search.parts → (orders : List Order) (start : List ℤ) (budget : ℕ) (o : Outcome)
     → All IsOrder orders → All (IsWithin (2 ^ 60)) start → budget ≤ most_budget
-    → IsCanonicalOutcome parts orders start budget o → IsAdmissibleOutcome parts orders start budget o
+    → IsCanonicalOutcome search orders start budget o → IsAdmissibleOutcome search orders start budget o
 
 -- if every order names one asset, a canonical outcome is a clearing at prices within 2^60 grains of 0, and an asset that was settled keeps
 -- its price
 abbrev pub OneAssetBooksClear : Type 0
-OneAssetBooksClear = (parts : ℕ) → 1 ≤ parts → (orders : List Order) (start : List ℤ) (budget : ℕ) (o : Outcome)
-    → All IsOrder orders → are_single orders ≡ true → All (IsWithin (2 ^ 60)) start → IsCanonicalOutcome parts orders start budget o → ClearsNear orders start o
+OneAssetBooksClear = (search : Search) → 1 ≤ search.parts → (orders : List Order) (start : List ℤ) (budget : ℕ) (o : Outcome)
+    → All IsOrder orders → are_single orders ≡ true → All (IsWithin (2 ^ 60)) start → IsCanonicalOutcome search orders start budget o → ClearsNear orders start o
+
+-- a batch that clears without joint prices clears with them too; one that is skipped with them is skipped without them, in the same way
+pub record JointPricesSkipNoMore : Type 0 where
+  pub clears : (parts : ℕ) (orders : List Order) (start : List ℤ) (budget : ℕ) (c : Clearing)
+      → IsCanonicalOutcome (walks_alone parts) orders start budget (Cleared c) → (d : Clearing) × IsCanonicalOutcome (with_joint_prices parts) orders start budget (Cleared d)
+  pub skips : (parts : ℕ) (orders : List Order) (start : List ℤ) (budget : ℕ) (s : Skipping)
+      → IsCanonicalOutcome (with_joint_prices parts) orders start budget (Skipped s) → IsCanonicalOutcome (walks_alone parts) orders start budget (Skipped s)
 
 -- chosen rates have no larger sum of absolute imbalances than all demands rounded down
 abbrev pub ChosenRatesAreNoWorse : Type 0
@@ -57,7 +66,7 @@ pub record CanonicalWalksAreShortest : Type 0 where
   pub trace : (parts : ℕ) (orders : List Order) (start : List ℤ) (budget : ℕ) (walk : List ℕ) → IsCanonicalTrace (length start) (is_unsettled orders) (step_of parts orders) start budget walk
       → (walk ≡ canonical_walk parts orders start budget) × (¬ EndsSettled parts orders start walk)
 
--- with one part, excess, moves, walks, skips and outcomes are those by whole units
+-- with one part, excess, moves, walks, skips and outcomes without joint prices are those by whole units
 pub record OnePartIsWholeUnits : Type 0 where
   pub low : (orders : List Order) (prices : List ℤ) (asset : ℕ) → low_excess_in 1 orders prices asset ≡ low_excess orders prices asset
   pub high : (orders : List Order) (prices : List ℤ) (asset : ℕ) → high_excess_in 1 orders prices asset ≡ high_excess orders prices asset
@@ -72,5 +81,5 @@ pub record OnePartIsWholeUnits : Type 0 where
   pub movement : (orders : List Order) (start : List ℤ) (walk : List ℕ) → movement_of 1 orders start walk ≡ movement_by_units orders start walk
   pub legal : (orders : List Order) (start : List ℤ) (walk : List ℕ) → IsLegalFrom 1 orders start walk ↔ IsLegalByUnits orders start walk
   pub skip : (orders : List Order) (start : List ℤ) (walk : List ℕ) → skipping_at 1 orders start walk ≡ skipping_by_units orders start walk
-  pub right : (orders : List Order) (start : List ℤ) (budget : ℕ) (o : Outcome) → IsAdmissibleOutcome 1 orders start budget o ↔ IsAdmissibleByUnits orders start budget o
-  pub own : (orders : List Order) (start : List ℤ) (budget : ℕ) (o : Outcome) → IsCanonicalOutcome 1 orders start budget o ↔ IsCanonicalByUnits orders start budget o
+  pub right : (orders : List Order) (start : List ℤ) (budget : ℕ) (o : Outcome) → IsAdmissibleOutcome (walks_alone 1) orders start budget o ↔ IsAdmissibleByUnits orders start budget o
+  pub own : (orders : List Order) (start : List ℤ) (budget : ℕ) (o : Outcome) → IsCanonicalOutcome (walks_alone 1) orders start budget o ↔ IsCanonicalByUnits orders start budget o

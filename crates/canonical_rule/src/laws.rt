@@ -1,5 +1,5 @@
 //! What holds of the canonical rule. Each law is the contract of a function that does nothing.
-ghost use Rattle.canonical_rule.specs.Laws.{OneCanonicalOutcome, EveryBatchHasACanonicalOutcome, CanonicalOutcomesAreAdmissible, OneAssetBooksClear, ChosenRatesAreNoWorse, OneWalkOfEachLength, CanonicalWalksAreShortest, OnePartIsWholeUnits};
+ghost use Rattle.canonical_rule.specs.Laws.{OneCanonicalOutcome, EveryBatchHasACanonicalOutcome, CanonicalOutcomesAreAdmissible, OneAssetBooksClear, JointPricesSkipNoMore, ChosenRatesAreNoWorse, OneWalkOfEachLength, CanonicalWalksAreShortest, OnePartIsWholeUnits};
 
 /// A batch has at most one canonical outcome.
 pub fn one_canonical_outcome()
@@ -22,6 +22,12 @@ pub fn one_asset_books_clear()
     ensures { OneAssetBooksClear }
 {}
 
+/// A batch that clears without joint prices clears with them too, and one that is skipped with them is skipped without them,
+/// in the same way.
+pub fn joint_prices_skip_no_more()
+    ensures { JointPricesSkipNoMore }
+{}
+
 /// Chosen rates have no larger sum of absolute imbalances than all demands rounded down.
 pub fn chosen_rates_are_no_worse()
     ensures { ChosenRatesAreNoWorse }
@@ -38,7 +44,8 @@ pub fn canonical_walks_are_shortest()
     ensures { CanonicalWalksAreShortest }
 {}
 
-/// With one part, excess, moves, walks, skips and outcomes are those by whole units, as versions 1 and 2 have them.
+/// With one part, excess, moves, walks, skips and outcomes without joint prices are those by whole units, as versions 1 and 2
+/// have them.
 pub fn one_part_is_whole_units()
     ensures { OnePartIsWholeUnits }
 {}

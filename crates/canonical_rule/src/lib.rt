@@ -2,11 +2,13 @@
 //!
 //! An auditor accepts any admissible outcome of a batch, which `flow_orders` defines; the program ends each batch by one
 //! rule, which is defined here. If each order names one asset, each asset that is unsettled is moved once; else the assets
-//! are visited in turn until all are settled or the budget is used (`Turns`). Rates are demands rounded down, or up if that
-//! makes the sum of absolute imbalances smaller (`Choice`). `Canonical` defines which outcome a batch has by that rule, and
-//! `Units` defines it by whole units, without parts.
+//! are visited in turn until all are settled or the budget is used (`Turns`), from the start prices, and perhaps from joint
+//! prices (`Attempts`). Rates are demands rounded down, or up if that makes the sum of absolute imbalances smaller
+//! (`Choice`). `Canonical` defines which outcome a batch has by that rule, and `Units` defines it by whole units, without
+//! parts.
 //!
-//! [`laws`] has what holds of it: each batch has exactly one canonical outcome, and it is admissible. There is no code here.
+//! [`laws`] has what holds of it: each batch has exactly one canonical outcome, and it is admissible; joint prices skip no
+//! batch that clears without them. There is no code here.
 #![tactic(auto)]
 
 pub mod laws;

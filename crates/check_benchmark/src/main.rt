@@ -17,7 +17,7 @@ use batch_certificate::{Verdict, check_cleared};
 use batch_engine::clear;
 use batch_outcome::Outcome;
 use book::ORDERS;
-use flow_orders::Order;
+use flow_orders::{Order, Search};
 use published::Published;
 use rates::{Rounding, traded};
 use std::alloc::{AllocError, Global};
@@ -25,6 +25,12 @@ use std::process::ExitCode;
 use std::{env, io};
 
 const ASSETS: usize = 64;
+
+// Moves end by whole units, and no joint prices are tried.
+const SEARCH: Search = Search {
+    parts: 1,
+    joint: false,
+};
 
 // What each order asks for, rounded down.
 const RATE: u32 = 499;
@@ -84,7 +90,7 @@ fn clearings(alloc: Global, orders: &[Order], passes: u32) -> Option<u32> {
     }
     let mut clearings = 0u32;
     for _ in 0..passes {
-        if let Outcome::Cleared(_) = clear(alloc, 1, orders, &start, 1).ok()? {
+        if let Outcome::Cleared(_) = clear(alloc, SEARCH, orders, &start, 1).ok()? {
             clearings = clearings.wrapping_add(1);
         }
     }

@@ -5,7 +5,7 @@ use Rattle.std.proofs.lemmas.Int.{ints}
 use Rattle.std.proofs.lemmas.List.{length-map, get_or-map, get_or_default}
 use Rattle.weight_rows.specs.Rows.{IsWeightVector, IsPrice}
 use Rattle.wire_records.specs.declared.version.Version.{Version}
-use Rattle.wire_records.specs.declared.version.Version.TheVariants.{One, Two, Three}
+use Rattle.wire_records.specs.declared.version.Version.TheVariants.{One}
 use Rattle.wire_records.proofs.Numbered.{same_number}
 use Rattle.ticker_table.specs.Tickers.{AreTickers}
 use Rattle.flow_accounts.specs.Balances.{Account, Credit, Balances, IsAccount, asset_count, account_of, credit_of, no_credit}
@@ -27,13 +27,11 @@ consistent_at p v is s =
 
 few_credit : (w : Version) (n : ℕ) → n ≤ most_credit → (w ≡ One → n ≡ 0) → n ≤ most_credit_in w
 few_credit One n most none = omega (arith, none refl)
-few_credit Two n most none = most
-few_credit Three n most none = most
+few_credit version n most none = most
 
 pub some_credit : (w : Version) → most_credit_in w ≤ most_credit
 some_credit One = omega arith
-some_credit Two = omega arith
-some_credit Three = omega arith
+some_credit version = omega arith
 
 module _ (v : Version) (p : Parts) (consistent : IsConsistent (market_of v p)) where
   credit_inside : (account : ℕ) → IsAccount p.balances account → account - 1 < length p.balances.credits

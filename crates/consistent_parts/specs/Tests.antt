@@ -3,7 +3,7 @@ use Rattle.std.specs.Prelude.{◌≡◌, ◌≢◌, ◌⊎◌, ℕ, ◌*◌, ◌
 use Rattle.weight_rows.specs.declared.entries.Entry.{Entry}
 use Rattle.weight_rows.specs.Rows.{IsWeightVector, IsPrice, price_of}
 use Rattle.wire_records.specs.declared.version.Version.{Version}
-use Rattle.wire_records.specs.declared.version.Version.TheVariants.{One, Two, Three}
+use Rattle.wire_records.specs.declared.version.Version.TheVariants.{One, Two, Three, Four}
 use Rattle.demand_curve.specs.Demand.{most_rate}
 use Rattle.flow_accounts.specs.Balances.{Balances, IsAccount, IsAsset, account_count, asset_count, grains, money_of, units_of, units_in, money_with_credit, units_with_credit, money_credit_of, unit_credit_of, total_units_of}
 use Rattle.flow_accounts.specs.Lawful.{most_accounts, most_assets, most_credit, IsMoneyTotal, IsUnitTotal}
@@ -21,6 +21,7 @@ abbrev pub most_credit_in : Version → ℕ
 most_credit_in One = 0
 most_credit_in Two = most_credit
 most_credit_in Three = most_credit
+most_credit_in Four = most_credit
 
 -- money in grains and its credit in ticks: the credit is at most `most`, no more is owed than it, and the money fits its width
 pub record IsConsistentMoney (most : ℕ) (money : ℤ) (ticks : ℕ) : Type 0 where

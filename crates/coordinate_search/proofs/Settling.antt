@@ -74,9 +74,9 @@ module _ (parts : ℕ) (whole : 1 ≤ parts) (orders : List Order) (single : are
 
   pub AreSettled-all : All (IsWithin (2 ^ 60)) start → (prices : List ℤ) (asset : ℕ) → length start ≤ asset → IsSettling parts orders start prices asset → AreSettled (length prices) (is_unsettled orders) prices
   AreSettled-all range prices asset past before a inside =
-      is_settled orders prices a ((settles_once parts whole orders start 0 prices single each range (all_settled prices asset past before)).settled a (omega (arith, inside, before.count)))
+      is_settled orders prices a ((settles_once parts whole orders start prices single each range (all_settled prices asset past before)).settled a (omega (arith, inside, before.count)))
 
   pub kept : All (IsWithin (2 ^ 60)) start → (prices : List ℤ) (asset : ℕ) → length start ≤ asset → IsSettling parts orders start prices asset
       → (a : ℕ) → is_unsettled orders start a ≡ false → price_of prices a ≡ price_of start a
   kept range prices asset past before a settled =
-      (settles_once parts whole orders start 0 prices single each range (all_settled prices asset past before)).kept a (settled_is orders start a settled)
+      (settles_once parts whole orders start prices single each range (all_settled prices asset past before)).kept a (settled_is orders start a settled)

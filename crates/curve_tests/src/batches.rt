@@ -2,16 +2,42 @@
 use crate::orders::{BUYER, FILLED, Placed, SELLER, STEEP, TOP, are_priced, are_starts, orders_of};
 use batch_engine::clear;
 use batch_outcome::Outcome;
-use flow_orders::Order;
+use flow_orders::{Order, Search};
 use std::alloc::{AllocError, Global};
 use std::test::Fail;
 
 // Prices, rates, imbalances and gap.
 type Cleared<'a> = (&'a [i64], &'a [u32], &'a [i64], i128);
 
+// Moves end by whole units, and joint prices aren't tried.
+const WALKS: Search = Search {
+    parts: 1,
+    joint: false,
+};
+
+// Moves end by 256 parts of a unit.
+const WALKS_BY_PARTS: Search = Search {
+    parts: 256,
+    joint: false,
+};
+
+// The same, and joint prices are tried.
+const JOINT: Search = Search {
+    parts: 256,
+    joint: true,
+};
+
 // Returns the outcome, or `None` if a batch can't be held of these orders and prices, or if memory ran out.
-fn outcome(alloc: Global, orders: &[Order], start: &[i64], budget: u32) -> Option<Outcome> {
+fn outcome(
+    alloc: Global,
+    search: Search,
+    orders: &[Order],
+    start: &[i64],
+    budget: u32,
+) -> Option<Outcome> {
     if orders.len() > 16_384
+        || search.parts == 0
+        || search.parts > 256
         || start.len() > 64
         || !are_starts(start)
         || !are_priced(orders, start)
@@ -20,12 +46,13 @@ fn outcome(alloc: Global, orders: &[Order], start: &[i64], budget: u32) -> Optio
     {
         return None;
     }
-    clear(alloc, 1, orders, start, budget).ok()
+    clear(alloc, search, orders, start, budget).ok()
 }
 
 // Returns whether all these orders can be placed, and clear so from these start prices.
 fn get(
     alloc: Global,
+    search: Search,
     placed: &[Placed<'_>],
     start: &[i64],
     budget: u32,
@@ -33,7 +60,8 @@ fn get(
 ) -> Result<bool, AllocError> {
     let orders = orders_of(alloc, placed)?;
     let (prices, rates, residuals, gap) = expected;
-    let Some(Outcome::Cleared(cleared)) = outcome(alloc, orders.as_slice(), start, budget) else {
+    let Some(Outcome::Cleared(cleared)) = outcome(alloc, search, orders.as_slice(), start, budget)
+    else {
         return Ok(false);
     };
     Ok(
@@ -94,7 +122,7 @@ fn books_of_one_asset_clear(rt: HostRuntime) -> Result<(), Fail> {
         (&[], &[], (&[], &[], &[], 0)),
     ];
     for (placed, start, expected) in cases {
-        assert!(rt; get(rt.alloc(), placed, start, 1, expected)?);
+        assert!(rt; get(rt.alloc(), WALKS, placed, start, 1, expected)?);
     }
     Ok(())
 }
@@ -137,7 +165,7 @@ fn books_of_two_assets_clear(rt: HostRuntime) -> Result<(), Fail> {
         ),
     ];
     for (start, expected) in cases {
-        assert!(rt; get(rt.alloc(), &two, start, 1, expected)?);
+        assert!(rt; get(rt.alloc(), WALKS, &two, start, 1, expected)?);
     }
     Ok(())
 }
@@ -159,7 +187,8 @@ fn skips(
     duals: (i128, i128),
 ) -> Result<bool, AllocError> {
     let orders = orders_of(alloc, placed)?;
-    let Some(Outcome::Skipped(skipped)) = outcome(alloc, orders.as_slice(), &[0, 0], budget) else {
+    let Some(Outcome::Skipped(skipped)) = outcome(alloc, WALKS, orders.as_slice(), &[0, 0], budget)
+    else {
         return Ok(false);
     };
     Ok(
@@ -179,7 +208,7 @@ fn baskets_are_searched(rt: HostRuntime) -> Result<(), Fail> {
         394_467_191_082,
     );
     for budget in [3, 65_536] {
-        assert!(rt; get(rt.alloc(), &BASKETS, &[0, 0], budget, cleared)?);
+        assert!(rt; get(rt.alloc(), WALKS, &BASKETS, &[0, 0], budget, cleared)?);
     }
     let traces: [(u32, &[u8], (i128, i128)); 2] = [
         (1, &[0], (128_855_461_330_944, 89_764_988_285_090)),
@@ -188,5 +217,70 @@ fn baskets_are_searched(rt: HostRuntime) -> Result<(), Fail> {
     for (budget, trace, duals) in traces {
         assert!(rt; skips(rt.alloc(), &BASKETS, budget, trace, duals)?);
     }
+    Ok(())
+}
+
+// Ten orders of the highest rate, whose prices joint prices find and 100 moves don't.
+const FAR: [Placed<'static>; 10] = [
+    (
+        (-46_343, -46_342),
+        (1 << 24, 1 << 24),
+        0,
+        &[(2, -1), (5, 10), (7, -1300)],
+    ),
+    ((-696, -695), (1 << 24, 1 << 24), 0, &[(1, -4), (3, -12)]),
+    (
+        (-43_776, -43_775),
+        (1 << 24, 1 << 24),
+        0,
+        &[(0, 1), (5, -894)],
+    ),
+    ((5742, 5743), (1 << 24, 1 << 24), 0, &[(2, 174)]),
+    (
+        (35_895, 35_896),
+        (1 << 24, 1 << 24),
+        0,
+        &[(0, 1231), (6, 351), (7, -214)],
+    ),
+    ((147, 148), (1 << 24, 1 << 24), 0, &[(5, 3)]),
+    ((21_390, 21_391), (1 << 24, 1 << 24), 0, &[(3, 465)]),
+    (
+        (59_846, 59_847),
+        (1 << 24, 1 << 24),
+        0,
+        &[(1, 460), (3, 941)],
+    ),
+    ((392, 393), (1 << 24, 1 << 24), 0, &[(5, 8)]),
+    ((102, 103), (1 << 24, 1 << 24), 0, &[(0, -29), (1, 27)]),
+];
+
+// Returns whether these orders are skipped from prices of 0, if joint prices aren't tried.
+fn walks_skip(alloc: Global, placed: &[Placed<'_>], budget: u32) -> Result<bool, AllocError> {
+    let orders = orders_of(alloc, placed)?;
+    let found = outcome(alloc, WALKS_BY_PARTS, orders.as_slice(), &[0; 8], budget);
+    Ok(matches!(found, Some(Outcome::Skipped(_))))
+}
+
+#[test]
+fn joint_prices_clear_more(rt: HostRuntime) -> Result<(), Fail> {
+    let cleared: Cleared<'_> = (
+        &[
+            128_692_150_688,
+            154_609_340_006,
+            TOP,
+            197_577_655_813,
+            0,
+            210_448_476_934,
+            TOP,
+            -TOP,
+        ],
+        &[
+            0, 16_777_216, 206_430, 0, 0, 16_777_216, 138_576, 145_472, 16_777_216, 7115,
+        ],
+        &[95, 361, 0, 400, 0, 956, 0, 0],
+        -348_259_532_331_397,
+    );
+    assert!(rt; get(rt.alloc(), JOINT, &FAR, &[0; 8], 100, cleared)?);
+    assert!(rt; walks_skip(rt.alloc(), &FAR, 100)?);
     Ok(())
 }

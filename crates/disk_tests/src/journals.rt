@@ -193,7 +193,7 @@ fn broken_disks(rt: HostRuntime) -> Result<(), Fail> {
         (b"FLOWDSK2\x01\0", DiskFault::Damaged(8)),
         (b"FLOWDSK2\x01\0\0\0\0\0", DiskFault::Damaged(8)),
         (b"\0\0\0\0\0\0\0\0\0\0", DiskFault::NotDisk),
-        (b"FLOWDSK4\0\0", DiskFault::NotDisk),
+        (b"FLOWDSK5\0\0", DiskFault::NotDisk),
     ] {
         refuses(&rt, alloc, bytes, want)?;
     }

@@ -8,7 +8,7 @@ use Rattle.wire_records.specs.Versions.{IsReadAs}
 use Rattle.wire_records.specs.declared.command.BodyFault.{BodyFault}
 use Rattle.wire_records.specs.declared.command.BodyFault.TheVariants.{UnknownTag, BadBody}
 use Rattle.wire_records.specs.declared.version.Version.{Version}
-use Rattle.wire_records.specs.declared.version.Version.TheVariants.{One, Two, Three}
+use Rattle.wire_records.specs.declared.version.Version.TheVariants.{One, Two, Three, Four}
 use Rattle.wire_records.specs.Formats.{StatesOver, commands}
 use Rattle.wire_records.proofs.Fronts.{states_none-from_few, no_front-from_overlong}
 use Rattle.wire_records.proofs.Readings.{reading_unique}
@@ -129,15 +129,16 @@ read_in : (version : Version) (asked : Record) → IsNotDenied ((read : Result C
 read_in version asked none = none (Err UnknownTag, λ tag. none (Err BadBody, (tag, λ command spells. none (Ok command, (tag, spells)))))
 
 -- what holds of all versions holds of each
-of_all : (P : Version → Type 0) → P One → P Two → P Three → (version : Version) → P version
-of_all P one two three One = one
-of_all P one two three Two = two
-of_all P one two three Three = three
+of_all : (P : Version → Type 0) → P One → P Two → P Three → P Four → (version : Version) → P version
+of_all P one two three four One = one
+of_all P one two three four Two = two
+of_all P one two three four Three = three
+of_all P one two three four Four = four
 
 pub can_be_read : (asked : Record) → IsNotDenied (CanBeRead asked)
 can_be_read asked none =
-    read_in One asked (λ one. read_in Two asked (λ two. read_in Three asked (λ three.
-    none (of_all (λ version. (read : Result Command BodyFault) × IsReadAs version asked read) one two three))))
+    read_in One asked (λ one. read_in Two asked (λ two. read_in Three asked (λ three. read_in Four asked (λ four.
+    none (of_all (λ version. (read : Result Command BodyFault) × IsReadAs version asked read) one two three four)))))
 
 -- each record that is short enough has a step, from any consistent market
 pub has_step : (s : Market) (asked : Record) → IsConsistent s → IsRecord 1024 asked → CanBeRead asked → (t : Market) × (text : List ℕ) × AnswersOne s asked t text

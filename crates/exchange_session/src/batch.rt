@@ -7,7 +7,7 @@ ghost use Rattle.flow_orders.specs.Orders.{most_orders};
 ghost use Rattle.canonical_rule.specs.Canonical.{IsCanonicalOutcome};
 ghost use Rattle.batch_outcome.specs.Published.{outcome_of};
 ghost use Rattle.journal_records.specs.Pairs.{pair_spelling};
-ghost use Rattle.market_rules.specs.Market.{most_batches, parts_of, start_prices};
+ghost use Rattle.market_rules.specs.Market.{most_batches, search_of, start_prices};
 ghost use Rattle.market_rules.specs.Step.{FirstRefusal, after_batch};
 ghost use Rattle.market_rules.specs.Settling.{MaySettle};
 ghost use Rattle.exchange_session.specs.Serving.{AnswersOne};
@@ -24,15 +24,15 @@ use wire_records::{Memory, RecordView};
 // Returns the canonical outcome of a batch that is allowed.
 fn outcome_for(alloc: Global, market: &mut Market, budget: u32) -> Result<Outcome, Memory>
     requires first { FirstRefusal market.old (RunBatch budget) None }
-    ensures own { IfOk result (λ outcome. IsCanonicalOutcome (parts_of market.old.version) market.old.orders
+    ensures own { IfOk result (λ outcome. IsCanonicalOutcome (search_of market.old.version) market.old.orders
         (start_prices market.old) budget (outcome_of market.old.orders outcome)) }
     ensures settles { IfOk result (MaySettle market.old) }
     ensures writable { IfOk result (IsWritable market.old.orders) }
     ensures stays { market.new ≡ market.old }
 {
-    let parts = market.parts();
+    let search = market.search();
     let start = market.start_prices(alloc)?;
-    clear(alloc, parts, market.orders(), start.as_slice(), budget)
+    clear(alloc, search, market.orders(), start.as_slice(), budget)
 }
 
 // Appends the entry of a batch.

@@ -4,7 +4,7 @@ use Rattle.wire_records.specs.Records.{head, StatesLength, most_body}
 use Rattle.wire_records.specs.Grammars.{BeginsWithNone}
 use Rattle.wire_records.specs.Formats.{command_magic_of}
 use Rattle.wire_records.specs.declared.version.Version.{Version}
-use Rattle.wire_records.specs.declared.version.Version.TheVariants.{One, Two, Three}
+use Rattle.wire_records.specs.declared.version.Version.TheVariants.{One, Two, Three, Four}
 use Rattle.wire_records.proofs.Fronts.{no_front-from_overlong}
 use Rattle.wire_fields.specs.Numbers.{unsigned}
 use Rattle.journal_records.specs.Replies.{most_reply_body}
@@ -20,6 +20,7 @@ unfolding head unsigned
 states One body = (omega arith, 70, omega arith, 77 ∷ 68 ∷ 49 ∷ body, refl)
 states Two body = (omega arith, 70, omega arith, 77 ∷ 68 ∷ 50 ∷ body, refl)
 states Three body = (omega arith, 70, omega arith, 77 ∷ 68 ∷ 51 ∷ body, refl)
+states Four body = (omega arith, 70, omega arith, 77 ∷ 68 ∷ 52 ∷ body, refl)
 
 pub command_files_begin_no_pair : (version : Version) (body : List ℕ) → BeginsWithNone journals.units (command_magic_of version ++ body)
 command_files_begin_no_pair version body =

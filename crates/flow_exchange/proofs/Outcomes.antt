@@ -21,7 +21,7 @@ use Rattle.batch_report.proofs.OneReport.{one_report}
 use Rattle.canonical_journals.proofs.OneCanonicalJournal.{one_canonical_journal}
 use Rattle.exchange_session.specs.Journals.{Journals}
 use Rattle.journal_words.proofs.JournalLaws.{one_line}
-use Rattle.wire_records.specs.declared.version.Version.TheVariants.{One, Two, Three}
+use Rattle.wire_records.specs.declared.version.Version.TheVariants.{One, Two, Three, Four}
 use Rattle.flow_exchange.specs.declared.form.Form.{Form}
 use Rattle.flow_exchange.specs.declared.form.Form.TheVariants.{Run, Audit, Explain, Report, Encode, Sample, Statement, Checkpoint, Resume}
 use Rattle.flow_exchange.specs.declared.status.Status.{Status}
@@ -55,7 +55,10 @@ mark word = length word + get_or word 0 0 + get_or word 2 0
 
 -- the version that the argument after `encode` names
 abbrev version_in : List ℕ → Version
-version_in second = if nat_eq (get_or second 0 0) 0 then One else (if nat_eq (get_or second 0 0) 50 then Two else Three)
+version_in second =
+    if nat_eq (get_or second 0 0) 0 then One else
+    (if nat_eq (get_or second 0 0) 50 then Two else
+    (if nat_eq (get_or second 0 0) 51 then Three else Four))
 
 -- the form, by the mark of the first argument
 abbrev form_by : ℕ → List ℕ → List ℕ → Option Form
@@ -82,6 +85,7 @@ form_is words Report asks = ap form_in asks
 form_is words (Encode One) asks = ap form_in asks
 form_is words (Encode Two) asks = ap form_in asks
 form_is words (Encode Three) asks = ap form_in asks
+form_is words (Encode Four) asks = ap form_in asks
 form_is words (Sample n p) asks =
     ap form_in asks.are ∙ ap (λ k. Some (Sample k (digits_value 10 (decimal p)))) (decimal_is_IsNumeral n asks.number_fits).1
     ∙ ap (λ k. Some (Sample n k)) (decimal_is_IsNumeral p (omega (arith, asks.few))).1

@@ -7,7 +7,7 @@ use Rattle.wire_records.specs.Records.{Record, spelling}
 use Rattle.wire_records.specs.Commands.{Pair}
 use Rattle.wire_records.proofs.Spelled.{length-spelling}
 use Rattle.wire_records.specs.declared.version.Version.{Version}
-use Rattle.wire_records.specs.declared.version.Version.TheVariants.{One, Two, Three}
+use Rattle.wire_records.specs.declared.version.Version.TheVariants.{One}
 use Rattle.flow_orders.specs.Outcomes.{Outcome}
 use Rattle.journal_records.specs.Replies.{answer_record}
 use Rattle.journal_records.specs.Pairs.{pair_spelling}
@@ -41,8 +41,7 @@ one_pair pair = one_piece (pair_spelling pair) (pair_long pair)
 -- a magic is one piece
 one_magic : (version : Version) → piece (journal_magic_of version) ≡ journal_magic_of version ∷ []
 one_magic One = refl
-one_magic Two = refl
-one_magic Three = refl
+one_magic version = refl
 
 -- what answers a record is an entry
 answered : (old new : Market) (asked : Record) (text : List ℕ) → AnswersOne old asked new text → (pair : Pair Record Outcome) × (piece text ≡ pair_spelling pair ∷ [])

@@ -1,6 +1,6 @@
 -- The forms of the command line.
 use Rattle.std.specs.Prelude.{◌≡◌, ℕ, List, [], ◌∷◌, codes}
-use Rattle.wire_records.specs.declared.version.Version.TheVariants.{One, Two, Three}
+use Rattle.wire_records.specs.declared.version.Version.TheVariants.{One, Two, Three, Four}
 use Rattle.flow_exchange.specs.Sampling.{AskSample}
 use Rattle.flow_exchange.specs.Stating.{AskStatement}
 use Rattle.flow_exchange.specs.declared.form.Form.{Form}
@@ -15,6 +15,7 @@ Asks words Report = words ≡ codes "report" ∷ []
 Asks words (Encode One) = words ≡ codes "encode" ∷ []
 Asks words (Encode Two) = words ≡ codes "encode" ∷ codes "2" ∷ []
 Asks words (Encode Three) = words ≡ codes "encode" ∷ codes "3" ∷ []
+Asks words (Encode Four) = words ≡ codes "encode" ∷ codes "4" ∷ []
 Asks words (Sample number orders) = AskSample words number orders
 Asks words (Statement number) = AskStatement words number
 Asks words Checkpoint = words ≡ codes "checkpoint" ∷ []

@@ -17,7 +17,7 @@ pub enum Form {
     Explain,
     /// `report`: reads a history, and writes the text of its entries.
     Report,
-    /// `encode`, `encode 2` or `encode 3`: reads lines of JSON, and writes the command file of their commands, of this version.
+    /// `encode`, or `encode` with 2, 3 or 4: reads lines of JSON, and writes the command file of their commands, of this version.
     Encode(Version),
     /// `sample NUMBER ORDERS`: writes a line on a sample of this many orders, 1 to 16,384, that are drawn from this number on.
     Sample { number: u64, orders: u32 },
@@ -74,6 +74,9 @@ pub(crate) fn form_of(words: &[String]) -> Option<Form>
     }
     if are_two(words, "encode", "3") {
         return Some(Form::Encode(Version::Three));
+    }
+    if are_two(words, "encode", "4") {
+        return Some(Form::Encode(Version::Four));
     }
     if is_word(words, "checkpoint") {
         return Some(Form::Checkpoint);

@@ -94,8 +94,8 @@ pub fn flow_limited<S: Source, K: Sink, N: Sink>(
 ///   continue it. It writes a line to `out` if each entry is valid and nothing follows them.
 /// - `explain` does the same, and if an entry is invalid, writes a line on what is found of it.
 /// - `report` reads a history in the same way, and writes the text of each valid entry, by one write each.
-/// - `encode` reads lines of JSON, and writes the command file of what they ask for, of version 1, or with `encode 2` or `encode 3`
-///   of version 2 or 3: one write for the magic, and one for the records of each line.
+/// - `encode` reads lines of JSON, and writes the command file of what they ask for, of version 1, or with `encode 2`, `encode 3` or
+///   `encode 4` of that version: one write for the magic, and one for the records of each line.
 /// - `sample NUMBER ORDERS` reads nothing: it makes the command file of a sample of this many orders, 1 to 16,384, that are drawn
 ///   from the number on, runs it, audits the journal, and writes a line with its counts, by one write.
 /// - `statement NUMBER` reads a history, and writes the balances of the account of this number that are carried forward from a checkpoint,

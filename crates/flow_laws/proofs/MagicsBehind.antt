@@ -7,7 +7,7 @@ use Rattle.wire_records.specs.Grammars.{BeginsWithNone, spell_all}
 use Rattle.wire_records.specs.Reading.{Torn}
 use Rattle.wire_records.specs.Formats.{StatesOver, command_magic_of}
 use Rattle.wire_records.specs.declared.version.Version.{Version}
-use Rattle.wire_records.specs.declared.version.Version.TheVariants.{One, Two, Three}
+use Rattle.wire_records.specs.declared.version.Version.TheVariants.{One, Two, Three, Four}
 use Rattle.wire_records.proofs.Fronts.{no_front-from_overlong}
 use Rattle.journal_records.specs.Replies.{most_reply_body}
 use Rattle.journal_records.specs.Pairs.{pair_spelling}
@@ -35,12 +35,14 @@ unfolding head unsigned
 states_commands One body = (omega arith, 70, omega arith, 77 ∷ 68 ∷ 49 ∷ body, refl)
 states_commands Two body = (omega arith, 70, omega arith, 77 ∷ 68 ∷ 50 ∷ body, refl)
 states_commands Three body = (omega arith, 70, omega arith, 77 ∷ 68 ∷ 51 ∷ body, refl)
+states_commands Four body = (omega arith, 70, omega arith, 77 ∷ 68 ∷ 52 ∷ body, refl)
 
 states_journals : (version : Version) (body : List ℕ) → StatesLength of_journals (journal_magic_of version ++ body)
 unfolding head unsigned
 states_journals One body = (omega arith, 70, omega arith, 78 ∷ 76 ∷ 49 ∷ body, refl)
 states_journals Two body = (omega arith, 70, omega arith, 78 ∷ 76 ∷ 50 ∷ body, refl)
 states_journals Three body = (omega arith, 70, omega arith, 78 ∷ 76 ∷ 51 ∷ body, refl)
+states_journals Four body = (omega arith, 70, omega arith, 78 ∷ 76 ∷ 52 ∷ body, refl)
 
 states_checkpoints : (body : List ℕ) → StatesLength of_checkpoints (checkpoint_magic ++ body)
 unfolding head unsigned

@@ -4,6 +4,7 @@ use Rattle.std.specs.List.{range_with_len, sum_by, list_all}
 use Rattle.weight_rows.specs.Rows.{IsPrice, assets_of, price_of}
 use Rattle.demand_curve.specs.Demand.{IsWithin, IsRounding, loss, dual_floor}
 use Rattle.flow_orders.specs.Orders.{Order, terms_of}
+use Rattle.flow_orders.specs.declared.search.Search.{Search}
 use Rattle.flow_orders.specs.Excess.{price_for, residual_bound, is_unsettled}
 use Rattle.flow_orders.specs.Moves.{moved, walk_reach}
 use Rattle.flow_orders.specs.Walks.{walk_end, IsLegal, AreSettled}
@@ -32,9 +33,9 @@ pub data Outcome : Type 0 where
   Cleared : Clearing → Outcome
   Skipped : Skipping → Outcome
 
--- a rule by which batches may end: a relation of the parts of a unit, the orders, the start prices, the budget and the outcome
+-- a rule by which batches may end: a relation of how prices are searched for, the orders, the start prices, the budget and the outcome
 abbrev pub BatchRule : Type 1
-BatchRule = ℕ → List Order → List ℤ → ℕ → Outcome → Type 0
+BatchRule = Search → List Order → List ℤ → ℕ → Outcome → Type 0
 
 -- what the orders trade at the published rates
 abbrev pub trades_of : List Order → List Fill → List Trade
@@ -108,10 +109,10 @@ pub record IsAdmissibleSkip (parts : ℕ) (orders : List Order) (start : List �
   pub unsettled : ¬ EndsSettled parts orders start s.trace
   pub duals : s ≡ skipping_at parts orders start s.trace
 
--- an outcome of a batch is admissible, given the parts of a unit, the orders, the start prices and the budget
+-- an outcome of a batch is admissible, given how prices are searched for, the orders, the start prices and the budget
 abbrev pub IsAdmissibleOutcome : BatchRule
-IsAdmissibleOutcome parts orders start budget (Cleared c) = IsAdmissibleClearing orders start c
-IsAdmissibleOutcome parts orders start budget (Skipped s) = IsAdmissibleSkip parts orders start budget s
+IsAdmissibleOutcome search orders start budget (Cleared c) = IsAdmissibleClearing orders start c
+IsAdmissibleOutcome search orders start budget (Skipped s) = IsAdmissibleSkip search.parts orders start budget s
 
 -- what is published of these trades at prices of n assets
 abbrev pub clearing_at : ℕ → List ℤ → List Trade → Clearing

@@ -8,8 +8,9 @@
 //! [`Order`] is an order as the program keeps it: 72 bytes beside its legs. [`order_fault`] finds what is wrong with
 //! the numbers of a requested order; [`money_need`] and [`unit_need`] compute what an order reserves.
 //! [`add_residuals`] adds an order's trade to the imbalance of each asset; [`spread`] and [`steepness`] are the rounding
-//! bound and the slope bound of an asset's imbalance. No call allocates. Each takes constant time, but `add_residuals`,
-//! which goes once over the legs of an order, and `spread` and `steepness`, which go once over those of all orders.
+//! bound and the slope bound of an asset's imbalance. [`Search`] says how the prices of a batch are searched for. No call
+//! allocates. Each takes constant time, but `add_residuals`, which goes once over the legs of an order, and `spread` and
+//! `steepness`, which go once over those of all orders.
 //!
 //! Limit prices are whole ticks, and a tick is 2^32 grains. Contracts see them in grains, as curves and prices are.
 #![tactic(auto)]
@@ -20,9 +21,11 @@ pub mod laws;
 mod left_over;
 mod needs;
 mod order;
+mod search;
 
 pub use bounds::{spread, steepness};
 pub use fault::{MOST_RATE, MOST_TICKS, OrderFault, order_fault};
 pub use left_over::add_residuals;
 pub use needs::{money_need, unit_need};
 pub use order::{GRAINS_PER_TICK, Order};
+pub use search::Search;

@@ -1,6 +1,6 @@
 //! A journal on a disk that outlives a crash at any moment.
 //!
-//! A disk of a journal has the eight bytes `FLOWDSK1`, `FLOWDSK2` or `FLOWDSK3`, by the version of the journal, and
+//! A disk of a journal has the eight bytes `FLOWDSK1` to `FLOWDSK4`, by the version of the journal, and
 //! then stored entries: a commit byte, the length of the entry in four bytes, and the entry, two records as in a
 //! journal. An entry counts if its commit byte is set, which is 1; an unset one is written as 0, and any other byte is
 //! unset too. The first commit byte that isn't set ends the journal, and what follows it has no meaning. A disk of at

@@ -14,6 +14,7 @@ fn disk_magic(version: Version) -> [u8; 8]
         Version::One => *b"FLOWDSK1",
         Version::Two => *b"FLOWDSK2",
         Version::Three => *b"FLOWDSK3",
+        Version::Four => *b"FLOWDSK4",
     }
 }
 

@@ -162,7 +162,7 @@ skipping_parts_fit parts some orders start budget each few assets small moves s 
     }
 
 pub admissible_outcomes_fit : AdmissibleOutcomesFit
-admissible_outcomes_fit parts some orders start budget number (Cleared c) each few numbered assets small moves batch right =
+admissible_outcomes_fit search some orders start budget number (Cleared c) each few numbered assets small moves batch right =
     (clearing_fits number c (omega (arith, batch)) (clearing_parts_fit orders start each few numbered assets c right), (omega (arith, right.one_price_each, assets), omega (arith, fill_count orders start each few numbered assets c right, few)))
-admissible_outcomes_fit parts some orders start budget number (Skipped s) each few numbered assets small moves batch right =
-    (skipping_fits number s (omega (arith, batch)) (skipping_parts_fit parts some orders start budget each few assets small moves s right), omega (arith, right.whole, moves))
+admissible_outcomes_fit search some orders start budget number (Skipped s) each few numbered assets small moves batch right =
+    (skipping_fits number s (omega (arith, batch)) (skipping_parts_fit search.parts some orders start budget each few assets small moves s right), omega (arith, right.whole, moves))

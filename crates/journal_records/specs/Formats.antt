@@ -6,7 +6,7 @@ use Rattle.wire_records.specs.Commands.{Pair}
 use Rattle.wire_records.specs.Grammars.{both}
 use Rattle.wire_records.specs.Reading.{Format}
 use Rattle.wire_records.specs.declared.version.Version.{Version}
-use Rattle.wire_records.specs.declared.version.Version.TheVariants.{One, Two, Three}
+use Rattle.wire_records.specs.declared.version.Version.TheVariants.{One, Two, Three, Four}
 use Rattle.wire_records.specs.Formats.{magics, records, EitherStatesOver}
 use Rattle.flow_orders.specs.Outcomes.{Outcome}
 use Rattle.journal_records.specs.Replies.{answer_record, most_reply_body}
@@ -17,6 +17,7 @@ abbrev pub journal_magic_of : Version → List ℕ
 journal_magic_of One = codes "FLOWJNL1"
 journal_magic_of Two = codes "FLOWJNL2"
 journal_magic_of Three = codes "FLOWJNL3"
+journal_magic_of Four = codes "FLOWJNL4"
 
 -- the bytes of a journal of these entries, in a version
 abbrev pub journal_in : Version → List (Pair Record Outcome) → List ℕ

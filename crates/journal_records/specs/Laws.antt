@@ -9,6 +9,7 @@ use Rattle.wire_records.specs.declared.version.Version.{Version}
 use Rattle.wire_records.specs.declared.version.Version.TheVariants.{One}
 use Rattle.weight_rows.specs.Rows.{IsPrice}
 use Rattle.flow_orders.specs.Orders.{Order, IsOrder, most_orders}
+use Rattle.flow_orders.specs.declared.search.Search.{Search}
 use Rattle.flow_orders.specs.Outcomes.{Clearing, Skipping, Outcome, Cleared, Skipped, IsAdmissibleOutcome, most_budget}
 use Rattle.journal_records.specs.Replies.{answer_record, IsAnswer, most_reply_body, IsWithinLimits}
 use Rattle.journal_records.specs.Pairs.{IsPair, pair_spelling, journal, plain_room, cleared_room, skipped_room}
@@ -46,13 +47,13 @@ abbrev pub BatchRepliesFit : Type 0
 BatchRepliesFit =
     (number : ℕ) (outcome : Outcome) → IsAnswer (Batch number outcome) → IsWithinLimits outcome → IsRecord most_reply_body (answer_record (Batch number outcome))
 
--- The numbers of an admissible outcome, by whatever parts of a unit, fit their widths, and it is within the limits: if there are at
+-- The numbers of an admissible outcome, however prices are searched for, fit their widths, and it is within the limits: if there are at
 -- most 16,384 orders, each within its limits and with a number below 2^64, and at most 64 start prices within their range.
 abbrev pub AdmissibleOutcomesFit : Type 0
 AdmissibleOutcomesFit =
-    (parts : ℕ) → 1 ≤ parts → (orders : List Order) (start : List ℤ) (budget number : ℕ) (outcome : Outcome)
+    (search : Search) → 1 ≤ search.parts → (orders : List Order) (start : List ℤ) (budget number : ℕ) (outcome : Outcome)
     → All IsOrder orders → length orders ≤ most_orders → All (λ (o : Order). o.number < 2 ^ 64) orders → length start ≤ 64 → All IsPrice start
-    → budget ≤ most_budget → number < 2 ^ 32 → IsAdmissibleOutcome parts orders start budget outcome → IsAnswer (Batch number outcome) × IsWithinLimits outcome
+    → budget ≤ most_budget → number < 2 ^ 32 → IsAdmissibleOutcome search orders start budget outcome → IsAnswer (Batch number outcome) × IsWithinLimits outcome
 
 -- each list of bytes has exactly one reading as a journal
 abbrev pub OneJournalFile : Type 0

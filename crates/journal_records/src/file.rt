@@ -10,12 +10,6 @@ use wire_records::{MOST_RECORD, Version};
 /// The first 8 bytes of a journal of version One.
 pub const JOURNAL_MAGIC: [u8; 8] = *b"FLOWJNL1";
 
-/// The first 8 bytes of a journal of version Two.
-pub const JOURNAL_MAGIC_2: [u8; 8] = *b"FLOWJNL2";
-
-/// The first 8 bytes of a journal of version Three.
-pub const JOURNAL_MAGIC_3: [u8; 8] = *b"FLOWJNL3";
-
 /// The longest body of a reply's record in a journal, in bytes.
 pub const MOST_REPLY_BODY: u32 = 262_144;
 
@@ -28,8 +22,9 @@ pub fn journal_magic(version: Version) -> [u8; 8]
 {
     match version {
         Version::One => JOURNAL_MAGIC,
-        Version::Two => JOURNAL_MAGIC_2,
-        Version::Three => JOURNAL_MAGIC_3,
+        Version::Two => *b"FLOWJNL2",
+        Version::Three => *b"FLOWJNL3",
+        Version::Four => *b"FLOWJNL4",
     }
 }
 

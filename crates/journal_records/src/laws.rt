@@ -2,11 +2,11 @@
 //! does nothing.
 ghost use Rattle.std.specs.Prelude.{◌≡◌};
 ghost use Rattle.journal_records.specs.Replies.{most_reply_body};
-ghost use Rattle.wire_records.specs.declared.version.Version.TheVariants.{One, Two, Three};
+ghost use Rattle.wire_records.specs.declared.version.Version.TheVariants.{One};
 ghost use Rattle.journal_records.specs.Formats.{journal_magic_of};
 ghost use Rattle.journal_records.specs.Laws.{OneAnswer, OnePair, PairFits, ClearedPairFits, SkippedPairFits, PlainRepliesFit, BatchRepliesFit, AdmissibleOutcomesFit, OneJournalFile, JournalIsFile, JournalIsRead, OneJournal};
 
-use crate::{JOURNAL_MAGIC, JOURNAL_MAGIC_2, JOURNAL_MAGIC_3, MOST_REPLY_BODY};
+use crate::{JOURNAL_MAGIC, MOST_REPLY_BODY};
 
 /// A record encodes at most one answer.
 pub fn one_answer()
@@ -75,7 +75,5 @@ pub fn journal_is_read()
 /// The magic and the limit that the code names are those of the definitions.
 pub fn constant_is_named()
     ensures magic { JOURNAL_MAGIC ≡ journal_magic_of One }
-    ensures magic_2 { JOURNAL_MAGIC_2 ≡ journal_magic_of Two }
-    ensures magic_3 { JOURNAL_MAGIC_3 ≡ journal_magic_of Three }
     ensures most_reply_body { MOST_REPLY_BODY ≡ most_reply_body }
 {}

@@ -36,8 +36,7 @@ mod skipped_view;
 pub use cleared::write_cleared;
 pub use cleared_view::ClearedView;
 pub use file::{
-    JOURNAL_MAGIC, JOURNAL_MAGIC_2, JOURNAL_MAGIC_3, MOST_PAIR, MOST_REPLY_BODY, is_journal,
-    journal_magic, journal_version,
+    JOURNAL_MAGIC, MOST_PAIR, MOST_REPLY_BODY, is_journal, journal_magic, journal_version,
 };
 pub use pair::{PairFramed, PairView, is_overlong, next_pair};
 pub use plain::{MOST_PLAIN_PAIR, reserve_plain, write_plain};

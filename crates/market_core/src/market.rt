@@ -11,8 +11,8 @@ ghost use Rattle.market_core.specs.Private.{refusal_for, ticker_refusal, IsAnswe
 
 use crate::prices::LastPrices;
 use flow_accounts::{AccountFault, Accounts};
-use flow_orders::Order;
-use market_rules::parts_of;
+use flow_orders::{Order, Search};
+use market_rules::{parts_of, search_of};
 use order_book::Book;
 use residual_account::ResidualAccount;
 use std::alloc::Global;
@@ -93,7 +93,7 @@ pub(crate) fn reply_to<T: Copy>(outcome: Result<T, AccountFault>) -> Reply
 impl Market {
     ghost use Rattle.weight_rows.specs.Rows.{price_of};
     ghost use Rattle.flow_accounts.specs.Balances.{IsAsset};
-    ghost use Rattle.market_rules.specs.Market.{empty_market, parts_of, IsConsistent};
+    ghost use Rattle.market_rules.specs.Market.{empty_market, parts_of, search_of, IsConsistent};
     ghost use Rattle.market_rules.specs.Step.{FirstRefusal, ServesPlain};
     ghost use Rattle.market_rules.specs.Allocating.{MayAllocate};
     ghost use Rattle.market_core.specs.Listing.{StaysAsListed};
@@ -204,6 +204,15 @@ impl Market {
         ensures few { (1 ≤ result) × (result ≤ 256) }
     {
         parts_of(self.version)
+    }
+
+    /// Returns how the prices of a batch are searched for, by the version.
+    pub fn search(&self) -> Search
+        ensures value { result ≡ search_of self.now.version }
+        ensures some_parts { 1 ≤ result.parts }
+        ensures few_parts { result.parts ≤ 256 }
+    {
+        search_of(self.version)
     }
 
     /// Returns the allocator of the market's collections.

@@ -14,7 +14,7 @@ use Rattle.flow_orders.specs.Excess.{price_for, residual_bound}
 use Rattle.flow_orders.specs.Outcomes.{Clearing, Fill, Outcome, Cleared, Skipped, trades_of, IsAdmissibleClearing, IsAdmissibleOutcome}
 use Rattle.flow_orders.specs.Trades.{Trade, trader, residual, residual_cost, after_fill, is_live, staying, going_on}
 use Rattle.fill_caps.specs.Settlement.{settled_balances, settled_exchange}
-use Rattle.market_rules.specs.Market.{Market, IsConsistent, IsLiveOrder, IsInTime, parts_of, start_prices, most_batches}
+use Rattle.market_rules.specs.Market.{Market, IsConsistent, IsLiveOrder, IsInTime, search_of, start_prices, most_batches}
 use Rattle.market_rules.specs.Step.{after_batch}
 use Rattle.fill_caps.specs.Settles.{Settles}
 use Rattle.flow_orders.proofs.TradeFacts.{IsAllowed, before_fills, after_fills}
@@ -203,6 +203,6 @@ consistent-skipped m consistent more =
     }
 
 -- a batch with an admissible outcome keeps a market consistent
-pub consistent-batch : (m : Market) (outcome : Outcome) (budget : ℕ) → IsConsistent m → m.batches < most_batches → IsAdmissibleOutcome (parts_of m.version) m.orders (start_prices m) budget outcome → IsConsistent (after_batch m outcome)
+pub consistent-batch : (m : Market) (outcome : Outcome) (budget : ℕ) → IsConsistent m → m.batches < most_batches → IsAdmissibleOutcome (search_of m.version) m.orders (start_prices m) budget outcome → IsConsistent (after_batch m outcome)
 consistent-batch m (Cleared c) budget consistent more right = consistent_settled m c (trades_of m.orders c.fills) refl consistent right more
 consistent-batch m (Skipped s) budget consistent more right = consistent-skipped m consistent more

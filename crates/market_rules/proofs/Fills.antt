@@ -13,7 +13,7 @@ use Rattle.wire_records.specs.Commands.{Request, Command, Place, CancelOrder, Ru
 use Rattle.wire_records.specs.declared.reply.Refusal.{Refusal}
 use Rattle.wire_records.specs.declared.reply.Reply.TheVariants.{Order as OrderPlaced, Refused}
 use Rattle.std.proofs.lemmas.Bool.{cases_lt}
-use Rattle.market_rules.specs.Market.{IsLiveOrder, Market, IsConsistent, parts_of, start_prices}
+use Rattle.market_rules.specs.Market.{IsLiveOrder, Market, IsConsistent, search_of, start_prices}
 use Rattle.market_rules.specs.Step.{Accepts, Answers, Serves, after_batch, placed, ServesRead}
 use Rattle.wire_records.specs.declared.command.BodyFault.{BodyFault}
 use Rattle.wire_records.specs.declared.version.Version.{Version}
@@ -168,7 +168,7 @@ filled_accepted m (CancelOrder account other) a n number cap filled consistent a
     })
 filled_accepted m (RunBatch budget) a n number cap filled consistent accepts is = rw (accepts.2.0, accepts.2.1) (by_outcome accepts.0 accepts.1)
   where
-    by_outcome : (o : Outcome) → IsAdmissibleOutcome (parts_of m.version) m.orders (start_prices m) budget o → IsFilled (after_batch m o) number cap (filled + filled_by number (Batch (m.batches + 1) o))
+    by_outcome : (o : Outcome) → IsAdmissibleOutcome (search_of m.version) m.orders (start_prices m) budget o → IsFilled (after_batch m o) number cap (filled + filled_by number (Batch (m.batches + 1) o))
     by_outcome (Cleared c) right = filled_cleared m c number cap filled consistent right is
     by_outcome (Skipped s) right =
         let none : filled + 0 ≡ filled = omega arith in
@@ -194,7 +194,7 @@ unused_cleared m c number consistent right above =
 unused_accepted : (m : Market) (c : Command) (a : Answer Outcome) (n : Market) (number : ℕ) → IsConsistent m → Accepts IsAdmissibleOutcome m c a n → IsUnused m n number (filled_by number a)
 unused_accepted m (RunBatch budget) a n number consistent accepts = rw (accepts.2.0, accepts.2.1) (by_outcome accepts.0 accepts.1)
   where
-    by_outcome : (o : Outcome) → IsAdmissibleOutcome (parts_of m.version) m.orders (start_prices m) budget o → IsUnused m (after_batch m o) number (filled_by number (Batch (m.batches + 1) o))
+    by_outcome : (o : Outcome) → IsAdmissibleOutcome (search_of m.version) m.orders (start_prices m) budget o → IsUnused m (after_batch m o) number (filled_by number (Batch (m.batches + 1) o))
     by_outcome (Cleared c) right = record { later = omega arith; none = unused_cleared m c number consistent right }
     by_outcome (Skipped s) right = record { later = omega arith; none = λ _. refl }
 unused_accepted m command a n number consistent accepts = rw (accepts.0, accepts.1) (record { later = omega arith; none = λ _. refl })

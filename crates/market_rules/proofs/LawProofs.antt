@@ -19,7 +19,7 @@ use Rattle.wire_records.specs.Commands.{Command, AddAsset, OpenAccount, Place, R
 use Rattle.wire_records.specs.declared.reply.Refusal.{Refusal}
 use Rattle.wire_records.specs.declared.reply.Reply.{Reply}
 use Rattle.wire_records.specs.declared.reply.Reply.TheVariants.{Done, Asset as AssetAdded, Account as AccountOpened, Order as OrderPlaced, Refused}
-use Rattle.market_rules.specs.Market.{Market, IsConsistent, IsInTime, IsNoCredit, parts_of, start_prices, usable_balance, free_balance}
+use Rattle.market_rules.specs.Market.{Market, IsConsistent, IsInTime, IsNoCredit, parts_of, start_prices, usable_balance, free_balance, search_of}
 use Rattle.wire_records.specs.declared.command.BodyFault.{BodyFault}
 use Rattle.market_rules.specs.Step.{NoOutcome, ServesPlain, FirstRefusal, Accepts, Answers, Serves, ServesRead, after_batch}
 use Rattle.market_rules.specs.Laws.{MarketIsDetermined, JournalsDetermineTheMarket, OneRefusal, PlainCommandsHaveOneAnswer, PlainCommandsHoldNoBatch, StepsKeepConsistency, HeldIsDeposited, BatchesKeepTotals, SkipsOnlyEndOrders, OrdersEndInTime, VersionOneIsAsBefore, BatchesOfVersionOne, OrdersMayLeave, SkipsLowerTheDual, LargeBudgetsClear, ClearedBatchesAreOptimal, FillsKeepCaps, SequencesCompose, LimitsAgree, JournalsStayConsistent, JournalsHoldDeposits, LegalStepsNumberOne}
@@ -42,7 +42,7 @@ use Rattle.wire_records.proofs.Readings.{reading_unique as one_reading, read_own
 pub record IsBatch (Rule : BatchRule) (old : Market) (command : Command) (number : ℕ) (outcome : Outcome) (new : Market) : Type 0 where
   pub budget : ℕ
   pub command_is : command ≡ RunBatch budget
-  pub ruled : Rule (parts_of old.version) old.orders (start_prices old) budget outcome
+  pub ruled : Rule (search_of old.version) old.orders (start_prices old) budget outcome
   pub number_is : number ≡ old.batches + 1
   pub made : new ≡ after_batch old outcome
 

@@ -3,7 +3,7 @@ use Rattle.std.proofs.Common.{◌≡◌, ◌+◌, ℕ, Option, Some, None, inl, 
 use Rattle.flow_orders.specs.Outcomes.{Outcome, BatchRule}
 use Rattle.wire_records.specs.Commands.{Command, AddAsset, OpenAccount, Place, CancelOrder, RunBatch, Answer, Batch}
 use Rattle.wire_records.specs.declared.reply.Refusal.{Refusal}
-use Rattle.market_rules.specs.Market.{Market, parts_of, start_prices}
+use Rattle.market_rules.specs.Market.{Market, search_of, start_prices}
 use Rattle.market_rules.specs.Step.{◌when◌else◌, ◌unless◌else◌, accept, FirstRefusal, Accepts, Answers, Serves, after_batch}
 
 -- there is at most one first refusal
@@ -57,7 +57,7 @@ module _ (Rule : BatchRule) where
 
   -- the rule allows at most one outcome of a batch
   abbrev pub HasOneOutcome : Market → Command → Type 0
-  HasOneOutcome m (RunBatch budget) = (o p : Outcome) → Rule (parts_of m.version) m.orders (start_prices m) budget o → Rule (parts_of m.version) m.orders (start_prices m) budget p → o ≡ p
+  HasOneOutcome m (RunBatch budget) = (o p : Outcome) → Rule (search_of m.version) m.orders (start_prices m) budget o → Rule (search_of m.version) m.orders (start_prices m) budget p → o ≡ p
   HasOneOutcome m _ = Unit {0}
 
   accepted_once : (m : Market) (c : Command) (a b : Answer Outcome) (x y : Market) → HasOneOutcome m c → Accepts Rule m c a x → Accepts Rule m c b y → (a ≡ b) × (x ≡ y)

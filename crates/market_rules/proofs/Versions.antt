@@ -4,7 +4,7 @@ use Rattle.wire_records.specs.Commands.{Command, RunBatch, Answer, Pair}
 use Rattle.wire_records.specs.declared.command.BodyFault.{BodyFault}
 use Rattle.wire_records.specs.declared.reply.Refusal.{Refusal}
 use Rattle.wire_records.specs.declared.version.Version.{Version}
-use Rattle.wire_records.specs.declared.version.Version.TheVariants.{One, Two, Three}
+use Rattle.wire_records.specs.declared.version.Version.TheVariants.{One}
 use Rattle.wire_records.specs.Versions.{most_tag}
 use Rattle.flow_orders.specs.Outcomes.{Outcome, BatchRule, Cleared, Skipped}
 use Rattle.market_rules.specs.Market.{Market, parts_of}
@@ -18,13 +18,11 @@ not_one version most one = let few = ap most_tag one in omega (arith, most, few)
 -- moves end by one part of a unit at least, and by 256 at most
 pub some_parts : (version : Version) → 1 ≤ parts_of version
 some_parts One = omega arith
-some_parts Two = omega arith
-some_parts Three = omega arith
+some_parts version = omega arith
 
 pub few_parts : (version : Version) → parts_of version ≤ 256
 few_parts One = omega arith
-few_parts Two = omega arith
-few_parts Three = omega arith
+few_parts version = omega arith
 
 batch_version : (m : Market) (o : Outcome) → (after_batch m o).version ≡ m.version
 batch_version m (Cleared c) = refl

@@ -1,15 +1,15 @@
 -- The market: what is kept from one command to the next, and the invariant that holds of it at all times.
-use Rattle.std.specs.Prelude.{◌≡◌, ◌≢◌, ◌⊎◌, ℕ, ◌*◌, ◌^◌, ◌<◌, ◌≤◌, ℤ, pos, neg_ℤ, ◌+ℤ◌, ◌-ℤ◌, ◌≤ℤ◌, unsigned_abs, List, [], map, length, All, AllPairs, Option, Some, None}
+use Rattle.std.specs.Prelude.{◌≡◌, ◌≢◌, ◌⊎◌, ℕ, ◌*◌, ◌^◌, ◌<◌, ◌≤◌, ℤ, pos, neg_ℤ, ◌+ℤ◌, ◌-ℤ◌, ◌≤ℤ◌, unsigned_abs, List, [], map, length, All, AllPairs, Option, Some, None, Bool, true, false}
 use Rattle.std.specs.Int.{int_min, int_max}
 use Rattle.weight_rows.specs.Rows.{IsPrice}
 use Rattle.ticker_table.specs.Tickers.{AreTickers}
 use Rattle.wire_records.specs.declared.version.Version.{Version}
-use Rattle.wire_records.specs.declared.version.Version.TheVariants.{One, Two, Three}
-use Rattle.flow_accounts.specs.Balances.{Account, Credit, Balances, IsAccount, IsAsset, IsKind, account_count, asset_count, balance_in, balance_of}
-use Rattle.flow_accounts.specs.Balances.{balance_with_credit, total_of, no_balances, empty_account}
+use Rattle.wire_records.specs.declared.version.Version.TheVariants.{One, Two, Three, Four}
+use Rattle.flow_accounts.specs.Balances.{Account, Credit, Balances, IsAccount, IsAsset, IsKind, account_count, asset_count, balance_in, balance_of, balance_with_credit, total_of, no_balances, empty_account}
 use Rattle.flow_accounts.specs.Lawful.{most_accounts, total_limit, IsLawfulCredit}
 use Rattle.flow_accounts.specs.Sums.{balance_of_all}
 use Rattle.flow_orders.specs.Orders.{Order, IsOrder, most_orders, needed}
+use Rattle.flow_orders.specs.declared.search.Search.{Search}
 use Rattle.fill_caps.specs.Covers.{CoversNeeds}
 
 -- the most batches that a market holds
@@ -42,6 +42,18 @@ abbrev pub parts_of : Version → ℕ
 parts_of One = 1
 parts_of Two = 1
 parts_of Three = 256
+parts_of Four = 256
+
+-- whether joint prices are tried, in each version
+abbrev pub tries_joint_prices : Version → Bool
+tries_joint_prices One = false
+tries_joint_prices Two = false
+tries_joint_prices Three = false
+tries_joint_prices Four = true
+
+-- how the prices of a batch are searched for, in each version
+abbrev pub search_of : Version → Search
+search_of version = record { parts = parts_of version; joint = tries_joint_prices version }
 
 -- the prices at which the search of a batch starts, in grains: the last prices, cut
 abbrev pub start_prices : Market → List ℤ

@@ -17,7 +17,7 @@ use Rattle.flow_orders.specs.Orders.{Order, most_orders, most_cap, AreLimits, Is
 use Rattle.flow_orders.specs.Outcomes.{Outcome, BatchRule, Cleared, Skipped, trades_of, most_budget}
 use Rattle.flow_orders.specs.Trades.{staying, going_on}
 use Rattle.order_book.specs.Book.{HasOrder, without}
-use Rattle.market_rules.specs.Market.{Market, most_batches, parts_of, start_prices, free_balance, usable_balance}
+use Rattle.market_rules.specs.Market.{Market, most_batches, start_prices, free_balance, usable_balance, search_of}
 use Rattle.fill_caps.specs.Settlement.{settled_balances, settled_exchange}
 
 -- ---- refusals
@@ -130,11 +130,11 @@ after_batch m (Skipped s) = record m { orders = going_on (m.batches + 1) m.order
 abbrev pub gives : Answer Outcome → Market → Answer Outcome → Market → Type 0
 gives given made answer new = (answer ≡ given) × (new ≡ made)
 
--- a batch is held: its outcome is one that the rule allows with the version's parts of a unit, the answer is this outcome under the
+-- a batch is held: its outcome is one that the rule allows with the version's search for prices, the answer is this outcome under the
 -- batch's number, and the new market is the one after it
 abbrev pub holds_batch : BatchRule → Market → ℕ → Answer Outcome → Market → Type 0
 holds_batch Rule m budget answer new =
-    (outcome : Outcome) × Rule (parts_of m.version) m.orders (start_prices m) budget outcome × gives (Batch (m.batches + 1) outcome) (after_batch m outcome) answer new
+    (outcome : Outcome) × Rule (search_of m.version) m.orders (start_prices m) budget outcome × gives (Batch (m.batches + 1) outcome) (after_batch m outcome) answer new
 
 -- the answer to an accepted command, and the market after it
 abbrev pub Accepts : BatchRule → Market → Command → Answer Outcome → Market → Type 0
@@ -168,7 +168,7 @@ pub record Serves (Rule : BatchRule) (old : Market) (command : Command) (answer 
 
 -- the rule that allows no outcome of a batch
 abbrev pub NoOutcome : BatchRule
-NoOutcome parts orders start budget outcome = ⊥
+NoOutcome search orders start budget outcome = ⊥
 
 -- a command is served and no batch is held: the command isn't RunBatch, or it is refused
 abbrev pub ServesPlain : Market → Command → Answer Outcome → Market → Type 0

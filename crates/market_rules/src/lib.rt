@@ -4,7 +4,7 @@
 //! refusal of a command, or its answer and the market after it), `Journal` (sequences of steps, totals, fills), `Promises`
 //! (what a journal promises of batches and fills), `Allocating` (which commands may run out of memory), `Settling` (which
 //! outcomes can be settled). Each function of [`laws`] is a law about these, and does nothing when it runs. Code uses only
-//! numbers of this crate: [`parts_of`], [`MOST_ORDERS`] and [`MOST_BATCHES`].
+//! what it says by version and in numbers: [`search_of`] and [`parts_of`], [`MOST_ORDERS`] and [`MOST_BATCHES`].
 #![tactic(auto)]
 
 pub mod laws;
@@ -12,4 +12,4 @@ mod limits;
 mod parts;
 
 pub use limits::{MOST_BATCHES, MOST_ORDERS};
-pub use parts::parts_of;
+pub use parts::{parts_of, search_of, tries_joint_prices};

@@ -12,7 +12,7 @@ use Rattle.weight_rows.specs.Rows.{IsLawfulWeight}
 use Rattle.demand_curve.specs.Demand.{IsWithin}
 use Rattle.wire_records.specs.Bodies.{IsEntry}
 use Rattle.wire_records.specs.declared.version.Version.{Version}
-use Rattle.wire_records.specs.declared.version.Version.TheVariants.{One, Two, Three}
+use Rattle.wire_records.specs.declared.version.Version.TheVariants.{One}
 use Rattle.flow_accounts.specs.Balances.{Account, Credit, asset_count}
 use Rattle.flow_accounts.specs.Lawful.{AreLawful, IsLawfulAccount, IsLawfulCredit, IsMoneyBalance, IsUnitBalance, IsMoneyTotal, IsUnitTotal}
 use Rattle.flow_orders.specs.Orders.{Order}
@@ -25,8 +25,7 @@ use Rattle.market_snapshot.specs.Widths.{FitUnits, FitsAccount, FitsOrder, FitWi
 
 number_fits : (v : Version) → IsUnsigned 1 (number_of v)
 number_fits One = omega arith
-number_fits Two = omega arith
-number_fits Three = omega arith
+number_fits version = omega arith
 
 -- balances, credits, totals and prices
 money_fits : (z : ℤ) → IsMoneyBalance z → IsSigned 16 z

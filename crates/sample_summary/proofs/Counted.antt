@@ -8,6 +8,7 @@ use Rattle.wire_records.specs.Records.{Record, spelling}
 use Rattle.wire_records.specs.Commands.{Answer, Plain, Batch, Pair}
 use Rattle.wire_records.proofs.Spelled.{length-spelling}
 use Rattle.flow_orders.specs.Outcomes.{Fill, Clearing, Outcome, Cleared, Skipped}
+use Rattle.journal_records.proofs.FieldForms.{clearing_from}
 use Rattle.journal_records.specs.Replies.{answer_record, IsAnswer, SpellsAnswer}
 use Rattle.journal_records.specs.Pairs.{IsPair, pair_spelling}
 use Rattle.journal_records.proofs.Spelled.{answer_unique, cleared_pair_room}
@@ -40,7 +41,7 @@ unfolding pair_spelling
 by_answer asked (Plain reply) fits = omega arith
 by_answer asked (Batch number (Skipped s)) fits = omega arith
 by_answer asked (Batch number (Cleared c)) fits =
-    let clearing = fits.answer.1 in
+    let clearing = (clearing_from number c fits.answer).1 in
     let answered = answer_record (Batch number (Cleared c)) in
     let few : length c.fills ≤ 21845 =
     omega (arith, cleared_pair_room asked number c clearing.residual_each, length-append (spelling asked) (spelling answered), length-spelling answered, fits.answered.body)

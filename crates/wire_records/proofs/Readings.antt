@@ -13,7 +13,7 @@ use Rattle.wire_records.specs.CommandRecords.{tag_of, body_of, record_of, IsComm
 use Rattle.wire_records.specs.Bodies.{request_spelling, body_spelling, FitsCommand}
 use Rattle.wire_records.proofs.FieldForms.{body_is_plain, command_fits, command_from}
 use Rattle.wire_records.specs.declared.version.Version.{Version}
-use Rattle.wire_records.specs.declared.version.Version.TheVariants.{One, Two, Three}
+use Rattle.wire_records.specs.declared.version.Version.TheVariants.{One}
 use Rattle.wire_records.specs.Versions.{most_tag, IsTagOf, IsOfVersion, IsReadAs}
 use Rattle.wire_records.specs.Private.{SpellsRequest, SpellsUntil}
 use Rattle.wire_records.proofs.Fields.{whole_number, front_number}
@@ -199,8 +199,7 @@ seen_some r small =
 -- no version has more tags
 within_all : (version : Version) (tag : ℕ) → IsTagOf version tag → IsTag tag
 within_all One tag is = (is.0, omega (arith, is.1))
-within_all Two tag is = is
-within_all Three tag is = is
+within_all version tag is = is
 
 -- a record of bytes has a reading in each version
 pub reading_some : (version : Version) (r : Record) → AreBytes r.body → (read : Result Command BodyFault) × IsReadAs version r read
@@ -217,8 +216,7 @@ reading_some version r small =
 -- each version but the first has all commands
 later_tags : (version : Version) → version ≢ One → most_tag version ≡ 12
 later_tags One later = absurd (later refl)
-later_tags Two later = refl
-later_tags Three later = refl
+later_tags version later = refl
 
 -- what is read whatever the version is read in a version that has all commands
 pub seen_in_later : (version : Version) (r : Record) (read : Result Command BodyFault) → version ≢ One → IsRead r read ↔ IsReadAs version r read

@@ -8,12 +8,12 @@ use Rattle.std.proofs.lemmas.List.{take-append-drop, take_at, drop_at, length-ta
 use Rattle.wire_records.specs.Records.{Record, IsRecord, head, spelling}
 use Rattle.wire_records.specs.Grammars.{BeginsWith, BeginsWithNone}
 use Rattle.wire_records.specs.declared.version.Version.{Version}
-use Rattle.wire_records.specs.declared.version.Version.TheVariants.{One, Two, Three}
+use Rattle.wire_records.specs.declared.version.Version.TheVariants.{One}
 use Rattle.wire_records.specs.Versions.{number_of}
 use Rattle.wire_records.specs.Formats.{magics, records, StatesOver, EitherStatesOver, command_magic_of, commands}
 use Rattle.wire_records.proofs.CodeLaws.{IsCode}
 use Rattle.wire_records.proofs.ReadingLaws.{IsReadable}
-use Rattle.wire_records.proofs.Numbered.{version_at, at_number, number_small, same_number}
+use Rattle.wire_records.proofs.Numbered.{version_at, at_number, all_numbers, number_small, same_number}
 use Rattle.wire_records.proofs.Spelled.{length-head, length-spelling, read_whole, spelling_unique}
 
 -- what a test decides
@@ -168,7 +168,7 @@ module _ (magic_of : Version → List ℕ) (are : AreMagics magic_of) where
   pub magic_told : (bytes : List ℕ) → ((v : Version) × (rest : List ℕ) × BeginsWith (magics magic_of) bytes v rest) ⊎ BeginsWithNone (magics magic_of) bytes
   magic_told bytes =
       let behind : Version → List ℕ = λ v. magic_of v ++ drop (length (magic_of v)) bytes in
-      elim (found_below (λ n. bytes ≡ behind (version_at n)) (λ n. same_or_not bytes (behind (version_at n))) 4) [
+      elim (found_below (λ n. bytes ≡ behind (version_at n)) (λ n. same_or_not bytes (behind (version_at n))) all_numbers) [
         | inl found ↦ inl (version_at found.0, drop (length (magic_of (version_at found.0))) bytes, (tt, found.2))
         | inr none ↦
             inr (λ v rest lawful e.
@@ -186,8 +186,7 @@ magic_code magic_of are = record {
 -- each magic of a command file has eight bytes
 pub eight : (version : Version) → length (command_magic_of version) ≡ 8
 eight One = refl
-eight Two = refl
-eight Three = refl
+eight version = refl
 
 -- the magics of command files
 pub command_magics : AreMagics command_magic_of
@@ -195,8 +194,7 @@ command_magics = record { eight = eight; last = last_byte }
   where
     last_byte : (version : Version) → get_or (command_magic_of version) 7 0 ≡ 48 + number_of version
     last_byte One = refl
-    last_byte Two = refl
-    last_byte Three = refl
+    last_byte version = refl
 
 -- command files can be read
 pub commands_readable : IsReadable commands

@@ -4,7 +4,7 @@ use Rattle.wire_records.specs.Records.{Record, IsRecord, StatesLength, spelling,
 use Rattle.wire_records.specs.Grammars.{Grammar, BeginsWith}
 use Rattle.wire_records.specs.Reading.{Format}
 use Rattle.wire_records.specs.declared.version.Version.{Version}
-use Rattle.wire_records.specs.declared.version.Version.TheVariants.{One, Two, Three}
+use Rattle.wire_records.specs.declared.version.Version.TheVariants.{One, Two, Three, Four}
 
 -- the encoding of versions: a magic for each
 abbrev pub magics : (Version → List ℕ) → Grammar Version
@@ -28,6 +28,7 @@ abbrev pub command_magic_of : Version → List ℕ
 command_magic_of One = codes "FLOWCMD1"
 command_magic_of Two = codes "FLOWCMD2"
 command_magic_of Three = codes "FLOWCMD3"
+command_magic_of Four = codes "FLOWCMD4"
 
 -- the format of command files: a magic, and records whose bodies are within the limit
 abbrev pub commands : Format Version Record

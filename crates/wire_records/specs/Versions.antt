@@ -6,19 +6,21 @@ use Rattle.wire_records.specs.CommandRecords.{tag_of, Spells, SpellsNone}
 use Rattle.wire_records.specs.declared.command.BodyFault.{BodyFault}
 use Rattle.wire_records.specs.declared.command.BodyFault.TheVariants.{UnknownTag, BadBody}
 use Rattle.wire_records.specs.declared.version.Version.{Version}
-use Rattle.wire_records.specs.declared.version.Version.TheVariants.{One, Two, Three}
+use Rattle.wire_records.specs.declared.version.Version.TheVariants.{One, Two, Three, Four}
 
 -- the number of each version
 abbrev pub number_of : Version → ℕ
 number_of One = 1
 number_of Two = 2
 number_of Three = 3
+number_of Four = 4
 
 -- the highest tag of a command of each version
 abbrev pub most_tag : Version → ℕ
 most_tag One = 9
 most_tag Two = 12
 most_tag Three = 12
+most_tag Four = 12
 
 -- a tag of a command of a version
 abbrev pub IsTagOf : Version → ℕ → Type 0

@@ -10,12 +10,6 @@ use crate::Version;
 /// The first 8 bytes of a command file of version One.
 pub const COMMAND_MAGIC: [u8; 8] = *b"FLOWCMD1";
 
-/// The first 8 bytes of a command file of version Two.
-pub const COMMAND_MAGIC_2: [u8; 8] = *b"FLOWCMD2";
-
-/// The first 8 bytes of a command file of version Three.
-pub const COMMAND_MAGIC_3: [u8; 8] = *b"FLOWCMD3";
-
 /// The longest body of a command record, in bytes.
 pub const MOST_BODY: u32 = 1024;
 
@@ -34,8 +28,9 @@ pub fn command_magic(version: Version) -> [u8; 8]
 {
     match version {
         Version::One => COMMAND_MAGIC,
-        Version::Two => COMMAND_MAGIC_2,
-        Version::Three => COMMAND_MAGIC_3,
+        Version::Two => *b"FLOWCMD2",
+        Version::Three => *b"FLOWCMD3",
+        Version::Four => *b"FLOWCMD4",
     }
 }
 

@@ -3,13 +3,12 @@
 ghost use Rattle.wire_records.specs.Laws.{OneRecord, OneCommand, OneRefusal, OneFront, WrittenIsFramed, OneReading, EachIsRead, CommandIsRead, ReadInLater, ReadsItsOwn, CommandIsShort, OneFile, FirstOfFile, FileIsRead};
 ghost use Rattle.std.specs.Prelude.{◌≡◌, ◌↔◌, IsTrue};
 ghost use Rattle.wire_records.specs.Records.{most_body};
-ghost use Rattle.wire_records.specs.declared.version.Version.TheVariants.{One, Two, Three};
+ghost use Rattle.wire_records.specs.declared.version.Version.TheVariants.{One};
 ghost use Rattle.wire_records.specs.Formats.{command_magic_of};
 ghost use Rattle.wire_records.specs.CommandRecords.{most_row, most_row_until};
 
 use crate::{
-    BodyFault, COMMAND_MAGIC, COMMAND_MAGIC_2, COMMAND_MAGIC_3, MOST_BODY, MOST_ROW,
-    MOST_ROW_UNTIL, Refusal, Reply, Version,
+    BodyFault, COMMAND_MAGIC, MOST_BODY, MOST_ROW, MOST_ROW_UNTIL, Refusal, Reply, Version,
 };
 
 /// No record's encoding is a proper prefix of another's, so what was written is read again, whatever
@@ -87,8 +86,6 @@ pub fn file_is_read()
 /// The magic and the limits that the code names are those of the definitions.
 pub fn constants_are_named()
     ensures magic { COMMAND_MAGIC ≡ command_magic_of One }
-    ensures magic_2 { COMMAND_MAGIC_2 ≡ command_magic_of Two }
-    ensures magic_3 { COMMAND_MAGIC_3 ≡ command_magic_of Three }
     ensures most_body { MOST_BODY ≡ most_body }
     ensures most_row { MOST_ROW ≡ most_row }
     ensures most_row_until { MOST_ROW_UNTIL ≡ most_row_until }

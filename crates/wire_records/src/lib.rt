@@ -18,8 +18,8 @@ mod write;
 
 pub use command::{BodyFault, Command, CommandView};
 pub use file::{
-    COMMAND_MAGIC, COMMAND_MAGIC_2, COMMAND_MAGIC_3, MOST_BODY, MOST_RECORD, MOST_ROW,
-    MOST_ROW_UNTIL, command_magic, command_version, is_command_file,
+    COMMAND_MAGIC, MOST_BODY, MOST_RECORD, MOST_ROW, MOST_ROW_UNTIL, command_magic,
+    command_version, is_command_file,
 };
 pub use out_of_memory::Memory;
 pub use place::{PlaceView, RowView};

@@ -10,6 +10,9 @@ pub enum Version {
     Two,
     /// The commands are those of version Two. A move of a price ends by demands in parts of 1/256 of a unit, and not by whole units.
     Three,
+    /// The commands are those of version Two, and moves end as in version Three. A batch in which some order names several assets is
+    /// also searched from joint prices, so that it is skipped more seldom.
+    Four,
 }
 
 impl Version {
@@ -24,6 +27,7 @@ impl Version {
             Version::One => 1,
             Version::Two => 2,
             Version::Three => 3,
+            Version::Four => 4,
         }
     }
 
@@ -35,6 +39,7 @@ impl Version {
             1 => Some(Version::One),
             2 => Some(Version::Two),
             3 => Some(Version::Three),
+            4 => Some(Version::Four),
             _ => None,
         }
     }
@@ -55,8 +60,7 @@ impl Version {
     {
         match self {
             Version::One => 9,
-            Version::Two => 12,
-            Version::Three => 12,
+            Version::Two | Version::Three | Version::Four => 12,
         }
     }
 

@@ -13,6 +13,6 @@ returns c =
     let same = c.settle_single.ensures.orders ∙ c.in_ok-work.ensures.orders in
     let moved = c.into_quoted.ensures.prices ∙ rw (c.in_ok-work.ensures.orders, c.in_ok-work.ensures.prices) at c.settle_single.ensures.prices in
     record {
-      cleared = single_is_own c.args.parts c.requires.some_parts c.args.orders.now c.args.start.now c.into_quoted.result.prices.items c.clear_at.result (subst (All IsOrder) same c.into_quoted.ensures.quoted.priced.each) c.requires.range c.requires.single moved
+      cleared = single_is_own c.args.search c.requires.some_parts c.args.orders.now c.args.start.now c.into_quoted.result.prices.items c.clear_at.result (subst (All IsOrder) same c.into_quoted.ensures.quoted.priced.each) c.requires.range c.requires.single moved
           c.clear_at.ensures;
     }

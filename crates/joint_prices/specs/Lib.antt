@@ -1,0 +1,5 @@
+pub mod Numbers
+pub mod Solving
+pub mod OrderStates
+pub mod Steps
+pub mod Sums

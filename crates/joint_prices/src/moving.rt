@@ -1,0 +1,101 @@
+//! The loops of a step over orders and over assets.
+ghost use Rattle.std.specs.Prelude.{◌≡◌, ℕ, ◌+◌, ◌*◌, ◌^◌, ◌<◌, ◌≤◌, ◌+ℤ◌, pos, unsigned_abs, length, map, All};
+ghost use Rattle.weight_rows.specs.Rows.{IsPrice, IsPricedBy};
+ghost use Rattle.flow_orders.specs.Orders.{IsOrder, most_orders, terms_of};
+ghost use Rattle.flow_orders.specs.Excess.{price_for};
+ghost use Rattle.joint_prices.specs.Numbers.{within};
+ghost use Rattle.joint_prices.specs.OrderStates.{IsShare, line as line_in, order_state, next};
+ghost use Rattle.joint_prices.specs.Steps.{order_states, priced, shared};
+
+use crate::order_states::OrderState;
+use flow_orders::Order;
+
+// Each order with its share, at the prices.
+pub(crate) fn state_all(
+    tau: u64,
+    lines: &[u128],
+    orders: &[Order],
+    shares: &[u32],
+    prices: &[i64],
+    places: &mut [OrderState],
+)
+    requires tau { tau ≤ 2 ^ 60 }
+    requires lines { lines.now ≡ map (λ o. line_in (terms_of o)) orders.now }
+    requires shares { All IsShare shares.now }
+    requires count { length shares.now ≡ length orders.now }
+    requires room { length places.old ≡ length orders.now }
+    requires priced { All (λ o. IsPricedBy o.row prices.now) orders.now }
+    requires range { All IsPrice prices.now }
+    ensures { places.new ≡ order_states tau prices.now orders.now shares.now }
+{
+    for i in 0..orders.len() {
+        let order = &orders[i];
+        places[i] = state_of(tau, lines[i], order, shares[i], prices);
+    }
+}
+
+// An order with its share, at the prices.
+fn state_of(tau: u64, line: u128, order: &Order, share: u32, prices: &[i64]) -> OrderState
+    requires tau { tau ≤ 2 ^ 60 }
+    requires line { line ≡ line_in (terms_of order.now) }
+    requires share { IsShare share }
+    requires priced { IsPricedBy order.now.row prices.now }
+    requires range { All IsPrice prices.now }
+    ensures { result ≡ order_state tau prices.now order.now share }
+{
+    let curve = order.curve();
+    OrderState::new(tau, line, curve, order.row().price(prices), share)
+}
+
+// The share of each order after a step in which prices move by amounts.
+pub(crate) fn share_all(orders: &[Order], places: &[OrderState], by: &[i64], shares: &mut [u32])
+    requires count { length shares.old ≡ length orders.now }
+    requires room { length places.now ≡ length orders.now }
+    requires shares { All IsShare shares.old }
+    requires priced { All (λ o. IsPricedBy o.row by.now) orders.now }
+    requires range { All IsPrice by.now }
+    ensures value { shares.new ≡ shared by.now orders.now places.now }
+    ensures shares { All IsShare shares.new }
+{
+    for i in 0..orders.len() {
+        let order = &orders[i];
+        let share = share_of(order, places[i], by);
+        shares[i] = share;
+    }
+}
+
+// The share of an order after a step in which prices move by amounts.
+fn share_of(order: &Order, place: OrderState, by: &[i64]) -> u32
+    requires priced { IsPricedBy order.now.row by.now }
+    requires range { All IsPrice by.now }
+    ensures value { result ≡ next (price_for by.now order.now) place }
+    ensures share { IsShare result }
+{
+    place.next(order.row().price(by))
+}
+
+// The prices after their moves.
+pub(crate) fn move_all(by: &[i64], prices: &mut [i64])
+    requires count { length by.now ≡ length prices.old }
+    requires range { All IsPrice prices.old }
+    requires small { All IsPrice by.now }
+    ensures value { prices.new ≡ priced prices.old by.now }
+    ensures range { All IsPrice prices.new }
+{
+    for a in 0..prices.len() {
+        let price = moved(prices[a], by[a]);
+        prices[a] = price;
+    }
+}
+
+// A price after its move.
+fn moved(price: i64, by: i64) -> i64
+    requires price { IsPrice price }
+    requires by { IsPrice by }
+    ensures value { result ≡ within 61 (price +ℤ by) }
+    ensures range { IsPrice result }
+{
+    let most = 1 << 61;
+    let sum = i128::from(price) + i128::from(by);
+    sum.clamp(-most, most) as i64
+}
