@@ -1,9 +1,12 @@
 """The built program, for the tools: where it is, journals that it finds valid, and what is put before it."""
 import functools
+import io
 import os
 import shutil
 import subprocess
 import sys
+
+from kept_file import Damaged, Foreign, put_history
 
 TOP = os.path.realpath(f"{__file__}/../../..")
 
@@ -33,6 +36,27 @@ def output_of(word, given):
     if ran.returncode:
         sys.exit(ran.returncode)
     return ran.stdout
+
+
+def history_of(place):
+    """The history in a file: what it holds, or what it keeps if it is one that `flow keep` writes."""
+    held, kept = bytes_of(place), io.BytesIO()
+    if not held.startswith(b"FLOWDSK"):
+        return held
+    try:
+        put_history(io.BytesIO(held), kept)
+    except Foreign:
+        sys.exit(f"{os.path.basename(sys.argv[0])}: {place} is not a flow disk")
+    except Damaged as at:
+        sys.exit(f"{os.path.basename(sys.argv[0])}: {place} is damaged at byte {at}")
+    return kept.getvalue()
+
+
+def valid_history(place):
+    """The bytes of the history in a file, which `flow audit` finds valid."""
+    history = history_of(place)
+    output_of("audit", history)
+    return history
 
 
 def legal_journal(place):

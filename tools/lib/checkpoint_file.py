@@ -206,3 +206,11 @@ def day_from(kept, pairs=b""):
     day.orders = {order.number: placed(order) for order in kept.orders}
     day.go_on(pairs)
     return day
+
+
+def day_of(history):
+    """The day of a valid history: a journal, or a checkpoint and the entries after it."""
+    if not history.startswith(MAGIC):
+        return Day(history)
+    kept, size = consistent_market(history)
+    return day_from(kept, history[size:])

@@ -1,6 +1,8 @@
 """A reader of the files that `flow keep` writes, and files that it may write, by the formats alone."""
 import struct
+from collections import namedtuple
 
+import checkpoint_file
 from formats import HEAD, VERSIONS
 
 # By the version of the journal.
@@ -8,12 +10,15 @@ MAGICS = {version: b"FLOWDSK%d" % version for version in VERSIONS}
 MAGIC = MAGICS[2]
 OPEN, CLOSED = b"\x01", b"\0"
 
-# A file of at most this many bytes is a new one, whatever it holds.
+# A file of at most this many bytes is a new one, whatever it holds. A longer one is new if its first commit byte isn't set.
 MOST_NEW = 9
 
 # The longest bodies of a command's record and of a reply's.
 MOST_ASKED, MOST_ANSWERED = 1_024, 262_144
 LONGEST = MOST_ASKED + MOST_ANSWERED + 2 * HEAD
+
+# How a file begins that isn't new: its version, and the checkpoint in its first entry, or no bytes.
+Head = namedtuple("Head", "version checkpoint")
 
 
 class Foreign(Exception):
@@ -35,23 +40,41 @@ def is_pair(pair):
     return place == len(pair)
 
 
+def is_new(front):
+    """Whether a file that begins with these bytes, or has just these, is a new one."""
+    return len(front) <= MOST_NEW or front[:len(MAGIC)] in MAGICS.values() and front[len(MAGIC):MOST_NEW] != OPEN
+
+
+def first_checkpoint(file, version):
+    """The checkpoint in the first entry of an open file, which is behind the magic, or no bytes if no entry of the file has one."""
+    gate, length, front = file.read(1), int.from_bytes(file.read(4), "big"), file.read(len(checkpoint_file.MAGIC))
+    if gate != OPEN or front != checkpoint_file.MAGIC:
+        file.seek(len(MAGIC))
+        return b""
+    held = front + file.read(max(0, length - len(front)))
+    market, size = checkpoint_file.consistent_market(held)
+    if market is None or size != length or market.version != version:
+        raise Damaged(len(MAGIC))
+    return held
+
+
 def begin(file):
-    """Looks at the beginning of an open file, after which entries may follow: its version, or None if it is a new one."""
+    """How an open file begins, which entries may follow, or None if it is a new one."""
     front = file.read(MOST_NEW + 1)
     file.seek(len(MAGIC))
-    if len(front) <= MOST_NEW:
+    if is_new(front):
         return None
     for version, magic in MAGICS.items():
         if front.startswith(magic):
-            return version
+            return Head(version, first_checkpoint(file, version))
     raise Foreign
 
 
 def kept_pairs(file):
-    """The entries that an open file keeps, one after the other."""
+    """The entries that an open file keeps after its beginning, one after the other."""
     if begin(file) is None:
         return
-    place = len(MAGIC)
+    place = file.tell()
     while True:
         gate = file.read(1)
         if not gate:
@@ -66,6 +89,25 @@ def kept_pairs(file):
         place += 1 + 4 + length
 
 
-def file_of(pairs, behind=CLOSED, version=2):
-    """The bytes of a file that keeps these entries of a version, and what follows them."""
-    return MAGICS[version] + b"".join(OPEN + struct.pack(">I", len(pair)) + pair for pair in pairs) + behind
+# Of a new file, which has no version yet.
+NO_VERSION_YET = Head(2, b"")
+
+
+def put_history(file, out):
+    """Writes the history that an open file keeps: its checkpoint, or the magic of a journal, and its entries."""
+    head = begin(file) or NO_VERSION_YET
+    out.write(head.checkpoint or b"FLOWJNL%d" % head.version)
+    file.seek(0)
+    for pair in kept_pairs(file):
+        out.write(pair)
+
+
+def entry(held):
+    """An entry as it is stored, with its commit byte set."""
+    return OPEN + struct.pack(">I", len(held)) + held
+
+
+def file_of(pairs, behind=CLOSED, version=2, checkpoint=b""):
+    """The bytes of a file that keeps these entries of a version, after a checkpoint or none, and what follows them."""
+    first = entry(checkpoint) if checkpoint else b""
+    return MAGICS[version] + first + b"".join(map(entry, pairs)) + behind

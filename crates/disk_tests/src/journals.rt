@@ -1,13 +1,15 @@
 //! A journal on a disk: what it holds, what a stop in any call leaves, faults, and disks that hold something else.
-ghost use Rattle.std.specs.Prelude.{ℕ, ◌≤◌, List, Some, IfOk, IfSome, length};
+ghost use Rattle.std.specs.Prelude.{ℕ, ◌<◌, ◌^◌, List, Some, IfOk, IfSome, length};
 ghost use Rattle.wire_records.specs.declared.version.Version.{Version as version_value};
 ghost use Rattle.journal_disk.specs.Pairs.{RecordPair};
-ghost use Rattle.journal_disk.specs.Entries.{Holds, EndsAt};
+ghost use Rattle.journal_disk.specs.Entries.{Head, IsNewDisk, Holds, EndsAt};
 ghost use Rattle.journal_disk.specs.Looking.{OnlyLooks};
 ghost use Rattle.journal_disk.specs.Recovering.{IsFound};
 
 use disk_edge::Disk;
-use journal_disk::{Ahead, Appender, DiskFault, DiskJournal, Step, is_whole_pair, recover};
+use journal_disk::{
+    Ahead, Appender, DiskFault, DiskJournal, Step, is_whole_pair, recover, stored_first,
+};
 use memory_disk::MemoryDisk;
 use std::alloc::Global;
 use std::process::Abort;
@@ -38,8 +40,8 @@ fn read_kept<D: Disk>(
     lasts: &mut Vec<u8>,
     pair: &mut Vec<u8>,
 ) -> Result<(), DiskFault>
-    ensures ends { IfOk result (λ _. (version : version_value) (pairs : List RecordPair) (rest : List ℕ) →
-        Holds version pairs journal.old rest (D.state disk.old) → (found : List RecordPair) × EndsAt version found journal.new (D.state disk.new)) }
+    ensures ends { IfOk result (λ _. (head : Head) (pairs : List RecordPair) (rest : List ℕ) →
+        Holds head pairs journal.old rest (D.state disk.old) → (found : List RecordPair) × EndsAt head found journal.new (D.state disk.new)) }
     ensures looks { OnlyLooks (D.state disk.old) (D.state disk.new) }
 {
     let mut ahead = Ahead::new(alloc, disk)?;
@@ -53,7 +55,7 @@ fn read_kept<D: Disk>(
 
 // Makes a new disk one of version Two, and adds an entry.
 fn keep_first<D: Disk>(alloc: Global, disk: &mut D, pair: &[u8]) -> Result<(), DiskFault>
-    requires new { IfSome (D.state disk.old).content (λ bytes. length bytes ≤ 9) }
+    requires new { IfSome (D.state disk.old).content IsNewDisk }
 {
     let mut appender = Appender::for_new(alloc)?;
     appender.make(disk, Version::Two)?;
@@ -155,11 +157,11 @@ fn stop_in_any_call(rt: HostRuntime) -> Result<(), Fail> {
     Ok(())
 }
 
-// Each call fails in turn. An empty disk is opened, made and added to by 8 calls.
+// Each call fails in turn. An empty disk is opened by two calls, made by three, and added to by four.
 #[test]
 fn each_call_fails(rt: HostRuntime) -> Result<(), Fail> {
     let alloc = rt.alloc();
-    for call in 1..9 {
+    for call in 1..10 {
         let mut disk = disk_of(alloc, b"", &[call])?;
         assert_eq!(rt;
             keep(alloc, &mut disk, &FIRST).err(),
@@ -167,9 +169,9 @@ fn each_call_fails(rt: HostRuntime) -> Result<(), Fail> {
             "call {call}"
         );
     }
-    let mut disk = disk_of(alloc, b"", &[9])?;
+    let mut disk = disk_of(alloc, b"", &[10])?;
     keeps(&rt, alloc, &mut disk, &FIRST, b"");
-    assert_eq!(rt; disk.recorded(), 8);
+    assert_eq!(rt; disk.recorded(), 9);
     Ok(())
 }
 
@@ -200,7 +202,7 @@ fn broken_disks(rt: HostRuntime) -> Result<(), Fail> {
     Ok(())
 }
 
-// At most nine bytes are a new disk, and a commit byte of any value but 1 ends a journal too.
+// At most nine bytes are a new disk, and so is one whose first commit byte has any value but 1.
 #[test]
 fn new_disks(rt: HostRuntime) -> Result<(), Fail> {
     let alloc = rt.alloc();
@@ -213,6 +215,59 @@ fn new_disks(rt: HostRuntime) -> Result<(), Fail> {
         let mut disk = disk_of(alloc, bytes, &[])?;
         keeps(&rt, alloc, &mut disk, &FIRST, b"");
         keeps(&rt, alloc, &mut disk, &SECOND, b"\x01");
+    }
+    Ok(())
+}
+
+// Makes a new disk one of version Two whose first entry holds these bytes.
+fn keep_point<D: Disk>(alloc: Global, disk: &mut D, point: &[u8]) -> Result<(), DiskFault>
+    requires new { IfSome (D.state disk.old).content IsNewDisk }
+    requires short { length point.now < 2 ^ 32 }
+{
+    let stored = stored_first(alloc, point)?;
+    let mut appender = Appender::for_new(alloc)?;
+    appender.make(disk, Version::Two)?;
+    appender.append_first(disk, &stored)
+}
+
+// Returns the bytes of a first entry that begins with a magic, and moves on past it.
+fn read_point<D: Disk>(
+    alloc: Global,
+    journal: &mut DiskJournal,
+    disk: &mut D,
+    magic: &[u8],
+) -> Result<Option<Vec<u8>>, DiskFault> {
+    let mut ahead = Ahead::new(alloc, disk)?;
+    match journal.find_first(disk, &mut ahead, magic)? {
+        Some(count) => {
+            let point = journal.first(&ahead, count).to_vec(alloc)?;
+            journal.pass(count);
+            Ok(Some(point))
+        }
+        None => Ok(None),
+    }
+}
+
+// A first entry that holds none of the journal is found by its magic, and by no other.
+#[test]
+fn first_entry_is_found(rt: HostRuntime) -> Result<(), Fail> {
+    let alloc = rt.alloc();
+    let mut disk = disk_of(alloc, b"", &[])?;
+    if recover(&mut disk) == Ok(None) {
+        assert_eq!(rt; keep_point(alloc, &mut disk, b"POINT"), Ok(()));
+    }
+    assert_eq!(rt; disk.bytes(), b"FLOWDSK2\x01\0\0\0\x05POINT\0".as_slice());
+    let mut journal = DiskJournal::behind_magic();
+    for (magic, want) in [
+        (b"POINTS".as_slice(), None),
+        (b"OTHER", None),
+        (b"POI", Some(b"POINT".as_slice())),
+        (b"", None),
+    ] {
+        match read_point(alloc, &mut journal, &mut disk, magic) {
+            Ok(found) => assert_eq!(rt; found.as_deref(), want),
+            Err(fault) => assert!(rt; false, "{fault:?}"),
+        }
     }
     Ok(())
 }

@@ -11,4 +11,5 @@ pub mod GoingOn
 pub mod Excluding
 pub mod Undamaged
 pub mod OpenedEntries
-mod Pieces
+pub mod Pieces
+pub mod FirstEntry

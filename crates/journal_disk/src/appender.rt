@@ -1,15 +1,14 @@
-ghost use Rattle.std.specs.Prelude.{◌≡◌, ◌≢◌, ◌≤◌, ◌+◌, ◌^◌, ◌++◌, [], ◌∷◌, List, length, IfSome, IsSome, ◌↔◌, IfOk, IfErr, OnOk, OnErr, Err, IsErrOf, ◌⊎◌, ℕ, Some, vec_capacity};
-ghost use Rattle.wire_records.specs.declared.version.Version.{Version};
+ghost use Rattle.std.specs.Prelude.{◌≡◌, ◌≢◌, ◌≤◌, ◌+◌, ◌^◌, ◌++◌, [], ◌∷◌, List, length, IfSome, IsSome, ◌↔◌, IfOk, IfErr, OnOk, OnErr, Err, IsErrOf, ◌⊎◌, ℕ, Some, None, vec_capacity};
 ghost use Rattle.journal_records.specs.Pairs.{longest_pair};
 ghost use Rattle.journal_disk.specs.Pairs.{RecordPair, IsRecordPair, pair_bytes, IsWholePair};
 ghost use Rattle.disk_edge.specs.Disks.{AtEachMoment};
 ghost use Rattle.disk_edge.specs.Images.{LeavesOnly};
-ghost use Rattle.journal_disk.specs.Entries.{framed, WithOrWithout, Keeps};
+ghost use Rattle.journal_disk.specs.Entries.{Head, framed, IsNewDisk, WithOrWithout, Keeps};
 ghost use Rattle.journal_disk.specs.Lengths.{ReachesAtMost};
 ghost use Rattle.flow_io.specs.Faults.{Blames};
 
 use crate::DiskFault;
-use crate::calls::{make_new, open_gate, write_synced};
+use crate::calls::{clear, make_new, open_gate, write_synced};
 use crate::pairs::LONGEST_PAIR;
 use disk_edge::Disk;
 use std::alloc::{AllocError, Global};
@@ -19,7 +18,7 @@ use wire_fields::{put_bytes, put_u8, put_u32};
 /// Appends entries to those that a disk keeps. Contracts see it as the place of the unset commit byte after them.
 #[derive(Drop)]
 pub struct Appender {
-    place: u64,
+    pub(crate) place: u64,
     entry: Vec<u8>,
 }
 
@@ -66,24 +65,26 @@ impl Appender {
         Appender::at(alloc, 8)
     }
 
-    /// Gives a version to a new disk, of at most 9 bytes, by the magic and an unset commit byte. A crash at any moment
-    /// leaves a new disk. The only error is `Failed`, and only if the disk's count rose. Takes no memory.
+    /// Gives a version to a new disk, by the magic and an unset commit byte. What a new disk of more than 9 bytes held
+    /// is cut off before. A crash at any moment leaves a new disk. The only error is `Failed`, and only if the disk's
+    /// count rose. Takes no memory.
     pub fn make<D: Disk>(
         &mut self,
         disk: &mut D,
         version: wire_records::Version,
     ) -> Result<(), DiskFault>
-        requires new { IfSome (D.state disk.old).content (λ bytes. length bytes ≤ 9) }
+        requires new { IfSome (D.state disk.old).content IsNewDisk }
         requires first { self.old ≡ 8 }
-        ensures keeps { OnOk result (IfSome (D.state disk.old).content (λ _. Keeps version [] self.new (D.state disk.new))) }
+        ensures keeps { OnOk result (IfSome (D.state disk.old).content (λ _. Keeps (record { version = version; first = None }) [] self.new (D.state disk.new))) }
         ensures moments { (bytes : List ℕ) → (D.state disk.old).content ≡ Some bytes → LeavesOnly (D.state disk.old).images bytes →
-            AtEachMoment (D.state disk.old) (D.state disk.new) (λ image. length image ≤ 9) }
+            AtEachMoment (D.state disk.old) (D.state disk.new) IsNewDisk }
         ensures lengths { ReachesAtMost 9 (D.state disk.old) (D.state disk.new) }
         ensures told { OnOk result (IsSome (D.state disk.new).content ↔ IsSome (D.state disk.old).content) }
         ensures place { self.new ≡ 8 }
         ensures failed { OnErr result (result ≡ Err DiskFault.Failed) }
         ensures cause { Blames (IsErrOf result DiskFault.Failed) (D.state disk.old).faults (D.state disk.new).faults }
     {
+        clear(disk)?;
         make_new(disk, version)?;
         Ok(())
     }
@@ -95,13 +96,13 @@ impl Appender {
         requires pair { IsWholePair pair.now }
         requires room { self.old ≤ 2 ^ 61 }
         requires kept { IfSome (D.state disk.old).content
-            (λ _. (version : Version) × (pairs : List RecordPair) × Keeps version pairs self.old (D.state disk.old)) }
-        ensures kept { OnOk result ((version : Version) (pairs : List RecordPair) (last : RecordPair) →
-            Keeps version pairs self.old (D.state disk.old) → IsRecordPair last → pair.now ≡ pair_bytes last →
-            Keeps version (pairs ++ last ∷ []) self.new (D.state disk.new)) }
-        ensures moments { (version : Version) (pairs : List RecordPair) (last : RecordPair) →
-            Keeps version pairs self.old (D.state disk.old) → IsRecordPair last → pair.now ≡ pair_bytes last →
-            AtEachMoment (D.state disk.old) (D.state disk.new) (WithOrWithout version pairs last) }
+            (λ _. (head : Head) × (pairs : List RecordPair) × Keeps head pairs self.old (D.state disk.old)) }
+        ensures kept { OnOk result ((head : Head) (pairs : List RecordPair) (last : RecordPair) →
+            Keeps head pairs self.old (D.state disk.old) → IsRecordPair last → pair.now ≡ pair_bytes last →
+            Keeps head (pairs ++ last ∷ []) self.new (D.state disk.new)) }
+        ensures moments { (head : Head) (pairs : List RecordPair) (last : RecordPair) →
+            Keeps head pairs self.old (D.state disk.old) → IsRecordPair last → pair.now ≡ pair_bytes last →
+            AtEachMoment (D.state disk.old) (D.state disk.new) (WithOrWithout head pairs last) }
         ensures lengths { ReachesAtMost (self.old + (6 + length pair.now)) (D.state disk.old) (D.state disk.new) }
         ensures told { OnOk result (IsSome (D.state disk.new).content ↔ IsSome (D.state disk.old).content) }
         ensures place { OnOk result (self.new ≡ self.old + (5 + length pair.now)) }

@@ -1,10 +1,10 @@
 //! Sequences of disk calls, and calls that change nothing.
-ghost use Rattle.std.specs.Prelude.{◌≡◌, ◌≤◌, ◌<◌, ◌+◌, ◌^◌, ◌↔◌, ◌++◌, [], ◌∷◌, IsTrue, length, take, drop, slice_index, option_map, IfSome, IfOk, OnOk, IsErr};
+ghost use Rattle.std.specs.Prelude.{◌≡◌, ◌≤◌, ◌<◌, ◌+◌, ◌^◌, ◌↔◌, ◌++◌, ℕ, List, [], ◌∷◌, Some, length, take, drop, slice_index, option_map, IfSome, IsSome, IfOk, OnOk, IsErr};
 ghost use Rattle.disk_edge.specs.Disks.{AtEachMoment};
 ghost use Rattle.flow_io.specs.Faults.{Blames};
 ghost use Rattle.disk_edge.specs.Images.{written, TornWrite, TornCut, After, LeavesOnly};
 ghost use Rattle.wire_fields.specs.Numbers.{unsigned};
-ghost use Rattle.journal_disk.specs.Entries.{disk_magic_of};
+ghost use Rattle.journal_disk.specs.Entries.{disk_magic_of, IsNewDisk};
 ghost use Rattle.journal_disk.specs.Recovering.{IsMagicOf};
 ghost use Rattle.journal_disk.specs.Looking.{OnlyLooks};
 ghost use Rattle.journal_disk.specs.Lengths.{ReachesAtMost};
@@ -15,6 +15,9 @@ use wire_records::Version;
 
 // A commit byte that is set. Any other byte is an unset one.
 pub(crate) const OPEN: u8 = 1;
+
+// The most bytes of a disk that is new whatever it holds.
+pub(crate) const MOST_NEW: u64 = 9;
 
 // Writes the bytes at a place. At Ok they outlast a crash.
 pub(crate) fn write_synced<D: Disk>(
@@ -99,16 +102,45 @@ pub(crate) fn read_from<D: Disk>(
     disk.read_at(place, into)
 }
 
-// Returns the version whose magic the disk begins with. The disk has 8 bytes at least.
-pub(crate) fn version_of<D: Disk>(disk: &mut D) -> Result<Option<Version>, DiskFailed>
-    requires { IfSome (D.state disk.old).content (λ bytes. 8 ≤ length bytes) }
-    ensures magic { IfOk result (λ found. IfSome (D.state disk.old).content (IsMagicOf found)) }
+// What a disk begins with: the version of its magic, if it has one, and its first commit byte.
+#[derive(Clone, Copy)]
+pub(crate) struct Front {
+    pub(crate) version: Option<Version>,
+    pub(crate) gate: u8,
+}
+
+// Returns what the disk begins with, which has 9 bytes at least.
+pub(crate) fn front_of<D: Disk>(disk: &mut D) -> Result<Front, DiskFailed>
+    requires { IfSome (D.state disk.old).content (λ bytes. 9 ≤ length bytes) }
+    ensures magic { IfOk result (λ front. IfSome (D.state disk.old).content (IsMagicOf front.version)) }
+    ensures gate { IfOk result (λ front. IfSome (D.state disk.old).content (λ bytes. front.gate ≡ slice_index bytes 8)) }
     ensures looks { OnlyLooks (D.state disk.old) (D.state disk.new) }
     ensures cause { Blames (IsErr result) (D.state disk.old).faults (D.state disk.new).faults }
 {
-    let mut front = [0; 8];
+    let mut front = [0; 9];
     read_from(disk, 0, &mut front)?;
-    Ok(disk_version(&front))
+    Ok(Front {
+        version: disk_version(&front),
+        gate: front[8],
+    })
+}
+
+// Cuts a disk to no bytes, if it has more than 9.
+pub(crate) fn clear<D: Disk>(disk: &mut D) -> Result<(), DiskFailed>
+    ensures short { OnOk result (IfSome (D.state disk.new).content (λ bytes. length bytes ≤ 9)) }
+    ensures told { OnOk result (IsSome (D.state disk.new).content ↔ IsSome (D.state disk.old).content) }
+    ensures images { OnOk result ((bytes : List ℕ) → (D.state disk.old).content ≡ Some bytes → LeavesOnly (D.state disk.old).images bytes →
+        (image : List ℕ) → (D.state disk.new).images image → length image ≤ 9) }
+    ensures moments { (bytes : List ℕ) → (D.state disk.old).content ≡ Some bytes → IsNewDisk bytes → LeavesOnly (D.state disk.old).images bytes →
+        AtEachMoment (D.state disk.old) (D.state disk.new) IsNewDisk }
+    ensures lengths { ReachesAtMost 0 (D.state disk.old) (D.state disk.new) }
+    ensures cause { Blames (IsErr result) (D.state disk.old).faults (D.state disk.new).faults }
+{
+    let length = length_of(disk)?;
+    if length > MOST_NEW {
+        cut_synced(disk, 0)?;
+    }
+    Ok(())
 }
 
 // Makes the disk a new one of a version: the magic, and an unset commit byte.

@@ -1,8 +1,7 @@
 ghost use Rattle.std.specs.Prelude.{◌≡◌, ◌≢◌, ◌⊎◌, ◌≤◌, ◌<◌, ◌+◌, ◌^◌, [], ◌∷◌, ℕ, List, length, IfSome, IsSome, ◌↔◌, IfOk, IfErr, IsErrOf, Err, OnOk, OnErr};
-ghost use Rattle.wire_records.specs.declared.version.Version.{Version as version_value};
 ghost use Rattle.journal_disk.specs.Pairs.{RecordPair, IsRecordPair, pair_bytes, IsWholePair};
 ghost use Rattle.disk_edge.specs.Disks.{AtEachMoment};
-ghost use Rattle.journal_disk.specs.Entries.{StandsFor, Holds, EndsAt, Keeps};
+ghost use Rattle.journal_disk.specs.Entries.{Head, StandsFor, Holds, EndsAt, Keeps};
 ghost use Rattle.flow_io.specs.Faults.{Blames};
 ghost use Rattle.journal_disk.specs.Looking.{OnlyLooks};
 ghost use Rattle.journal_disk.specs.Lengths.{ReachesAtMost};
@@ -12,7 +11,7 @@ ghost use Rattle.journal_disk.specs.Recovering.{IsForeign, IsFound};
 
 use crate::ahead::Ahead;
 use crate::appender::Appender;
-use crate::calls::{OPEN, cut_synced, synced_length, version_of};
+use crate::calls::{MOST_NEW, OPEN, cut_synced, front_of, synced_length};
 use crate::fault::{DiskFault, Step};
 use crate::pairs::whole_pair;
 use crate::reading::{byte_at, stated_at};
@@ -22,16 +21,13 @@ use std::alloc::Global;
 use std::marker::Model;
 use wire_records::Version;
 
-// The most bytes that a new disk has.
-const MOST_NEW: u64 = 9;
-
 // The most bytes that a journal has.
-const MOST_BYTES: u64 = 1 << 60;
+pub(crate) const MOST_BYTES: u64 = 1 << 60;
 
 /// Opens a disk that a crash may have left, after a sync, and returns its version; `None` exactly if it is new, which
-/// is a disk of at most 9 bytes, whatever it holds. Returns `NotDisk` exactly if it has more than 2^60 bytes, or more
-/// than 9 that begin with none of the magics, and `Failed` only if the disk's count rose. Takes no memory, and changes
-/// nothing of the disk.
+/// is a disk of at most 9 bytes, whatever it holds, or one whose first commit byte isn't set. Returns `NotDisk` exactly
+/// if it has more than 2^60 bytes, or more than 9 that begin with none of the magics, and `Failed` only if the disk's
+/// count rose. Takes no memory, and changes nothing of the disk.
 pub fn recover<D: Disk>(disk: &mut D) -> Result<Option<Version>, DiskFault>
     ensures found { IfOk result (λ found. IfSome (D.state disk.old).content (λ bytes. IsFound found bytes (D.state disk.new))) }
     ensures foreign { IsErrOf result DiskFault.NotDisk → IfSome (D.state disk.old).content IsForeign }
@@ -46,8 +42,14 @@ pub fn recover<D: Disk>(disk: &mut D) -> Result<Option<Version>, DiskFault>
     if length > MOST_BYTES {
         return Err(DiskFault::NotDisk);
     }
-    match version_of(disk)? {
-        Some(version) => Ok(Some(version)),
+    let front = front_of(disk)?;
+    match front.version {
+        Some(version) => {
+            if front.gate != OPEN {
+                return Ok(None);
+            }
+            Ok(Some(version))
+        }
         None => Err(DiskFault::NotDisk),
     }
 }
@@ -55,7 +57,7 @@ pub fn recover<D: Disk>(disk: &mut D) -> Result<Option<Version>, DiskFault>
 /// A disk's journal while it is read. Contracts see it as the place of the next commit byte.
 #[derive(Drop)]
 pub struct DiskJournal {
-    place: u64,
+    pub(crate) place: u64,
 }
 
 impl Model for DiskJournal {
@@ -176,11 +178,11 @@ impl DiskJournal {
     /// in which entries are put together.
     pub fn begin<D: Disk>(self, alloc: Global, disk: &mut D) -> Result<Appender, DiskFault>
         requires { IfSome (D.state disk.old).content
-            (λ _. (version : version_value) × (pairs : List RecordPair) × EndsAt version pairs self (D.state disk.old)) }
-        ensures keeps { IfOk result (λ appender. (version : version_value) (pairs : List RecordPair) →
-            EndsAt version pairs self (D.state disk.old) → Keeps version pairs appender (D.state disk.new)) }
-        ensures moments { (version : version_value) (pairs : List RecordPair) → EndsAt version pairs self (D.state disk.old) →
-            AtEachMoment (D.state disk.old) (D.state disk.new) (StandsFor version pairs) }
+            (λ _. (head : Head) × (pairs : List RecordPair) × EndsAt head pairs self (D.state disk.old)) }
+        ensures keeps { IfOk result (λ appender. (head : Head) (pairs : List RecordPair) →
+            EndsAt head pairs self (D.state disk.old) → Keeps head pairs appender (D.state disk.new)) }
+        ensures moments { (head : Head) (pairs : List RecordPair) → EndsAt head pairs self (D.state disk.old) →
+            AtEachMoment (D.state disk.old) (D.state disk.new) (StandsFor head pairs) }
         ensures lengths { ReachesAtMost 0 (D.state disk.old) (D.state disk.new) }
         ensures told { OnOk result (IsSome (D.state disk.new).content ↔ IsSome (D.state disk.old).content) }
         ensures place { IfOk result (λ appender. (appender ≡ self) × (appender ≤ 2 ^ 60)) }

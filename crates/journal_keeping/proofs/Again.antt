@@ -1,16 +1,26 @@
 -- What a run leaves is a disk that a run may begin on, and that can be opened.
-use Rattle.std.proofs.Common.{inl, inr, ⊎_elim, ◌+◌, ◌^◌, length, arith}
+use Rattle.std.proofs.Common.{ℕ, List, [], inl, inr, ⊎_elim, ◌+◌, ◌^◌, length, refl, arith}
+use Rattle.wire_records.specs.declared.version.Version.TheVariants.{One}
+use Rattle.market_rules.specs.Market.{empty_market}
+use Rattle.market_history.specs.Histories.{Empty}
 use Rattle.disk_edge.specs.Disks.{DiskState}
+use Rattle.journal_disk.specs.Entries.{IsNewDisk}
 use Rattle.journal_keeping.specs.Laws.{CanBeginAgain}
+use Rattle.journal_keeping.specs.Keeping.{IsLegalImage}
+use Rattle.journal_keeping.proofs.Auditing.{none_read}
 use Rattle.journal_keeping.proofs.Legal.{firsts_are_legal}
 use Rattle.journal_keeping.proofs.Opened.{legal_is_opened}
 
+-- a new disk represents a journal without entries
+new_is_legal : (image : List ℕ) → IsNewDisk image → IsLegalImage image
+new_is_legal image is_new = (Empty One, [], empty_market One, none_read (Empty One) (empty_market One) tt refl, inl (record { is_new = is_new; no_first = refl; none = refl }))
+
 pub can_begin_again : (start end : DiskState) → CanBeginAgain start end
 can_begin_again start end = record {
-  during = λ version of old new market before after records holds on run image left.
-      ⊎_elim (λ early. holds.each image early) (λ keeps. firsts_are_legal of old new before after records 0 (length new) image on keeps) (run.each image left);
-  returned = λ version of old new market before after records acknowledged holds on returns image left.
-      ⊎_elim (λ early. holds.each image early.0) (λ keeps. firsts_are_legal of old new before after records acknowledged (acknowledged + 1) image on keeps) (returns image left);
+  during = λ begin of old new market before after records holds on run image left.
+      ⊎_elim (λ early. holds.each image early) (λ later. ⊎_elim (λ keeps. firsts_are_legal of old new before after records 0 (length new) image on keeps) (λ still. new_is_legal image still.1) later) (run.each image left);
+  returned = λ begin of old new market before after records acknowledged holds on returns image left.
+      ⊎_elim (λ early. holds.each image early.0) (λ later. ⊎_elim (λ keeps. firsts_are_legal of old new before after records acknowledged (acknowledged + 1) image on keeps) (λ still. new_is_legal image still.0.1) later) (returns image left);
   opened = λ limit count content few brings short grows again image left opens is.
       let legal = again.stopped image left in
       let size = (grows (2 ^ 59) count (omega arith) short brings).each image left in

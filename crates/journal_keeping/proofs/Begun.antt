@@ -1,33 +1,37 @@
 -- A disk that is opened, up to the commit byte after its entries.
-use Rattle.std.proofs.Common.{◌≡◌, ◌⊎◌, ⊎_elim, inl, inr, ℕ, ◌≤◌, ◌<◌, List, [], ◌∷◌, ◌++◌, Option, Some, None, IfSome, IsSome, Result, Err, length, map, drop, refl, sym, ap, subst, ◌∙◌, arith}
+use Rattle.std.proofs.Common.{◌≡◌, ◌⊎◌, ⊎_elim, inl, inr, ℕ, List, [], ◌∷◌, ◌++◌, Option, Some, None, IfSome, IsSome, Result, Err, length, map, drop, refl, sym, ap, subst, ◌∙◌, arith}
 use Rattle.wire_records.specs.Records.{Record}
 use Rattle.wire_records.specs.Commands.{Pair}
 use Rattle.wire_records.specs.declared.version.Version.{Version}
 use Rattle.flow_orders.specs.Outcomes.{Outcome}
 use Rattle.journal_records.specs.Formats.{records_of}
 use Rattle.market_rules.specs.Market.{Market, empty_market}
-use Rattle.disk_edge.specs.Disks.{DiskState, IsDisk, AtEachMoment}
+use Rattle.market_history.specs.Histories.{Start, Empty, market_of, CanStart}
+use Rattle.disk_edge.specs.Disks.{DiskState, AtEachMoment}
 use Rattle.file_units.proofs.Gone.{went_well}
 use Rattle.disk_edge.proofs.Moments.{weaker, then_more}
 use Rattle.disk_edge.specs.Images.{LeavesOnly}
 use Rattle.journal_disk.specs.declared.fault.DiskFault.{DiskFault}
 use Rattle.journal_disk.specs.declared.fault.DiskFault.TheVariants as disk
 use Rattle.journal_disk.specs.Pairs.{RecordPair}
-use Rattle.journal_disk.specs.Entries.{entries, HasEntries, StandsFor, Holds, EndsAt}
-use Rattle.journal_disk.specs.Entries.{Keeps}
+use Rattle.journal_disk.specs.Entries.{Head, entries, HasEntries, IsNewDisk, StandsFor, Holds, EndsAt, Keeps}
 use Rattle.journal_disk.specs.Looking.{OnlyLooks}
 use Rattle.journal_disk.specs.Recovering.{IsForeign, IsFound}
-use Rattle.journal_disk.proofs.OneList.{short_none, one_list, one_version}
+use Rattle.journal_disk.specs.Stepping.{IsDamagedAt}
+use Rattle.journal_disk.proofs.Entries.{length-entries, least}
+use Rattle.journal_disk.proofs.OneList.{new_none, few_none}
+use Rattle.journal_disk.proofs.GoingOn.{looks_hold}
 use Rattle.journal_keeping.specs.declared.fault.KeepFault.{KeepFault}
-use Rattle.journal_keeping.specs.declared.fault.KeepFault.TheVariants.{Read, Write, Disk, Memory, NotDisk, Damaged, Rejected, NotFlow, Torn, TooLong}
+use Rattle.journal_keeping.specs.declared.fault.KeepFault.TheVariants.{Read, Write, Disk, Memory, NotDisk, Damaged, Rejected, NotFlow, BadCheckpoint, Torn, TooLong}
 use Rattle.journal_keeping.specs.Faults.{kept_fault}
-use Rattle.journal_keeping.specs.Keeping.{IsKeptJournal, StandsForJournal, HoldsLegal, GoesOnIn}
+use Rattle.journal_keeping.specs.Starts.{version_of, head_of, HasFirst}
+use Rattle.journal_keeping.specs.Keeping.{IsKeptJournal, StandsForJournal, HoldsLegal, SourceBegins, GoesOnIn}
 use Rattle.journal_keeping.specs.Openings.{Legal, IsOpening, OpensAs, KeepNone}
-use Rattle.journal_keeping.specs.Openings as opening
 use Rattle.journal_keeping.specs.Auditing.{StopsAs}
-use Rattle.journal_keeping.specs.Beginning.{IsReadUp, IsBegun, OpensNot, IsOfDisk}
+use Rattle.journal_keeping.specs.Beginning.{IsReadUp, IsOpened, IsBegun, IsKeptOn, BeginsAt, StopsFirst, OpensNot, IsOfDisk, WhileOpening, OpensSafely}
 use Rattle.journal_keeping.proofs.Auditing.{none_read}
-use Rattle.journal_keeping.proofs.Opened.{has_them, one_kept}
+use Rattle.journal_keeping.proofs.Opened.{has_them, same_journal}
+use Rattle.journal_keeping.proofs.Beginnings.{bare_place}
 
 abbrev Pairs : Type 0
 Pairs = List (Pair Record Outcome)
@@ -41,24 +45,78 @@ fault_of_disk disk.Memory = tt
 
 -- ---- what the bytes represent
 
-ends_have : (version : Version) (pairs : List RecordPair) (place : ℕ) (disk : DiskState) (bytes : List ℕ) → EndsAt version pairs place disk → disk.content ≡ Some bytes → HasEntries version pairs bytes
-ends_have version pairs place disk bytes ends told =
-    let both : Some bytes ≡ Some (entries version pairs ++ ends.0 ∷ ends.2) = sym told ∙ ends.3.content in
-    record { each = ends.3.each; gate = ends.0; shut = ends.1; rest = ends.2; spelled = cc }
+ends_have : (head : Head) (pairs : List RecordPair) (place : ℕ) (disk : DiskState) (bytes : List ℕ) → EndsAt head pairs place disk → disk.content ≡ Some bytes → HasEntries head pairs bytes
+ends_have head pairs place disk bytes ends told =
+    let both : Some bytes ≡ Some (entries head pairs ++ ends.0 ∷ ends.2) = sym told ∙ ends.3.content in
+    record { lawful = ends.3.lawful; each = ends.3.each; gate = ends.0; shut = ends.1; rest = ends.2; spelled = cc }
 
 -- ---- what is refused
 
-pub stops_opened : (version : Version) (held : List ℕ) (next : DiskState) (fault : KeepFault) → 9 < length held → (¬ IsForeign held) → next.content ≡ Some held → StopsAs version fault held → OpensNot held next fault
-stops_opened version held next Disk long known same stops = tt
-stops_opened version held next Memory long known same stops = tt
-stops_opened version held next (Damaged place) long known same stops = record { is = (long, known, version, stops.0, stops.1, stops.2, stops.3); stays = same }
-stops_opened version held next (Rejected number) long known same stops = record { is = (long, known, version, stops.0, stops.1, stops.2, stops.3, stops.4, stops.5, stops.6, stops.7, stops.8); stays = same }
-stops_opened version held next NotDisk long known same stops = absurd stops
-stops_opened version held next Read long known same stops = absurd stops
-stops_opened version held next Write long known same stops = absurd stops
-stops_opened version held next NotFlow long known same stops = absurd stops
-stops_opened version held next (Torn place) long known same stops = absurd stops
-stops_opened version held next TooLong long known same stops = absurd stops
+-- the first entry isn't an entry, and holds no checkpoint of the version
+pub first_opened : (version : Version) (rest held : List ℕ) (next : DiskState) (fault : KeepFault) → (¬ IsNewDisk held) → (¬ IsForeign held) → next.content ≡ Some held → held ≡ entries (head_of (Empty version)) [] ++ rest → StopsFirst fault held → OpensNot held next fault
+first_opened version rest held next Disk long known same is stops = tt
+first_opened version rest held next Memory long known same is stops = tt
+first_opened version rest held next (Damaged place) long known same is stops = record {
+  is = (
+    long,
+    known,
+    record {
+      begin = Empty version;
+      legal = [];
+      market = empty_market version;
+      begins = record {
+        lawful = tt;
+        journal = none_read (Empty version) (empty_market version) tt refl;
+        rest = rest;
+        spelled = is;
+        begins = stops.0 ∙ sym (bare_place (Empty version) [] (version, refl, refl));
+      };
+      damage = subst (λ (n : ℕ). IsDamagedAt n held) (sym stops.0) stops.1;
+      unfit = λ at. stops.2;
+    },
+  );
+  stays = same;
+}
+first_opened version rest held next NotDisk long known same is stops = absurd stops
+first_opened version rest held next (Rejected number) long known same is stops = absurd stops
+first_opened version rest held next Read long known same is stops = absurd stops
+first_opened version rest held next Write long known same is stops = absurd stops
+first_opened version rest held next NotFlow long known same is stops = absurd stops
+first_opened version rest held next BadCheckpoint long known same is stops = absurd stops
+first_opened version rest held next (Torn place) long known same is stops = absurd stops
+first_opened version rest held next TooLong long known same is stops = absurd stops
+
+-- a later place
+first_place : (begin : Start) (pairs : List RecordPair) → length (entries (head_of begin) pairs) ≡ 8 → length (entries (head_of begin) []) ≡ 8
+first_place begin pairs at = omega (arith, at, length-entries (head_of begin) pairs, length-entries (head_of begin) [], least (head_of begin) [])
+
+pub stops_opened : (begin : Start) (held : List ℕ) (next : DiskState) (fault : KeepFault) → (¬ IsNewDisk held) → (¬ IsForeign held) → next.content ≡ Some held
+    → (length (entries (head_of begin) []) ≡ 8 → (first : Market) → ¬ HasFirst first held) → StopsAs begin fault held → OpensNot held next fault
+stops_opened begin held next Disk long known same unfit stops = tt
+stops_opened begin held next Memory long known same unfit stops = tt
+stops_opened begin held next (Damaged place) long known same unfit stops = record {
+  is = (
+    long,
+    known,
+    record {
+      begin = begin;
+      legal = stops.0;
+      market = stops.1;
+      begins = stops.2;
+      damage = stops.3;
+      unfit = λ at. unfit (first_place begin (map records_of stops.0) (sym stops.2.begins ∙ at));
+    },
+  );
+  stays = same;
+}
+stops_opened begin held next (Rejected number) long known same unfit stops = record { is = (long, known, begin, stops.0, stops.1, stops.2, stops.3, stops.4, stops.5, stops.6, stops.7, stops.8); stays = same }
+stops_opened begin held next NotDisk long known same unfit stops = absurd stops
+stops_opened begin held next Read long known same unfit stops = absurd stops
+stops_opened begin held next Write long known same unfit stops = absurd stops
+stops_opened begin held next NotFlow long known same unfit stops = absurd stops
+stops_opened begin held next BadCheckpoint long known same unfit stops = absurd stops
+stops_opened begin held next (Torn place) long known same unfit stops = absurd stops
+stops_opened begin held next TooLong long known same unfit stops = absurd stops
 
 -- after a failed call, or out of memory, nothing is said of the bytes
 not_begun : (held : List ℕ) (next : DiskState) (fault : DiskFault) → (fault ≡ disk.Failed) ⊎ (fault ≡ disk.Memory) → OpensNot held next (kept_fault fault)
@@ -86,12 +144,23 @@ is_failed disk.Memory e = absurd cc
 
 -- ---- what a crash leaves meanwhile
 
-abbrev pub Opens : Version → DiskState → DiskState → Pairs → Type 0
-Opens version start now old = AtEachMoment start now (λ image. start.images image ⊎ StandsForJournal version old image)
+abbrev pub Opens : Start → DiskState → DiskState → Pairs → Type 0
+Opens begin start now old = AtEachMoment start now (WhileOpening begin start old)
+
+-- what a crash leaves on a disk that was only looked at before
+looks_left : (begin : Start) (old : Pairs) (start mid : DiskState) (image : List ℕ) → OnlyLooks start mid → WhileOpening begin mid old image → WhileOpening begin start old image
+looks_left begin old start mid image looks (inl early) = inl (looks.images image early)
+looks_left begin old start mid image looks (inr (inl stands)) = inr (inl stands)
+looks_left begin old start mid image looks (inr (inr still)) = inr (inr (subst (λ (o : Option (List ℕ)). IfSome o IsNewDisk) looks.content still.0, still.1))
+
+pub looks_first : (begin : Start) (old : Pairs) (start mid next : DiskState) → OnlyLooks start mid → Opens begin mid next old → Opens begin start next old
+looks_first begin old start mid next looks run =
+    then_more start mid next _ (weaker start mid _ _ (λ image was. inl was) looks.moments)
+    (weaker mid next _ _ (λ image was. looks_left begin old start mid image looks was) run)
 
 -- a disk that held a valid journal and was only looked at still holds it
-pub looked_legal : (version : Version) (old : Pairs) (market : Market) (start next : DiskState) → HoldsLegal start version old market → OnlyLooks start next → HoldsLegal next version old market
-looked_legal version old market start next holds looks = record {
+pub looked_legal : (begin : Start) (old : Pairs) (market : Market) (start next : DiskState) → HoldsLegal start begin old market → OnlyLooks start next → HoldsLegal next begin old market
+looked_legal begin old market start next holds looks = record {
   bytes = holds.bytes;
   told = looks.content ∙ holds.told;
   journal = holds.journal;
@@ -99,19 +168,39 @@ looked_legal version old market start next holds looks = record {
   each = λ image left. holds.each image (looks.images image left);
 }
 
-pub looks_first : (version : Version) (old : Pairs) (start mid next : DiskState) → OnlyLooks start mid → Opens version mid next old → Opens version start next old
-looks_first version old start mid next looks run =
-    then_more start mid next _ (weaker start mid _ _ (λ image was. inl was) looks.moments)
-    (weaker mid next _ _ (λ image was. ⊎_elim (λ early. inl (looks.images image early)) (λ stands. inr stands) was) run)
+pub looks_alone : (begin : Start) (old : Pairs) (start next : DiskState) → OnlyLooks start next → Opens begin start next old
+looks_alone begin old start next looks = weaker start next _ _ (λ image was. inl was) looks.moments
 
-pub looks_alone : (version : Version) (old : Pairs) (start next : DiskState) → OnlyLooks start next → Opens version start next old
-looks_alone version old start next looks = weaker start next _ _ (λ image was. inl was) looks.moments
+-- opening that leaves the old entries where they are is safe
+pub safe_kept : (limit : ℕ) (content : Option (List ℕ)) (start next : DiskState) (begin : Start) (old : Pairs) (market : Market) → HoldsLegal start begin old market → Opens begin start next old → OpensSafely limit content start next begin old market
+safe_kept limit content start next begin old market holds opens = record {
+  of = begin;
+  from = market;
+  input = Empty (version_of begin);
+  goes = inl (refl, refl, refl);
+  journal = holds.journal;
+  moments = opens;
+}
+
+goes_first : (limit : ℕ) (content : Option (List ℕ)) (start mid : DiskState) (looks : OnlyLooks start mid) (begin : Start) (market : Market) (of : Start) (from : Market) (input : Start) → GoesOnIn limit content mid begin market of from input → GoesOnIn limit content start begin market of from input
+goes_first limit content start mid looks begin market of from input (inl same) = inl same
+goes_first limit content start mid looks begin market of from input (inr new) = inr (subst (λ (o : Option (List ℕ)). IfSome o IsNewDisk) looks.content new.0, new.1, new.2, new.3)
+
+pub safe_first : (limit : ℕ) (content : Option (List ℕ)) (start mid next : DiskState) (begin : Start) (old : Pairs) (market : Market) → OnlyLooks start mid → OpensSafely limit content mid next begin old market → OpensSafely limit content start next begin old market
+safe_first limit content start mid next begin old market looks safe = record {
+  of = safe.of;
+  from = safe.from;
+  input = safe.input;
+  goes = goes_first limit content start mid looks begin market safe.of safe.from safe.input safe.goes;
+  journal = safe.journal;
+  moments = looks_first safe.of old start mid next looks safe.moments;
+}
 
 no_pairs : (old : Pairs) → map records_of old ≡ [] → old ≡ []
 no_pairs [] e = refl
 no_pairs (pair ∷ old) e = absurd (let size = ap length e in omega (arith, size))
 
-module _ (start : DiskState) (v : Version) (old : Pairs) (market : Market) (holds : HoldsLegal start v old market) where
+module _ (start : DiskState) (v : Start) (old : Pairs) (market : Market) (holds : HoldsLegal start v old market) where
   same_bytes : (held : List ℕ) → start.content ≡ Some held → holds.bytes ≡ held
   same_bytes held told = let both : Some holds.bytes ≡ Some held = sym holds.told ∙ told in cc
 
@@ -119,102 +208,133 @@ module _ (start : DiskState) (v : Version) (old : Pairs) (market : Market) (hold
   stands_there held told = subst (StandsForJournal v old) (same_bytes held told) holds.stands
 
   -- a new disk has no old entries
-  pub new_again : (held : List ℕ) → start.content ≡ Some held → length held ≤ 9 → old ≡ []
-  new_again held told short = no_pairs old (⊎_elim (λ new. new.none) (λ has. short_none v (map records_of old) held short has) (stands_there held told))
+  pub new_again : (held : List ℕ) → start.content ≡ Some held → IsNewDisk held → old ≡ []
+  new_again held told is_new = no_pairs old (⊎_elim (λ new. new.none) (λ has. few_none (head_of v) (map records_of old) (new_none (head_of v) (map records_of old) held is_new has)) (stands_there held told))
 
-  -- what was opened are the old entries, of this version
-  pub opened_old : (held : List ℕ) → start.content ≡ Some held → (version : Version) (legal : Pairs) (m : Market) → IsOpening held (Legal version legal m) → (v ≡ version) × (old ≡ legal) × (market ≡ m)
-  opened_old held told version legal m is =
-      let has = has_them v (map records_of old) held is.0 (stands_there held told) in
-      let same : v ≡ version = one_version v version (map records_of old) (map records_of legal) held has is.3 in
-      let one = one_kept v old market holds.journal legal m (subst (λ (x : Version). IsKeptJournal x legal m) (sym same) is.2) (one_list v version (map records_of old) (map records_of legal) held (stands_there held told) (inr is.3)) in
-      (same, one.0, one.1)
+  -- what was opened are the old entries, which begin so
+  pub opened_old : (held : List ℕ) → start.content ≡ Some held → (begin : Start) (legal : Pairs) (m : Market) → IsOpening held (Legal begin legal m) → (v ≡ begin) × (old ≡ legal) × (market ≡ m)
+  opened_old held told begin legal m is =
+      same_journal v begin held old legal market m holds.journal is.2 (has_them (head_of v) (map records_of old) held is.0 (stands_there held told)) is.3
 
   -- opening leaves the old entries, and cuts off what follows them
-  begins_on : (held : List ℕ) (mid next : DiskState) (version : Version) (m : Market) (place : ℕ) → start.content ≡ Some held → OnlyLooks start mid → IsReadUp held version m place mid
-      → ((w : Version) (pairs : List RecordPair) → EndsAt w pairs place mid → AtEachMoment mid next (StandsFor w pairs)) → Opens v start next old
-  begins_on held mid next version m place told looks read moments =
-      let same = opened_old held told version read.0 m read.1 in
+  begins_on : (held : List ℕ) (mid next : DiskState) (begin : Start) (m : Market) (place : ℕ) → start.content ≡ Some held → OnlyLooks start mid → IsReadUp held begin m place mid
+      → ((w : Head) (pairs : List RecordPair) → EndsAt w pairs place mid → AtEachMoment mid next (StandsFor w pairs)) → Opens v start next old
+  begins_on held mid next begin m place told looks read moments =
+      let same = opened_old held told begin read.0 m read.1 in
       then_more start mid next _ (looks_alone v old start mid looks)
-      (weaker mid next _ _ (λ image stands. inr (subst (λ (x : Version). StandsForJournal x old image) (sym same.0) (subst (λ (l : Pairs). StandsForJournal version l image) (sym same.1) stands))) (moments version (map records_of read.0) read.2))
+      (weaker mid next _ _ (λ image stands. inr (inl (subst (λ (x : Start). StandsForJournal x old image) (sym same.0) (subst (λ (l : Pairs). StandsForJournal begin l image) (sym same.1) stands)))) (moments (head_of begin) (map records_of read.0) read.2))
 
-  pub begins_known : (mid next : DiskState) (version : Version) (m : Market) (place : ℕ) → OnlyLooks start mid → IfSome start.content (λ held. IsReadUp held version m place mid)
-      → ((w : Version) (pairs : List RecordPair) → EndsAt w pairs place mid → AtEachMoment mid next (StandsFor w pairs)) → Opens v start next old
-  begins_known mid next version m place looks read moments =
-      begins_on holds.bytes mid next version m place holds.told looks (subst (λ (o : Option (List ℕ)). IfSome o (λ (held : List ℕ). IsReadUp held version m place mid)) holds.told read) moments
+  pub begins_known : (version : Version) (mid next : DiskState) (m : Market) (place : ℕ) → OnlyLooks start mid → IfSome start.content (λ held. IsOpened version held m place mid)
+      → ((w : Head) (pairs : List RecordPair) → EndsAt w pairs place mid → AtEachMoment mid next (StandsFor w pairs)) → Opens v start next old
+  begins_known version mid next m place looks read moments =
+      let opened = subst (λ (o : Option (List ℕ)). IfSome o (λ (held : List ℕ). IsOpened version held m place mid)) holds.told read in
+      begins_on holds.bytes mid next opened.0 m place holds.told looks opened.2 moments
 
-  -- a new disk stays one while it is made one of a version
-  pub makes_new : (next : DiskState) → IfSome start.content (λ held. IsFound None held start)
-      → ((bytes : List ℕ) → start.content ≡ Some bytes → LeavesOnly start.images bytes → AtEachMoment start next (λ image. length image ≤ 9)) → Opens v start next old
-  makes_new next found moments =
+  -- a new disk stays one, or begins so, while it is made one that begins so
+  pub makes_new : (next : DiskState) (begin : Start) → IfSome start.content (λ held. IsFound None held start)
+      → ((bytes : List ℕ) → start.content ≡ Some bytes → LeavesOnly start.images bytes → AtEachMoment start next (λ image. IsNewDisk image ⊎ StandsFor (head_of begin) [] image)) → Opens begin start next old
+  makes_new next begin found moments =
       let is = subst (λ (o : Option (List ℕ)). IfSome o (λ (held : List ℕ). IsFound None held start)) holds.told found in
       let none = new_again holds.bytes holds.told is.0 in
-      weaker start next _ _ (λ image short. inr (inl (record { short = short; none = ap (map records_of) none }))) (moments holds.bytes holds.told is.2)
+      let was_new = subst (λ (o : Option (List ℕ)). IfSome o IsNewDisk) (sym holds.told) is.0 in
+      weaker start next _ _ (λ image was. ⊎_elim (λ still. inr (inr (was_new, still))) (λ (stands : StandsFor (head_of begin) [] image). inr (inl (subst (λ (l : Pairs). StandsForJournal begin l image) (sym none) stands))) was) (moments holds.bytes holds.told is.3)
 
-  -- in which version the run continues, with the old entries
-  begun_is : (held : List ℕ) (next : DiskState) (of : Version) (m : Market) (place : ℕ) → start.content ≡ Some held → IsBegun held of m place next
-      → GoesOnIn start v market of m × IsKeptJournal of old m × Keeps of (map records_of old) place next
-  begun_is held next of m place told (other, inl legal, at) =
-      let same = opened_old held told of other m legal in (
-        inl (sym same.0, sym same.2),
-        subst (λ (l : Pairs). IsKeptJournal of l m) (sym same.1) legal.2,
-        subst (λ (l : Pairs). Keeps of (map records_of l) place next) (sym same.1) at,
+  pub safe_new : (limit : ℕ) (content : Option (List ℕ)) (next : DiskState) (begin : Start) → IfSome start.content (λ held. IsFound None held start) → CanStart begin → SourceBegins limit content begin → Opens begin start next old → OpensSafely limit content start next v old market
+  safe_new limit content next begin found starts begins opens =
+      let is = subst (λ (o : Option (List ℕ)). IfSome o (λ (held : List ℕ). IsFound None held start)) holds.told found in
+      let none = new_again holds.bytes holds.told is.0 in
+      record {
+        of = begin;
+        from = market_of begin;
+        input = begin;
+        goes = inr (subst (λ (o : Option (List ℕ)). IfSome o IsNewDisk) (sym holds.told) is.0, refl, refl, begins);
+        journal = subst (λ (l : Pairs). IsKeptJournal begin l (market_of begin)) (sym none) (none_read begin (market_of begin) starts refl);
+        moments = opens;
+      }
+
+  -- how the run continues, with the old entries
+  begun_is : (limit : ℕ) (content : Option (List ℕ)) (held : List ℕ) (next : DiskState) (of input : Start) (m : Market) (place : ℕ) → start.content ≡ Some held → CanStart input → SourceBegins limit content input → IsBegun held of input m place next
+      → GoesOnIn limit content start v market of m input × IsKeptJournal of old m × Keeps (head_of of) (map records_of old) place next
+  begun_is limit content held next of input m place told starts begins (other, inl legal, at) =
+      let same = opened_old held told of other m legal.0 in (
+        inl (sym same.0, sym same.2, subst (λ (x : Start). input ≡ Empty (version_of x)) (sym same.0) legal.1),
+        subst (λ (l : Pairs). IsKeptJournal of l m) (sym same.1) legal.0.2,
+        subst (λ (l : Pairs). Keeps (head_of of) (map records_of l) place next) (sym same.1) at,
       )
-  begun_is held next of m place told (other, inr new, at) =
-      let none = new_again held told new.0 in (
-        inr (subst (λ (o : Option (List ℕ)). IfSome o (λ (bytes : List ℕ). length bytes ≤ 9)) (sym told) new.0, new.2),
-        subst (λ (l : Pairs). IsKeptJournal of l m) (sym none) (none_read of m new.2),
-        subst (λ (l : Pairs). Keeps of (map records_of l) place next) (new.1 ∙ sym none) at,
+  begun_is limit content held next of input m place told starts begins (other, inr new, at) =
+      let none = new_again held told new.0.0 in (
+        inr (subst (λ (o : Option (List ℕ)). IfSome o IsNewDisk) (sym told) new.0.0, new.2, new.3, subst (λ (x : Start). SourceBegins limit content x) new.3 begins),
+        subst (λ (l : Pairs). IsKeptJournal of l m) (sym none) (none_read of m (subst CanStart new.3 starts) new.2),
+        subst (λ (l : Pairs). Keeps (head_of of) (map records_of l) place next) (new.1 ∙ sym none) at,
       )
 
-  pub begun_known : (next : DiskState) (of : Version) (m : Market) (place : ℕ) → IfSome start.content (λ held. IsBegun held of m place next)
-      → GoesOnIn start v market of m × IsKeptJournal of old m × Keeps of (map records_of old) place next
-  begun_known next of m place begun =
-      begun_is holds.bytes next of m place holds.told (subst (λ (o : Option (List ℕ)). IfSome o (λ (held : List ℕ). IsBegun held of m place next)) holds.told begun)
+  pub begun_known : (limit : ℕ) (content : Option (List ℕ)) (next : DiskState) (of input : Start) (m : Market) (place : ℕ) → CanStart input → SourceBegins limit content input → IfSome start.content (λ held. IsBegun held of input m place next)
+      → GoesOnIn limit content start v market of m input × IsKeptJournal of old m × Keeps (head_of of) (map records_of old) place next
+  begun_known limit content next of input m place starts begins begun =
+      begun_is limit content holds.bytes next of input m place holds.told starts begins (subst (λ (o : Option (List ℕ)). IfSome o (λ (held : List ℕ). IsBegun held of input m place next)) holds.told begun)
 
 -- ---- if the disk's content is known
 
+-- a disk that was found and only looked at is still so
+pub found_looked : (version : Version) (content : Option (List ℕ)) (start next : DiskState) → OnlyLooks start next → IfSome content (λ held. IsFound (Some version) held start) → IfSome content (λ held. IsFound (Some version) held next)
+found_looked version None start next looks is = tt
+found_looked version (Some held) start next looks is = (is.0, is.1, looks_hold (head_of (Empty version)) [] 8 (drop 8 held) start next is.2 looks)
+
 -- a disk that was read up to the commit byte can be begun
-pub can_begin : (content now : Option (List ℕ)) (version : Version) (m : Market) (place : ℕ) (mid : DiskState) → now ≡ content → IfSome content (λ held. IsReadUp held version m place mid) → IfSome now (λ _. (w : Version) × (pairs : List RecordPair) × EndsAt w pairs place mid)
+pub can_begin : (content now : Option (List ℕ)) (version : Version) (m : Market) (place : ℕ) (mid : DiskState) → now ≡ content → IfSome content (λ held. IsOpened version held m place mid) → IfSome now (λ _. (w : Head) × (pairs : List RecordPair) × EndsAt w pairs place mid)
 can_begin content None version m place mid told read = tt
 can_begin None (Some bytes) version m place mid told read = absurd cc
-can_begin (Some held) (Some bytes) version m place mid told read = (version, map records_of read.0, read.2)
+can_begin (Some held) (Some bytes) version m place mid told read = (head_of read.0, map records_of read.2.0, read.2.2)
 
-pub begun : (content : Option (List ℕ)) (version : Version) (m : Market) (place later : ℕ) (mid next : DiskState) → IfSome content (λ held. IsReadUp held version m place mid) → ((w : Version) (pairs : List RecordPair) → EndsAt w pairs place mid → Keeps w pairs later next) → IfSome content (λ held. IsBegun held version m later next)
+pub begun : (content : Option (List ℕ)) (version : Version) (m : Market) (place later : ℕ) (mid next : DiskState) → IfSome content (λ held. IsOpened version held m place mid) → ((w : Head) (pairs : List RecordPair) → EndsAt w pairs place mid → Keeps w pairs later next) → IfSome content (λ held. IsKeptOn version held m later next)
 begun None version m place later mid next read keeps = tt
-begun (Some held) version m place later mid next read keeps = (read.0, inl read.1, keeps version (map records_of read.0) read.2)
+begun (Some held) version m place later mid next read keeps = (read.0, read.1, (read.2.0, inl (read.2.1, ap (λ (u : Version). Empty u) (sym read.1)), keeps (head_of read.0) (map records_of read.2.0) read.2.2))
 
 -- a new disk was begun
-pub begun_new : (content : Option (List ℕ)) (version : Version) (m : Market) (place : ℕ) (start next : DiskState) → m ≡ empty_market version → IfSome content (λ held. IsFound None held start) → IfSome content (λ _. Keeps version [] place next) → IfSome content (λ held. IsBegun held version m place next)
-begun_new None version m place start next is found keeps = tt
-begun_new (Some held) version m place start next is found keeps = ([], inr (found.0, refl, is), keeps)
+pub begun_new : (content : Option (List ℕ)) (begin : Start) (m : Market) (place : ℕ) (start next : DiskState) → m ≡ market_of begin → IfSome content (λ held. IsFound None held start) → IfSome content (λ _. Keeps (head_of begin) [] place next) → IfSome content (λ held. IsBegun held begin begin m place next)
+begun_new None begin m place start next is found keeps = tt
+begun_new (Some held) begin m place start next is found keeps = ([], inr ((found.0, found.1), refl, is, refl), keeps)
 
 -- the old entries of a disk are a valid journal
-pub opens_journal : (held : List ℕ) (version : Version) (old : Pairs) (m : Market) → OpensAs held version old m → IsKeptJournal version old m
-opens_journal held version old m (inl legal) = legal.2
-opens_journal held version old m (inr new) = subst (λ (l : Pairs). IsKeptJournal version l m) (sym new.1) (none_read version m new.2)
+pub opens_journal : (held : List ℕ) (begin input : Start) (old : Pairs) (m : Market) → CanStart input → OpensAs held begin old m input → IsKeptJournal begin old m
+opens_journal held begin input old m starts (inl legal) = legal.0.2
+opens_journal held begin input old m starts (inr new) = subst (λ (l : Pairs). IsKeptJournal begin l m) (sym new.1) (none_read begin m (subst CanStart new.3 starts) new.2)
 
 -- a disk that was begun can be served on
-pub can_serve : (content now : Option (List ℕ)) (version : Version) (m : Market) (place : ℕ) (mid : DiskState) → (IsSome now → IsSome content) → IfSome content (λ held. IsBegun held version m place mid)
-    → IfSome now (λ _. (w : Version) × (old : Pairs) × IsKeptJournal w old m × Keeps w (map records_of old) place mid)
-can_serve content None version m place mid told begun = tt
-can_serve None (Some bytes) version m place mid told begun = absurd (went_well (told refl))
-can_serve (Some held) (Some bytes) version m place mid told begun = (version, begun.0, opens_journal held version begun.0 m begun.1, begun.2)
+pub can_serve : (content now : Option (List ℕ)) (begin input : Start) (m : Market) (place : ℕ) (mid : DiskState) → CanStart input → (IsSome now → IsSome content) → IfSome content (λ held. IsBegun held begin input m place mid)
+    → IfSome now (λ _. (w : Start) × (old : Pairs) × IsKeptJournal w old m × Keeps (head_of w) (map records_of old) place mid)
+can_serve content None begin input m place mid starts told begun = tt
+can_serve None (Some bytes) begin input m place mid starts told begun = absurd (went_well (told refl))
+can_serve (Some held) (Some bytes) begin input m place mid starts told begun = (begin, begun.0, opens_journal held begin input begun.0 m starts begun.1, begun.2)
 
 -- what was opened was read to its end
-pub read_known : (version : Version) (content : Option (List ℕ)) (mid next : DiskState) (market : Market) (from place : ℕ) → from ≡ 8 → mid.content ≡ content → IfSome content (λ held. IsFound (Some version) held mid) → next.content ≡ mid.content
-    → ((rest : List ℕ) → Holds version [] from rest mid → (legal : Pairs) × IsKeptJournal version legal market × EndsAt version (map records_of legal) place next) → IfSome content (λ held. IsReadUp held version market place next)
-read_known version None mid next market from place first told is same found = tt
-read_known version (Some held) mid next market from place first told is same found =
-    let all = found (drop 8 held) (subst (λ (n : ℕ). Holds version [] n (drop 8 held) mid) (sym first) is.2) in
-    (all.0, (is.0, is.1, all.1, ends_have version (map records_of all.0) place next held all.2 (same ∙ told)), all.2)
+pub read_known : (version : Version) (content : Option (List ℕ)) (start mid next : DiskState) (first market : Market) (from place : ℕ) → mid.content ≡ start.content → next.content ≡ mid.content → content ≡ start.content → IfSome content (λ held. IsFound (Some version) held start)
+    → ((rest bytes : List ℕ) → start.content ≡ Some bytes → Holds (record { version = version; first = None }) [] 8 rest start → BeginsAt version bytes first from mid)
+    → ((begin : Start) (rest : List ℕ) → CanStart begin → first ≡ market_of begin → Holds (head_of begin) [] from rest mid → (legal : Pairs) × IsKeptJournal begin legal market × EndsAt (head_of begin) (map records_of legal) place next)
+    → IfSome content (λ held. IsOpened version held market place next)
+read_known version None start mid next first market from place same again told is begins found = tt
+read_known version (Some held) start mid next first market from place same again told is begins found =
+    let at = begins (drop 8 held) held (sym told) is.2 in
+    let all = found at.begin at.rest at.starts at.market_is at.holds in
+    (at.begin, at.version_is, (all.0, (is.0, is.1, all.1, ends_have (head_of at.begin) (map records_of all.0) place next held all.2 (again ∙ same ∙ sym told)), all.2))
+
+-- no beginning was found
+pub first_known : (version : Version) (content : Option (List ℕ)) (start next : DiskState) (fault : KeepFault) → content ≡ start.content → next.content ≡ start.content → IfSome content (λ held. IsFound (Some version) held start)
+    → ((rest bytes : List ℕ) → start.content ≡ Some bytes → Holds (record { version = version; first = None }) [] 8 rest start → StopsFirst fault bytes) → IfSome content (λ held. OpensNot held next fault)
+first_known version None start next fault told same is stops = tt
+first_known version (Some held) start next fault told same is stops =
+    let both : Some held ≡ Some (entries (head_of (Empty version)) [] ++ drop 8 held) = told ∙ is.2.content in
+    let spelled : held ≡ entries (head_of (Empty version)) [] ++ drop 8 held = cc in
+    first_opened version (drop 8 held) held next fault is.0 is.1 (same ∙ sym told) spelled (stops (drop 8 held) held (sym told) is.2)
 
 -- what was opened was read up to where it is refused
-pub stops_known : (version : Version) (content : Option (List ℕ)) (mid next : DiskState) (from : ℕ) (fault : KeepFault) → from ≡ 8 → mid.content ≡ content → IfSome content (λ held. IsFound (Some version) held mid) → next.content ≡ mid.content
-    → ((rest bytes : List ℕ) → Holds version [] from rest mid → mid.content ≡ Some bytes → StopsAs version fault bytes) → IfSome content (λ held. OpensNot held next fault)
-stops_known version None mid next from fault first told is same stops = tt
-stops_known version (Some held) mid next from fault first told is same stops =
-    stops_opened version held next fault is.0 is.1 (same ∙ told) (stops (drop 8 held) held (subst (λ (n : ℕ). Holds version [] n (drop 8 held) mid) (sym first) is.2) told)
+pub stops_known : (version : Version) (content : Option (List ℕ)) (start mid next : DiskState) (first : Market) (from : ℕ) (fault : KeepFault) → content ≡ start.content → mid.content ≡ start.content → next.content ≡ mid.content → IfSome content (λ held. IsFound (Some version) held start)
+    → ((rest bytes : List ℕ) → start.content ≡ Some bytes → Holds (record { version = version; first = None }) [] 8 rest start → BeginsAt version bytes first from mid)
+    → ((begin : Start) (rest bytes : List ℕ) → CanStart begin → first ≡ market_of begin → Holds (head_of begin) [] from rest mid → mid.content ≡ Some bytes → StopsAs begin fault bytes) → IfSome content (λ held. OpensNot held next fault)
+stops_known version None start mid next first from fault told same again is begins stops = tt
+stops_known version (Some held) start mid next first from fault told same again is begins stops =
+    let at = begins (drop 8 held) held (sym told) is.2 in
+    stops_opened at.begin held next fault is.0 is.1 (again ∙ same ∙ sym told) (λ eight. at.unfit (at.holds.begins ∙ eight)) (stops at.begin at.rest held at.starts at.market_is at.holds (same ∙ sym told))
 
 -- ---- a disk that keeps no valid journal
 
@@ -222,33 +342,23 @@ pub untouched_so : (content : Option (List ℕ)) (P : Type 0) → P → IfSome c
 untouched_so None P p = tt
 untouched_so (Some held) P p = λ none. p
 
-pub none_read_up : (content : Option (List ℕ)) (version : Version) (m : Market) (place : ℕ) (mid : DiskState) (P : Type 0) → IfSome content (λ held. IsReadUp held version m place mid) → IfSome content (λ held. KeepNone held → P)
+pub none_read_up : (content : Option (List ℕ)) (version : Version) (m : Market) (place : ℕ) (mid : DiskState) (P : Type 0) → IfSome content (λ held. IsOpened version held m place mid) → IfSome content (λ held. KeepNone held → P)
 none_read_up None version m place mid P read = tt
-none_read_up (Some held) version m place mid P read = λ none. absurd (none.1 version read.0 m read.1)
+none_read_up (Some held) version m place mid P read = λ none. absurd (none.1 read.0 read.2.0 m read.2.1)
 
-not_begun_none : (held : List ℕ) (version : Version) (old : Pairs) (m : Market) → OpensAs held version old m → ¬ KeepNone held
-not_begun_none held version old m (inl legal) none = none.1 version old m legal
-not_begun_none held version old m (inr new) none = omega (arith, none.0, new.0)
+not_begun_none : (held : List ℕ) (begin input : Start) (old : Pairs) (m : Market) → OpensAs held begin old m input → ¬ KeepNone held
+not_begun_none held begin input old m (inl legal) none = none.1 begin old m legal.0
+not_begun_none held begin input old m (inr new) none = none.0 new.0
 
-pub none_begun : (content : Option (List ℕ)) (version : Version) (m : Market) (place : ℕ) (mid : DiskState) (P : Type 0) → IfSome content (λ held. IsBegun held version m place mid) → IfSome content (λ held. KeepNone held → P)
-none_begun None version m place mid P begun = tt
-none_begun (Some held) version m place mid P begun = λ none. absurd (not_begun_none held version begun.0 m begun.1 none)
+pub none_begun : (content : Option (List ℕ)) (begin input : Start) (m : Market) (place : ℕ) (mid : DiskState) (P : Type 0) → IfSome content (λ held. IsBegun held begin input m place mid) → IfSome content (λ held. KeepNone held → P)
+none_begun None begin input m place mid P begun = tt
+none_begun (Some held) begin input m place mid P begun = λ none. absurd (not_begun_none held begin input begun.0 m begun.1 none)
+
+pub none_kept_on : (content : Option (List ℕ)) (version : Version) (m : Market) (place : ℕ) (mid : DiskState) (P : Type 0) → IfSome content (λ held. IsKeptOn version held m place mid) → IfSome content (λ held. KeepNone held → P)
+none_kept_on None version m place mid P begun = tt
+none_kept_on (Some held) version m place mid P begun = λ none. absurd (not_begun_none held begun.0 (Empty version) begun.2.0 m begun.2.1 none)
 
 -- a disk that keeps no valid journal isn't new
 pub none_new : (content : Option (List ℕ)) (start : DiskState) (P : Type 0) → IfSome content (λ held. IsFound None held start) → IfSome content (λ held. KeepNone held → P)
 none_new None start P found = tt
-none_new (Some held) start P found = λ none. absurd (omega (arith, none.0, found.0))
-
--- a disk with a valid journal holds it in the version that the run continues with
-pub legal_in : (start : DiskState) (version : Version) (old : Pairs) (market : Market) → HoldsLegal start version old market → (of : Version) (m : Market) → GoesOnIn start version market of m → HoldsLegal start of old m
-legal_in start version old market holds of m (inl same) = subst (λ (x : Market). HoldsLegal start of old x) (sym same.1) (subst (λ (v : Version). HoldsLegal start v old market) (sym same.0) holds)
-legal_in start version old market holds of m (inr new) =
-    let short = subst (λ (o : Option (List ℕ)). IfSome o (λ (bytes : List ℕ). length bytes ≤ 9)) holds.told new.0 in
-    let none = new_again start version old market holds holds.bytes holds.told short in
-    record {
-      bytes = holds.bytes;
-      told = holds.told;
-      journal = subst (λ (l : Pairs). IsKeptJournal of l m) (sym none) (none_read of m new.1);
-      stands = inl (record { short = short; none = ap (map records_of) none });
-      each = holds.each;
-    }
+none_new (Some held) start P found = λ none. absurd (none.0 (found.0, found.1))

@@ -7,7 +7,6 @@ use Rattle.flow_io.proofs.Growth.{Grows-more}
 use Rattle.wire_records.specs.Records.{Record}
 use Rattle.wire_records.specs.Commands.{Pair}
 use Rattle.wire_records.specs.Formats.{commands}
-use Rattle.wire_records.specs.declared.version.Version.{Version}
 use Rattle.flow_orders.specs.Outcomes.{Outcome}
 use Rattle.journal_records.specs.Pairs.{pair_spelling}
 use Rattle.journal_records.specs.Formats.{records_of}
@@ -18,10 +17,10 @@ use Rattle.file_units.specs.declared.input.TakeFault.TheVariants.{Broken}
 use Rattle.file_units.proofs.Gone.{HasGone, gone_broken}
 use Rattle.disk_edge.specs.Disks.{DiskState, IsDisk, AtEachMoment}
 use Rattle.journal_disk.specs.Pairs.{RecordPair}
-use Rattle.journal_disk.specs.Entries.{WithOrWithout}
-use Rattle.journal_disk.specs.Entries.{Keeps}
+use Rattle.journal_disk.specs.Entries.{Head, WithOrWithout, Keeps}
+use Rattle.journal_keeping.specs.Starts.{head_of}
 use Rattle.journal_keeping.specs.declared.fault.KeepFault.{KeepFault}
-use Rattle.journal_keeping.specs.declared.fault.KeepFault.TheVariants.{Read, Write, Disk, Memory, NotDisk, Damaged, Rejected, NotFlow, Torn, TooLong}
+use Rattle.journal_keeping.specs.declared.fault.KeepFault.TheVariants.{Read, Write, Disk, Memory, NotDisk, Damaged, Rejected, NotFlow, BadCheckpoint, Torn, TooLong}
 use Rattle.journal_keeping.specs.Keeping.{Runs, StandIn}
 use Rattle.journal_keeping.specs.Private.{KeepsOneMore, IsServed, BreaksNext, Adds, SoFar, as_going, Names, IfEnded, ServesOn}
 use Rattle.journal_keeping.specs.Pacing.{asked_of}
@@ -50,31 +49,31 @@ module _ (window : WindowState) (rest left : Option (List ℕ)) (start now : Dis
     more = [];
     acknowledged = length new;
     market = market;
-    so_far = λ version old is at. (so.kept version old is at).goes_on;
+    so_far = λ begin old is at. (so.kept begin old is at).goes_on;
     goes = goes;
     whole = ([], subst (Grows held holds) (sym (append-nil (flat_map pair_spelling new))) so.written);
-    runs = λ version old is at. subst (λ (l : Pairs). Runs version start now old before (asked_of l) l (length new)) (sym (append-nil new)) (ended version start now old before place (asked_of new) new market (so.kept version old is at));
+    runs = λ begin old is at. subst (λ (l : Pairs). Runs begin start now old before (asked_of l) l (length new)) (sym (append-nil new)) (ended begin start now old before place (asked_of new) new market (so.kept begin old is at));
     written = subst (λ (l : Pairs). StandIn (result ≡ Err Write) held holds l) (sym (take_every new)) (stand_whole (result ≡ Err Write) held holds new so.written);
-    ended = ends _ (refl, refl, λ version old is at. (place, (so.kept version old is at).keeps));
+    ended = ends _ (refl, refl, λ begin old is at. (place, (so.kept begin old is at).keeps));
   }
 
   -- it ended at an entry that wasn't kept
   pub serves_failed : (next : DiskState) (after : Market) (pair : Pair Record Outcome) (bytes : List ℕ) → IsDisk next → IsServed bytes market pair after
-      → ((version : Version) (pairs : List RecordPair) → Keeps version pairs place now → AtEachMoment now next (WithOrWithout version pairs (records_of pair)))
+      → ((head : Head) (pairs : List RecordPair) → Keeps head pairs place now → AtEachMoment now next (WithOrWithout head pairs (records_of pair)))
       → Goes (pair ∷ []) (Err Disk) → ServesOn window rest left (Err Disk) before from start next held holds
   serves_failed next after pair bytes is_disk served moments goes = record {
     new = new;
     more = pair ∷ [];
     acknowledged = length new;
     market = market;
-    so_far = λ version old is at. (so.kept version old is at).goes_on;
+    so_far = λ begin old is at. (so.kept begin old is at).goes_on;
     goes = goes;
     whole = ([], subst (Grows held holds) (sym (append-nil (flat_map pair_spelling new))) so.written);
-    runs = λ version old is at.
-        let kept = so.kept version old is at in
-        let right = canonical_is_admissible version (old ++ new) market pair after kept.goes_on.journal served.step in
-        subst (λ (l : List Record). Runs version start next old before l (new ++ pair ∷ []) (length new)) (asked_more new pair)
-        (failed version start now next old before place (asked_of new) new market after pair kept is_disk served.fits served.step right (moments version (map records_of (old ++ new)) kept.keeps));
+    runs = λ begin old is at.
+        let kept = so.kept begin old is at in
+        let right = canonical_is_admissible begin (old ++ new) market pair after kept.goes_on.journal served.step in
+        subst (λ (l : List Record). Runs begin start next old before l (new ++ pair ∷ []) (length new)) (asked_more new pair)
+        (failed begin start now next old before place (asked_of new) new market after pair kept is_disk served.fits served.step right (moments (head_of begin) (map records_of (old ++ new)) kept.keeps));
     written = subst (λ (l : Pairs). StandIn (◌≡◌ {A = Result (Unit {0}) KeepFault} (Err Disk) (Err Write)) held holds l) (sym (take_first new pair)) (stand_whole _ held holds new so.written);
     ended = tt;
   }
@@ -91,11 +90,11 @@ module _ (window : WindowState) (rest left : Option (List ℕ)) (start now : Dis
         more = pair ∷ [];
         acknowledged = length all;
         market = market;
-        so_far = λ version old is at. (so.kept version old is at).goes_on;
+        so_far = λ begin old is at. (so.kept begin old is at).goes_on;
         goes = goes;
         whole = (take cut.0 (pair_spelling pair), Grows-more held holds last (flat_map pair_spelling new) (take cut.0 (pair_spelling pair)) so.written cut.2);
-        runs = λ version old is at. ended version start next old before later (asked_of all) all after
-            (kept_one_more start now next before market after from place later held holds last new pair so served.fits served.step keeps version old is at);
+        runs = λ begin old is at. ended begin start next old before later (asked_of all) all after
+            (kept_one_more start now next before market after from place later held holds last new pair so served.fits served.step keeps begin old is at);
         written = subst (λ (l : Pairs). StandIn (◌≡◌ {A = Result (Unit {0}) KeepFault} (Err Write) (Err Write)) held last l) (sym (take_all (length all) all (omega arith))) (record {
           whole = new;
           last = pair ∷ [];
@@ -144,5 +143,6 @@ module _ {R D K : Type 0} (rest : R → Option (List ℕ)) (faults : R → ℕ) 
   serves_broken (Damaged place) broke = absurd broke
   serves_broken (Rejected number) broke = absurd broke
   serves_broken NotFlow broke = absurd broke
+  serves_broken BadCheckpoint broke = absurd broke
   serves_broken (Torn place) broke = absurd broke
   serves_broken TooLong broke = absurd broke

@@ -1,14 +1,14 @@
 -- Prefixes of valid journals, and what images represent.
-use Rattle.std.proofs.Common.{◌≡◌, ℕ, zero, suc, ◌+◌, List, [], ◌∷◌, ◌++◌, length, take, refl, sym, ap, subst, arith}
+use Rattle.std.proofs.Common.{◌≡◌, ℕ, zero, suc, List, [], ◌∷◌, ◌++◌, take, refl, sym, ap, subst, arith}
 use Rattle.std.proofs.lemmas.List.{take-append-le}
 use Rattle.std.proofs.lemmas.List.Elements.{All-take}
 use Rattle.wire_records.specs.Records.{Record}
 use Rattle.wire_records.specs.Commands.{Pair}
 use Rattle.wire_records.specs.Versions.{IsReadAs}
-use Rattle.wire_records.specs.declared.version.Version.{Version}
 use Rattle.flow_orders.specs.Outcomes.{Outcome, IsAdmissibleOutcome}
 use Rattle.journal_records.specs.Pairs.{IsPair}
-use Rattle.market_rules.specs.Market.{Market, empty_market}
+use Rattle.market_rules.specs.Market.{Market}
+use Rattle.market_history.specs.Histories.{market_of}
 use Rattle.market_rules.specs.Journal.{Follows}
 use Rattle.journal_keeping.specs.Keeping.{IsKeptJournal, StandsForJournal}
 use Rattle.journal_keeping.specs.Laws.{PrefixesAreLegal, MorePairsStay, FirstsAreLegal}
@@ -24,16 +24,16 @@ front_leads old (pair ∷ pairs) new (suc count) leads =
     (rest.0, (leads.0, leads.1, rest.1))
 
 pub prefixes_are_legal : PrefixesAreLegal
-prefixes_are_legal version pairs market count is =
-    let front = front_leads (empty_market version) pairs market count is.steps in
-    (front.0, record { each = All-take IsPair count pairs is.each; steps = front.1 })
+prefixes_are_legal begin pairs market count is =
+    let front = front_leads (market_of begin) pairs market count is.steps in
+    (front.0, record { starts = is.starts; each = All-take IsPair count pairs is.each; steps = front.1 })
 
 pub more_pairs_stay : MorePairsStay
-more_pairs_stay version old new more least most later image fits grows keeps = (
+more_pairs_stay begin old new more least most later image fits grows keeps = (
   keeps.0,
   keeps.1,
   omega (arith, keeps.2, grows),
-  subst (λ (l : List (Pair Record Outcome)). StandsForJournal version (old ++ l) image) (sym (take-append-le keeps.0 new more (omega (arith, keeps.2, fits)))) keeps.3,
+  subst (λ (l : List (Pair Record Outcome)). StandsForJournal begin (old ++ l) image) (sym (take-append-le keeps.0 new more (omega (arith, keeps.2, fits)))) keeps.3,
 )
 
 -- a prefix of the second list after the first is a prefix of both
@@ -44,7 +44,7 @@ front_of_both (pair ∷ old) new count =
     (suc rest.0, ap (λ (l : List (Pair Record Outcome)). pair ∷ l) rest.1)
 
 pub firsts_are_legal : FirstsAreLegal
-firsts_are_legal version old new before after records least most image on keeps =
+firsts_are_legal begin old new before after records least most image on keeps =
     let both = front_of_both old new keeps.0 in
-    let front = prefixes_are_legal version (old ++ new) after both.0 on.journal in
-    (version, old ++ take keeps.0 new, front.0, subst (λ (l : List (Pair Record Outcome)). IsKeptJournal version l front.0) (sym both.1) front.1, keeps.3)
+    let front = prefixes_are_legal begin (old ++ new) after both.0 on.journal in
+    (begin, old ++ take keeps.0 new, front.0, subst (λ (l : List (Pair Record Outcome)). IsKeptJournal begin l front.0) (sym both.1) front.1, keeps.3)

@@ -1,17 +1,22 @@
 -- How many bytes keeping records leaves on a disk.
-use Rattle.std.proofs.Common.{◌≡◌, inl, inr, ℕ, ◌+◌, ◌-◌, ◌*◌, ◌≤◌, List, [], ◌∷◌, ◌++◌, Option, Some, None, IfSome, length, length-append, length-drop, drop, refl, sym, ap, subst, arith}
+use Rattle.std.proofs.Common.{◌≡◌, inl, inr, ℕ, ◌+◌, ◌-◌, ◌*◌, ◌≤◌, List, [], ◌∷◌, ◌++◌, Option, Some, None, IfSome, length, length-append, length-drop, drop, refl, sym, ap, subst, ◌∙◌, arith}
 use Rattle.flow_io.specs.Streams.{Takes}
 use Rattle.flow_io.specs.Windows.{WindowState, Fills}
-use Rattle.wire_records.specs.declared.version.Version.{Version}
-use Rattle.wire_records.specs.Formats.{commands}
+use Rattle.wire_records.specs.Formats.{command_magic_of}
+use Rattle.wire_records.proofs.RecordCode.{eight}
 use Rattle.market_rules.specs.Market.{Market}
-use Rattle.disk_edge.specs.Disks.{DiskState, IsDisk}
+use Rattle.market_snapshot.specs.Checkpoints.{checkpoint_bytes}
+use Rattle.market_history.specs.Histories.{Start, Empty, Kept}
+use Rattle.disk_edge.specs.Disks.{DiskState, IsDisk, AtEachMoment}
 use Rattle.disk_edge.proofs.Moments.{weaker, then_more, at_the_end}
 use Rattle.journal_disk.specs.Pairs.{RecordPair}
-use Rattle.journal_disk.specs.Entries.{entries, Keeps}
+use Rattle.journal_disk.specs.Entries.{Head, framed, entries, Keeps}
+use Rattle.journal_disk.proofs.Entries.{length-framed}
+use Rattle.journal_disk.specs.Looking.{OnlyLooks}
 use Rattle.journal_disk.specs.Lengths.{HasAtMost, LeavesAtMost, ReachesAtMost}
 use Rattle.journal_disk.proofs.Lengths.{reach_wider, reach_more, reach_none}
-use Rattle.journal_keeping.specs.Beginning.{IsBehindMagic, IsBegun}
+use Rattle.journal_keeping.specs.Starts.{head_of, source_start}
+use Rattle.journal_keeping.specs.Beginning.{IsBehindStart, IsStored, IsBegun}
 use Rattle.journal_keeping.specs.Lengths.{BringsAtMost, GrowsAtMost, HasYetAtMost}
 
 -- ---- the bytes that may be served yet
@@ -43,12 +48,14 @@ yet_read count old new before after fills (inr held) =
     let less = left_less (fills.joined ++ fills.past) before after held.0 fills.taken held.1 in
     inr (less.0, less.1, omega (arith, held.2, less.2, length-append fills.joined fills.past, length-append old.held fills.joined, ap (λ (w : WindowState). length w.held) fills.holds))
 
--- the window is after the magic
-yet_behind : (limit count : ℕ) (version : Version) (window : WindowState) (content after : Option (List ℕ)) → IsBehindMagic limit version window content after → BringsAtMost limit content count → HasYetAtMost count window after
-yet_behind limit count version window content after behind (inl up) = inl (omega (arith, up, behind.limited))
-yet_behind limit count version window content after behind (inr held) =
+-- the window is after the beginning of the source: so many bytes fewer may be served
+yet_behind : (limit count : ℕ) (input : Start) (window : WindowState) (content after : Option (List ℕ)) → IsBehindStart limit input window content after → BringsAtMost limit content count
+    → (length (source_start input) ≤ count) × HasYetAtMost (count - length (source_start input)) window after
+yet_behind limit count input window content after behind (inl up) = (omega (arith, up, behind.few, ap length behind.magic.1, length-append (source_start input) window.held), inl (omega (arith, up, behind.limited, behind.place)))
+yet_behind limit count input window content after behind (inr held) =
     let less = left_less behind.first content after held.0 behind.takes held.1 in
-    inr (less.0, less.1, omega (arith, held.2, less.2, ap length behind.magic.1, length-append (commands.magics.spell version) window.held))
+    let long = ap length behind.magic.1 ∙ length-append (source_start input) window.held in
+    (omega (arith, held.2, less.2, long), inr (less.0, less.1, omega (arith, held.2, less.2, long)))
 
 -- ---- while records are served
 
@@ -91,25 +98,60 @@ module _ (first window : WindowState) (before rest : Option (List ℕ)) (from pl
 
 -- ---- the whole call
 
--- nothing was served
-pub grows_none : (limit : ℕ) (content : Option (List ℕ)) (start end : DiskState) → ReachesAtMost 9 start end → GrowsAtMost limit content start end
-grows_none limit content start end reach = λ most count nine short brings.
+-- a disk that grew no longer than a new one
+pub grows_short : (limit : ℕ) (content : Option (List ℕ)) (start end : DiskState) → ReachesAtMost 9 start end → GrowsAtMost limit content start end
+grows_short limit content start end reach = λ most count nine short brings.
     weaker start end (HasAtMost most) (HasAtMost (most + 263183 * count)) (λ image le. omega (arith, le)) (reach most nine short)
 
--- the commit byte that isn't set is among the bytes that a crash leaves
-last_gate : (version : Version) (pairs : List RecordPair) (place most : ℕ) (disk : DiskState) → IsDisk disk → Keeps version pairs place disk → LeavesAtMost most disk → place + 1 ≤ most
-last_gate version pairs place most disk is_disk keeps short =
-    let bytes = entries version pairs ++ keeps.0 ∷ [] in
-    let left : disk.images bytes = subst (λ (o : Option (List ℕ)). IfSome o disk.images) keeps.2.content is_disk.content in
-    omega (arith, short bytes left, length-append (entries version pairs) (keeps.0 ∷ []), keeps.2.begins)
+pub short_within : (size : ℕ) (start end : DiskState) → ReachesAtMost 9 start end → (most : ℕ) → 9 ≤ most → LeavesAtMost most start → AtEachMoment start end (HasAtMost (most + size))
+short_within size start end reach most nine short = weaker start end (HasAtMost most) (HasAtMost (most + size)) (λ image le. omega (arith, le)) (reach most nine short)
 
-pub grows_served : (limit : ℕ) (version : Version) (window : WindowState) (content after : Option (List ℕ)) → IsBehindMagic limit version window content after
-    → (start mid end : DiskState) → IsDisk mid → ReachesAtMost 9 start mid → (held : List ℕ) (market : Market) (place : ℕ) → IsBegun held version market place mid
+-- the disk was only looked at before
+pub grows_first : (limit : ℕ) (content : Option (List ℕ)) (start mid end : DiskState) → IsDisk mid → OnlyLooks start mid → GrowsAtMost limit content mid end → GrowsAtMost limit content start end
+grows_first limit content start mid end is_disk looks grows = λ most count nine short brings.
+    let there = weaker start mid start.images (HasAtMost most) short looks.moments in
+    then_more start mid end (HasAtMost (most + 263183 * count)) (weaker start mid (HasAtMost most) (HasAtMost (most + 263183 * count)) (λ image le. omega (arith, le)) there)
+    (grows most count nine (at_the_end start mid (HasAtMost most) is_disk there) brings)
+
+pub within_first : (size : ℕ) (start mid end : DiskState) → IsDisk mid → OnlyLooks start mid → ((most : ℕ) → 9 ≤ most → LeavesAtMost most mid → AtEachMoment mid end (HasAtMost (most + size))) → (most : ℕ) → 9 ≤ most → LeavesAtMost most start → AtEachMoment start end (HasAtMost (most + size))
+within_first size start mid end is_disk looks within most nine short =
+    let there = weaker start mid start.images (HasAtMost most) short looks.moments in
+    then_more start mid end (HasAtMost (most + size)) (weaker start mid (HasAtMost most) (HasAtMost (most + size)) (λ image le. omega (arith, le)) there)
+    (within most nine (at_the_end start mid (HasAtMost most) is_disk there))
+
+-- the first entry isn't longer than the beginning of the source
+pub stored_few : (input : Start) (stored : List ℕ) → IsStored input stored → length stored ≤ length (source_start input)
+stored_few (Empty version) stored is = omega (arith, ap length is)
+stored_few (Kept market) stored is =
+    omega (arith, ap length is, length-append (framed (checkpoint_bytes market)) (0 ∷ []), length-framed (checkpoint_bytes market), length-append (checkpoint_bytes market) (command_magic_of market.version), eight market.version)
+
+-- so a new disk grew no longer than by that beginning
+pub start_within : (input : Start) (stored : List ℕ) (start end : DiskState) → IsStored input stored → ReachesAtMost (9 + length stored) start end → (most : ℕ) → 9 ≤ most → LeavesAtMost most start → AtEachMoment start end (HasAtMost (most + length (source_start input)))
+start_within input stored start end is reach most nine short =
+    reach (most + length (source_start input)) (omega (arith, nine, stored_few input stored is)) (λ image left. omega (arith, short image left))
+
+pub grows_start : (limit : ℕ) (input : Start) (window : WindowState) (content after : Option (List ℕ)) → IsBehindStart limit input window content after → (start end : DiskState)
+    → ((most : ℕ) → 9 ≤ most → LeavesAtMost most start → AtEachMoment start end (HasAtMost (most + length (source_start input)))) → GrowsAtMost limit content start end
+grows_start limit input window content after behind start end within = λ most count nine short brings.
+    weaker start end (HasAtMost (most + length (source_start input))) (HasAtMost (most + 263183 * count))
+    (λ image le. omega (arith, le, (yet_behind limit count input window content after behind brings).0)) (within most nine short)
+
+-- the commit byte that isn't set is among the bytes that a crash leaves
+last_gate : (head : Head) (pairs : List RecordPair) (place most : ℕ) (disk : DiskState) → IsDisk disk → Keeps head pairs place disk → LeavesAtMost most disk → place + 1 ≤ most
+last_gate head pairs place most disk is_disk keeps short =
+    let bytes = entries head pairs ++ keeps.0 ∷ [] in
+    let left : disk.images bytes = subst (λ (o : Option (List ℕ)). IfSome o disk.images) keeps.2.content is_disk.content in
+    omega (arith, short bytes left, length-append (entries head pairs) (keeps.0 ∷ []), keeps.2.begins)
+
+pub grows_served : (limit : ℕ) (begin input : Start) (window : WindowState) (content after : Option (List ℕ)) → IsBehindStart limit input window content after → (start mid end : DiskState) → IsDisk mid
+    → ((most : ℕ) → 9 ≤ most → LeavesAtMost most start → AtEachMoment start mid (HasAtMost (most + length (source_start input)))) → (held : List ℕ) (market : Market) (place : ℕ) → IsBegun held begin input market place mid
     → ((count : ℕ) → HasYetAtMost count window after → ReachesAtMost (place + 263183 * count + 1) mid end) → GrowsAtMost limit content start end
-grows_served limit version window content after behind start mid end is_disk reach held market place begun served = λ most count nine short brings.
-    let run = reach most nine short in
-    let there = at_the_end start mid (HasAtMost most) is_disk run in
-    let last = last_gate version _ place most mid is_disk begun.2 there in
+grows_served limit begin input window content after behind start mid end is_disk within held market place begun served = λ most count nine short brings.
+    let size = length (source_start input) in
+    let run = within most nine short in
+    let there = at_the_end start mid (HasAtMost (most + size)) is_disk run in
+    let last = last_gate (head_of begin) _ place (most + size) mid is_disk begun.2 there in
+    let yet = yet_behind limit count input window content after behind brings in
     let all = most + 263183 * count in
-    then_more start mid end (HasAtMost all) (weaker start mid (HasAtMost most) (HasAtMost all) (λ image le. omega (arith, le)) run)
-    (served count (yet_behind limit count version window content after behind brings) all (omega (arith, last)) (λ image left. omega (arith, there image left)))
+    then_more start mid end (HasAtMost all) (weaker start mid (HasAtMost (most + size)) (HasAtMost all) (λ image le. omega (arith, le, yet.0)) run)
+    (served (count - size) yet.1 all (omega (arith, last, yet.0)) (λ image left. omega (arith, there image left, yet.0)))

@@ -1,43 +1,47 @@
 -- A source that is opened, and read past its magic.
-use Rattle.std.proofs.Common.{◌≡◌, ◌↔◌, ℕ, ◌+◌, ◌-◌, ◌≤◌, ◌<◌, List, [], ◌++◌, Option, Some, None, IfSome, length, take, drop, refl, sym, ap, subst, ◌∙◌, arith, append-nil, length-append, length-take, take-append-drop}
+use Rattle.std.proofs.Common.{◌≡◌, ◌↔◌, inl, ℕ, ◌+◌, ◌-◌, ◌≤◌, ◌<◌, List, [], ◌++◌, Option, Some, None, IfSome, length, take, drop, refl, sym, ap, subst, ◌∙◌, arith, append-nil, length-append, length-take, length-drop, take-append-drop}
 use Rattle.std.proofs.lemmas.List.{take_at, drop_at, take-append-le}
 use Rattle.flow_io.specs.Streams.{Takes, TakesAtMost}
 use Rattle.flow_io.specs.Windows.{WindowState, Fills, IsPast, IsWithin, empty_window}
 use Rattle.flow_io.specs.declared.window.InputEnd.{InputEnd}
 use Rattle.flow_io.specs.declared.window.InputEnd.TheVariants.{Source, Limit}
-use Rattle.wire_records.specs.Grammars.{BeginsWith}
+use Rattle.wire_records.specs.Grammars.{BeginsWith, BeginsWithNone}
 use Rattle.wire_records.specs.Formats.{commands, command_magic_of}
 use Rattle.wire_records.proofs.RecordCode.{eight}
 use Rattle.wire_records.specs.declared.version.Version.{Version}
-use Rattle.word_driver.specs.Does.{IsTaken}
+use Rattle.market_history.specs.Histories.{Empty}
 use Rattle.file_units.proofs.Gone.{considered, within_limit}
-use Rattle.journal_keeping.specs.Beginning.{IsBehindMagic, IsWanted, IsNoneOf}
+use Rattle.journal_keeping.specs.Starts.{source_start, sources}
+use Rattle.journal_keeping.specs.Beginning.{IsBehindStart, BreaksOffEarly, IsNoneOf}
+use Rattle.journal_keeping.proofs.Starts.{input_long, magic_long}
 
 -- fewer than eight bytes have no magic
 pub short_has_none : (version : Version) (bytes body : List ℕ) → length bytes < 8 → ¬ BeginsWith commands.magics bytes version body
 short_has_none version bytes body few begins = omega (arith, few, eight version, ap length begins.1, length-append (command_magic_of version) body)
 
 -- what begins with a magic has it in its first eight bytes
-front_has : (version : Version) (held more body : List ℕ) → 8 ≤ length held → held ++ more ≡ command_magic_of version ++ body → BeginsWith commands.magics held version (drop 8 held)
+pub front_has : (version : Version) (held more body : List ℕ) → 8 ≤ length held → held ++ more ≡ command_magic_of version ++ body → BeginsWith commands.magics held version (drop 8 held)
 front_has version held more body some is =
     let front : take 8 held ≡ command_magic_of version = sym (take-append-le 8 held more some) ∙ ap (take 8) is ∙ take_at (command_magic_of version) body 8 (eight version) in
     (tt, sym (take-append-drop 8 held) ∙ ap (λ (l : List ℕ). l ++ drop 8 held) front)
 
+-- fewer than eight bytes begin no source
+pub short_no_input : (bytes : List ℕ) → length bytes < 8 → BeginsWithNone sources.magics bytes
+short_no_input bytes few input rest lawful e = omega (arith, few, input_long input, ap length e, length-append (source_start input) rest)
+
 none_of_short : (wanted : Option Version) (bytes : List ℕ) → length bytes < 8 → IsNoneOf wanted bytes
-none_of_short None bytes few = λ version body lawful is. short_has_none version bytes body few (lawful, is)
+none_of_short None bytes few = (short_no_input bytes few, λ unsound. omega (arith, few, magic_long bytes unsound.0))
 none_of_short (Some own) bytes few = λ body begins. short_has_none own bytes body few begins
 
-none_of_more : (wanted : Option Version) (held more : List ℕ) → 8 ≤ length held → IsNoneOf wanted held → IsNoneOf wanted (held ++ more)
-none_of_more None held more some none = λ version body lawful is. none version (drop 8 held) tt (front_has version held more body some is).1
-none_of_more (Some own) held more some none = λ body begins. none (drop 8 held) (front_has own held more body some begins.1)
+none_of_more : (own : Version) (held more : List ℕ) → 8 ≤ length held → IsNoneOf (Some own) held → IsNoneOf (Some own) (held ++ more)
+none_of_more own held more some none = λ body begins. none (drop 8 held) (front_has own held more body some begins.1)
 
-some_same : (v w : Version) → ◌≡◌ {A = Option Version} (Some v) (Some w) → v ≡ w
-some_same v w e = cc
-
--- the version that was found isn't the one that is wanted
-pub none_wanted : (wanted found : Option Version) (version : Version) (held : List ℕ) → found ≡ Some version → ((v : Version) → (found ≡ Some v) ↔ ((body : List ℕ) × BeginsWith commands.magics held v body)) → (¬ IsWanted wanted version) → IsNoneOf wanted held
-none_wanted None found version held is exact other = absurd (other tt)
-none_wanted (Some own) found version held is exact other = λ body begins. other (some_same version own (sym is ∙ (exact own).1 (body, begins)))
+-- the version that was found isn't this one
+pub none_found : (found own : Version) (held : List ℕ) → ((v : Version) → (◌≡◌ {A = Option Version} (Some found) (Some v)) ↔ ((body : List ℕ) × BeginsWith commands.magics held v body)) → (¬ (found ≡ own)) → IsNoneOf (Some own) held
+none_found found own held exact other = λ body begins. other (some_same found own ((exact own).1 (body, begins)))
+  where
+    some_same : (v w : Version) → ◌≡◌ {A = Option Version} (Some v) (Some w) → v ≡ w
+    some_same v w e = cc
 
 not_limit : ◌≡◌ {A = Option InputEnd} None (Some Limit) → ⊥
 not_limit e = absurd cc
@@ -54,11 +58,6 @@ at_most (Some b) (Some a) bytes most takes few = omega (arith, ap length takes, 
 pub none_taken : (content : Option (List ℕ)) (most : ℕ) → TakesAtMost content content most
 none_taken None most = tt
 none_taken (Some bytes) most = omega arith
-
-pub counted : (before after : Option (List ℕ)) (bytes : List ℕ) (P : ℕ → Type 0) → Takes before after bytes → P (length bytes) → IfSome before (λ b. (n : ℕ) × IsTaken b after n × P n)
-counted None after bytes P takes p = tt
-counted (Some b) None bytes P takes p = absurd takes
-counted (Some b) (Some a) bytes P takes p = (length bytes, sym (ap length takes ∙ length-append bytes a), p)
 
 -- ---- a new window was filled
 
@@ -94,23 +93,45 @@ module _ (limit : ℕ) (filled : WindowState) (before after : Option (List ℕ))
       (omega (arith, length-append fills.joined fills.past, past_few filled.over fills.beyond, within, ap length held))
 
   -- a read failed before eight bytes were held
-  pub unread_few : filled.over ≡ None → length filled.held < 8 → IfSome before (λ bytes. (n : ℕ) × IsTaken bytes after n × (n < 8))
-  unread_few open_still few = counted before after filled.held (λ n. n < 8) (takes_held (λ is. not_limit (sym open_still ∙ is))) few
+  pub unread_few : filled.over ≡ None → length filled.held < 8 → IfSome before (BreaksOffEarly limit after)
+  unread_few open_still few = told_few before after (takes_held (λ is. not_limit (sym open_still ∙ is)))
+    where
+      told_few : (o l : Option (List ℕ)) → Takes o l filled.held → IfSome o (BreaksOffEarly limit l)
+      told_few None l takes = tt
+      told_few (Some b) None takes = absurd takes
+      told_few (Some b) (Some l) takes = (
+        length filled.held,
+        sym (ap length takes ∙ length-append filled.held l),
+        (short_no_input (take (length filled.held) (take limit b)) (omega (arith, few, length-take (length filled.held) (take limit b))), inl few),
+      )
 
   -- the bytes begin with the magic
   pub behind_magic : (version : Version) (window : WindowState) (body : List ℕ) → filled.over ≡ None → BeginsWith commands.magics filled.held version body
-      → window ≡ record filled { held = drop 8 filled.held; place = filled.place + 8 } → length filled.held ≤ filled.room → IsBehindMagic limit version window before after
+      → window ≡ record filled { held = drop 8 filled.held; place = filled.place + 8 } → length filled.held ≤ filled.room → IsBehindStart limit (Empty version) window before after
   behind_magic version window body open_still magic advanced few = record {
     limited = ap (λ (w : WindowState). w.limit) advanced ∙ limited;
-    place = ap (λ (w : WindowState). w.place) advanced ∙ ap (λ (n : ℕ). n + 8) place;
+    place = ap (λ (w : WindowState). w.place) advanced ∙ ap (λ (n : ℕ). n + 8) place ∙ sym (eight version);
     room = ap (λ (w : WindowState). w.room) advanced ∙ ap (λ (w : WindowState). w.room) fills.holds;
     over = ap (λ (w : WindowState). w.over) advanced ∙ open_still;
     first = filled.held;
     takes = takes_held (λ is. not_limit (sym open_still ∙ is));
     magic = (tt, magic.1 ∙ ap (λ (l : List ℕ). command_magic_of version ++ l) (sym (ap (λ (w : WindowState). w.held) advanced ∙ ap (drop 8) magic.1 ∙ drop_at (command_magic_of version) body 8 (eight version))));
     few = within;
-    held = omega (arith, few, ap (λ (w : WindowState). w.room) fills.holds);
+    held = omega (arith, few, ap (λ (w : WindowState). w.room) fills.holds, ap (λ (w : WindowState). length w.held) advanced, length-drop 8 filled.held);
   }
+
+  -- the bytes that are held, and those that were taken
+  pub held_taken : filled.over ≡ None → Takes before after filled.held
+  held_taken open_still = takes_held (λ is. not_limit (sym open_still ∙ is))
+
+  pub held_first : filled.place ≡ 0
+  held_first = place
+
+  pub held_limit : filled.limit ≡ limit
+  held_limit = limited
+
+  pub held_room : filled.room ≡ 1029
+  held_room = ap (λ (w : WindowState). w.room) fills.holds
 
   module _ (wanted : Option Version) where
     -- the source ended before eight bytes
@@ -136,13 +157,13 @@ module _ (limit : ℕ) (filled : WindowState) (before after : Option (List ℕ))
         let full : filled.place + length filled.held ≡ filled.limit = subst (λ (o : Option InputEnd). IsWithin filled.place (length filled.held) filled.limit o) over inside in
         limit_short (omega (arith, full, few, place, limited)) before
 
-    -- another magic, or none
-    other : 8 ≤ length filled.held → IsNoneOf wanted filled.held → (told left : Option (List ℕ)) → Takes told left filled.held → IfSome told (λ bytes. IsNoneOf wanted (take limit bytes))
-    other some none None left takes = tt
-    other some none (Some bytes) None takes = absurd takes
-    other some none (Some bytes) (Some left) takes =
-        let whole : take limit bytes ≡ filled.held ++ take (limit - length filled.held) left = ap (take limit) takes ∙ considered limit filled.held left within in
-        subst (IsNoneOf wanted) (sym whole) (none_of_more wanted filled.held (take (limit - length filled.held) left) some none)
+  -- another magic, or none
+  other : (own : Version) → 8 ≤ length filled.held → IsNoneOf (Some own) filled.held → (told left : Option (List ℕ)) → Takes told left filled.held → IfSome told (λ bytes. IsNoneOf (Some own) (take limit bytes))
+  other own some none None left takes = tt
+  other own some none (Some bytes) None takes = absurd takes
+  other own some none (Some bytes) (Some left) takes =
+      let whole : take limit bytes ≡ filled.held ++ take (limit - length filled.held) left = ap (take limit) takes ∙ considered limit filled.held left within in
+      subst (IsNoneOf (Some own)) (sym whole) (none_of_more own filled.held (take (limit - length filled.held) left) some none)
 
-    pub other_magic : filled.over ≡ None → 8 ≤ length filled.held → IsNoneOf wanted filled.held → IfSome before (λ bytes. IsNoneOf wanted (take limit bytes))
-    other_magic open_still some none = other some none before after (takes_held (λ is. not_limit (sym open_still ∙ is)))
+  pub other_magic : (own : Version) → filled.over ≡ None → 8 ≤ length filled.held → IsNoneOf (Some own) filled.held → IfSome before (λ bytes. IsNoneOf (Some own) (take limit bytes))
+  other_magic own open_still some none = other own some none before after (takes_held (λ is. not_limit (sym open_still ∙ is)))

@@ -1,18 +1,21 @@
--- A new disk is made after the magic of a source was taken.
+-- A new disk is made after the whole beginning of a source was taken.
 use Rattle.std.proofs.Common.{◌≡◌, ◌⊎◌, inl, inr, ℕ, ◌+◌, ◌-◌, ◌≤◌, List, [], ◌++◌, Option, Some, None, IfSome, Result, Ok, Err, length, take, refl, ap, subst, ◌∙◌, arith, append_assoc, length-append}
 use Rattle.std.specs.Prelude.{IfErr}
 use Rattle.std.proofs.Math.Seq.{take-append-add}
 use Rattle.flow_io.specs.Streams.{Takes}
 use Rattle.flow_io.specs.Windows.{WindowState}
-use Rattle.wire_records.specs.Formats.{command_magic_of}
-use Rattle.wire_records.proofs.RecordCode.{eight}
+use Rattle.wire_records.specs.Grammars.{BeginsWith}
 use Rattle.wire_records.specs.declared.version.Version.{Version}
+use Rattle.market_history.specs.Histories.{Start}
 use Rattle.disk_edge.specs.Disks.{DiskState}
+use Rattle.journal_disk.specs.Entries.{IsNewDisk}
 use Rattle.journal_disk.specs.Recovering.{IsFound}
 use Rattle.journal_disk.specs.Looking.{OnlyLooks}
 use Rattle.journal_disk.proofs.GoingOn.{looks_more}
-use Rattle.journal_keeping.specs.Beginning.{IsBehindMagic}
-use Rattle.journal_keeping.specs.Making.{HasTakenMagic}
+use Rattle.journal_keeping.specs.Starts.{source_start, sources}
+use Rattle.journal_keeping.specs.Keeping.{SourceBegins}
+use Rattle.journal_keeping.specs.Beginning.{IsBehindStart}
+use Rattle.journal_keeping.specs.Making.{HasTakenStart}
 
 pub each_some : {T : Type 0} (o : Option T) (P : T → Type 0) → ((x : T) → P x) → IfSome o P
 each_some None P p = tt
@@ -27,43 +30,62 @@ takes_none None = tt
 takes_none (Some bytes) = refl
 
 -- a disk of a version isn't new
-pub kept_not_new : (content : Option (List ℕ)) (found : Option Version) (version : Version) (disk : DiskState) (P : List ℕ → Type 0) → found ≡ Some version → IfSome content (λ held. IsFound found held disk) → IfSome content (λ held. length held ≤ 9 → P held)
+pub kept_not_new : (content : Option (List ℕ)) (found : Option Version) (version : Version) (disk : DiskState) (P : List ℕ → Type 0) → found ≡ Some version → IfSome content (λ held. IsFound found held disk) → IfSome content (λ held. IsNewDisk held → P held)
 kept_not_new None found version disk P is finds = tt
-kept_not_new (Some held) found version disk P is finds = λ short. absurd (omega (arith, (subst (λ (o : Option Version). IsFound o held disk) is finds).0, short))
+kept_not_new (Some held) found version disk P is finds = λ new. absurd ((subst (λ (o : Option Version). IsFound o held disk) is finds).0 new)
 
 -- the disk was only looked at before
 pub looked_first : (a b c : DiskState) (P : Type 0) → OnlyLooks a b → OnlyLooks b c ⊎ P → OnlyLooks a c ⊎ P
 looked_first a b c P first (inl second) = inl (looks_more a b c first second)
 looked_first a b c P first (inr p) = inr p
 
-module _ (limit : ℕ) (w : WindowState) (version : Version) (first : List ℕ) (magic : first ≡ command_magic_of version ++ w.held) (few : length first ≤ limit) where
-  first_long : length first ≡ 8 + length w.held
-  first_long = ap length magic ∙ length-append (command_magic_of version) w.held ∙ ap (λ (n : ℕ). n + length w.held) (eight version)
+module _ (limit : ℕ) (w : WindowState) (input : Start) (first : List ℕ) (begins : BeginsWith sources.magics first input w.held) (few : length first ≤ limit) where
+  abbrev start : List ℕ
+  start = source_start input
 
-  -- what was taken begins with the magic
+  first_long : length first ≡ length start + length w.held
+  first_long = ap length begins.1 ∙ length-append start w.held
+
+  -- what was taken begins so
   begins_taken : (bytes m taken l : List ℕ) → bytes ≡ first ++ m → m ≡ taken ++ l
-      → take (length (first ++ taken)) (take limit bytes) ≡ command_magic_of version ++ take (length (w.held ++ taken)) (take (limit - 8) (w.held ++ (taken ++ l)))
+      → take (length (first ++ taken)) (take limit bytes) ≡ start ++ take (length (w.held ++ taken)) (take (limit - length start) (w.held ++ (taken ++ l)))
   begins_taken bytes m taken l opens takes =
-      let magic_of = command_magic_of version in
       let later = w.held ++ (taken ++ l) in
-      let all : bytes ≡ magic_of ++ later =
-      opens ∙ ap (λ (xs : List ℕ). xs ++ m) magic ∙ append_assoc magic_of w.held m ∙ ap (λ (xs : List ℕ). magic_of ++ (w.held ++ xs)) takes in
-      let parts : limit ≡ length magic_of + (limit - 8) = omega (arith, few, first_long, eight version) in
-      let counts : length (first ++ taken) ≡ length magic_of + length (w.held ++ taken) = omega (arith, length-append first taken, length-append w.held taken, first_long, eight version) in
-      let within : take limit bytes ≡ magic_of ++ take (limit - 8) later =
-      ap (take limit) all ∙ ap (λ (n : ℕ). take n (magic_of ++ later)) parts ∙ take-append-add magic_of later (limit - 8) in
-      ap (take (length (first ++ taken))) within ∙ ap (λ (n : ℕ). take n (magic_of ++ take (limit - 8) later)) counts
-      ∙ take-append-add magic_of (take (limit - 8) later) (length (w.held ++ taken))
+      let all : bytes ≡ start ++ later =
+      opens ∙ ap (λ (xs : List ℕ). xs ++ m) begins.1 ∙ append_assoc start w.held m ∙ ap (λ (xs : List ℕ). start ++ (w.held ++ xs)) takes in
+      let parts : limit ≡ length start + (limit - length start) = omega (arith, few, first_long) in
+      let counts : length (first ++ taken) ≡ length start + length (w.held ++ taken) = omega (arith, length-append first taken, length-append w.held taken, first_long) in
+      let within : take limit bytes ≡ start ++ take (limit - length start) later =
+      ap (take limit) all ∙ ap (λ (n : ℕ). take n (start ++ later)) parts ∙ take-append-add start later (limit - length start) in
+      ap (take (length (first ++ taken))) within ∙ ap (λ (n : ℕ). take n (start ++ take (limit - length start) later)) counts
+      ∙ take-append-add start (take (limit - length start) later) (length (w.held ++ taken))
 
   counts_taken : (bytes m taken l : List ℕ) → bytes ≡ first ++ m → m ≡ taken ++ l → length (first ++ taken) + length l ≡ length bytes
   counts_taken bytes m taken l opens takes = omega (arith, ap length opens, ap length takes, length-append first m, length-append taken l, length-append first taken)
 
-  has_told : (o m l : Option (List ℕ)) (taken : List ℕ) → Takes o m first → Takes m l taken → IfSome o (λ bytes. HasTakenMagic limit bytes l)
+  has_told : (o m l : Option (List ℕ)) (taken : List ℕ) → Takes o m first → Takes m l taken → IfSome o (λ bytes. HasTakenStart limit bytes l)
   has_told None m l taken opens takes = tt
   has_told (Some bytes) None l taken opens takes = absurd opens
   has_told (Some bytes) (Some m) None taken opens takes = absurd takes
   has_told (Some bytes) (Some m) (Some l) taken opens takes =
-      (length (first ++ taken), counts_taken bytes m taken l opens takes, version, take (length (w.held ++ taken)) (take (limit - 8) (w.held ++ (taken ++ l))), (tt, begins_taken bytes m taken l opens takes))
+      (length (first ++ taken), counts_taken bytes m taken l opens takes, input, take (length (w.held ++ taken)) (take (limit - length start) (w.held ++ (taken ++ l))), (begins.0, begins_taken bytes m taken l opens takes))
 
-pub magic_taken : (limit : ℕ) (w : WindowState) (version : Version) (content mid left : Option (List ℕ)) (taken : List ℕ) → IsBehindMagic limit version w content mid → Takes mid left taken → IfSome content (λ bytes. HasTakenMagic limit bytes left)
-magic_taken limit w version content mid left taken behind takes = has_told limit w version behind.first behind.magic.1 behind.few content mid left taken behind.takes takes
+pub start_taken : (limit : ℕ) (w : WindowState) (input : Start) (content mid left : Option (List ℕ)) (taken : List ℕ) → IsBehindStart limit input w content mid → Takes mid left taken → IfSome content (λ bytes. HasTakenStart limit bytes left)
+start_taken limit w input content mid left taken behind takes = has_told limit w input behind.first behind.magic behind.few content mid left taken behind.takes takes
+
+-- and so it is within the limit
+pub source_begins : (limit : ℕ) (w : WindowState) (input : Start) (content left : Option (List ℕ)) → IsBehindStart limit input w content left → SourceBegins limit content input
+source_begins limit w input None left behind = tt
+source_begins limit w input (Some bytes) None behind = absurd behind.takes
+source_begins limit w input (Some bytes) (Some m) behind = (
+  take (limit - length (source_start input)) (w.held ++ m),
+  (
+    behind.magic.0,
+    ap (take limit) (behind.takes ∙ ap (λ (xs : List ℕ). xs ++ m) behind.magic.1 ∙ append_assoc (source_start input) w.held m)
+        ∙ ap (λ (n : ℕ). take n (source_start input ++ (w.held ++ m))) (start_within limit w input behind.first behind.magic behind.few)
+        ∙ take-append-add (source_start input) (w.held ++ m) (limit - length (source_start input)),
+  ),
+)
+  where
+    start_within : (limit : ℕ) (w : WindowState) (input : Start) (first : List ℕ) → BeginsWith sources.magics first input w.held → length first ≤ limit → limit ≡ length (source_start input) + (limit - length (source_start input))
+    start_within limit w input first begins few = omega (arith, few, ap length begins.1, length-append (source_start input) w.held)

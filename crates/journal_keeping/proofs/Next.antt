@@ -5,7 +5,6 @@ use Rattle.wire_records.specs.Records.{Record, spelling}
 use Rattle.wire_records.proofs.Spelled.{length-spelling}
 use Rattle.wire_records.specs.Commands.{Pair}
 use Rattle.wire_records.specs.Formats.{commands}
-use Rattle.wire_records.specs.declared.version.Version.{Version}
 use Rattle.flow_orders.specs.Outcomes.{Outcome}
 use Rattle.journal_records.specs.Pairs.{IsPair, longest_plain_pair}
 use Rattle.journal_records.specs.Formats.{records_of}
@@ -15,8 +14,7 @@ use Rattle.file_units.specs.Units.{TakesOne}
 use Rattle.exchange_session.specs.Serving.{Puts, HasNumbers, AllocatesNext}
 use Rattle.disk_edge.specs.Disks.{DiskState, AtEachMoment}
 use Rattle.journal_disk.specs.Pairs.{RecordPair, IsRecordPair, pair_bytes, IsWholePair}
-use Rattle.journal_disk.specs.Entries.{WithOrWithout}
-use Rattle.journal_disk.specs.Entries.{Keeps}
+use Rattle.journal_disk.specs.Entries.{Head, WithOrWithout, Keeps}
 use Rattle.journal_disk.specs.Lengths.{ReachesAtMost}
 use Rattle.journal_disk.proofs.Entries.{pair_short}
 use Rattle.journal_disk.proofs.Lengths.{reach_wider}
@@ -82,8 +80,8 @@ module _ (n : ℕ) (bytes : List ℕ) (old new : Market) (text : List ℕ) (one 
 
   -- the entry wasn't kept, or not written completely
   pub breaks : (from to : ℕ) (disk later : DiskState) (before after : Option (List ℕ)) (SameDisk SameOut : Type 0) (fault : KeepFault) → (fault ≡ Disk) ⊎ (fault ≡ Write) → (fault ≡ Disk → SameOut)
-      → ((version : Version) (pairs : List RecordPair) → Keeps version pairs from disk → AtEachMoment disk later (WithOrWithout version pairs (records_of pair_of)))
-      → (fault ≡ Write → (version : Version) (pairs : List RecordPair) → Keeps version pairs from disk → Keeps version (pairs ++ records_of pair_of ∷ []) to later) → (fault ≡ Write → GrowsByPrefix before after text)
+      → ((head : Head) (pairs : List RecordPair) → Keeps head pairs from disk → AtEachMoment disk later (WithOrWithout head pairs (records_of pair_of)))
+      → (fault ≡ Write → (head : Head) (pairs : List RecordPair) → Keeps head pairs from disk → Keeps head (pairs ++ records_of pair_of ∷ []) to later) → (fault ≡ Write → GrowsByPrefix before after text)
       → BreaksNext bytes old from to disk later before after SameDisk SameOut fault
   breaks from to disk later before after SameDisk SameOut fault refused silent moments keeps cut =
       let there : IsServed bytes old pair_of new = record { lawful = one.lawful; rest = drop n bytes; front = one.front; step = one.step.step; fits = fits } in

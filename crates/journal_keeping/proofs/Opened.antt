@@ -1,79 +1,115 @@
 -- Bytes that keep a valid journal are opened as that, and as nothing else.
-use Rattle.std.proofs.Common.{◌≡◌, ◌⊎◌, ◌<◌, ◌≤◌, ◌^◌, inl, inr, ℕ, List, [], ◌∷◌, ◌++◌, length, map, All, refl, sym, ap, subst, ◌∙◌, arith, append_assoc}
+use Rattle.std.proofs.Common.{◌≡◌, ◌⊎◌, ◌≤◌, ◌^◌, inl, inr, ℕ, List, [], ◌∷◌, ◌++◌, length, map, All, refl, sym, ap, subst, ◌∙◌, arith, append_assoc}
 use Rattle.std.proofs.lemmas.List.{append-nil}
 use Rattle.std.proofs.lemmas.List.Elements.{recursion_from_All, All-map}
 use Rattle.std.specs.List.{AllByRecursion}
 use Rattle.wire_records.specs.Records.{Record}
 use Rattle.wire_records.specs.Commands.{Pair}
-use Rattle.wire_records.specs.declared.version.Version.{Version}
 use Rattle.flow_orders.specs.Outcomes.{Outcome}
 use Rattle.journal_records.specs.Pairs.{IsPair}
 use Rattle.journal_records.specs.Formats.{records_of}
 use Rattle.market_rules.specs.Market.{Market}
-use Rattle.batch_audit.specs.Legal.{IsIllegalPair, AreJudged}
-use Rattle.batch_audit.proofs.LawProofs.{one_judgement}
+use Rattle.market_history.specs.Histories.{Start}
+use Rattle.batch_audit.specs.Legal.{IsIllegalPair}
 use Rattle.journal_disk.specs.Pairs.{RecordPair, IsRecordPair}
-use Rattle.journal_disk.specs.Entries.{HasEntries, StandsFor}
-use Rattle.journal_disk.proofs.Entries.{each_more, same_version}
-use Rattle.journal_disk.proofs.OneList.{one_list, one_version}
+use Rattle.journal_disk.specs.Entries.{Head, HasEntries, IsNewDisk, StandsFor}
+use Rattle.journal_disk.specs.Stepping.{HasEntryAt}
+use Rattle.journal_disk.proofs.Entries.{each_more}
+use Rattle.journal_disk.proofs.OneList.{same_disk}
 use Rattle.journal_disk.proofs.OpenedEntries.{not_foreign}
 use Rattle.journal_disk.proofs.Excluding.{prefix_of, one_behind, undamaged}
+use Rattle.journal_keeping.specs.Starts.{head_of, HasFirst}
 use Rattle.journal_keeping.specs.Keeping.{IsKeptJournal, StandsForJournal}
-use Rattle.journal_keeping.specs.Openings.{Opening, Foreign, New, Damaged, Rejected, Legal, BeginsLegal, IsOpening}
+use Rattle.journal_keeping.specs.Openings.{Opening, Foreign, New, Damaged, Rejected, Legal, BeginsLegal, IsDamaged, IsOpening}
 use Rattle.journal_keeping.specs.Laws.{LegalIsOpened}
+use Rattle.journal_keeping.proofs.Judging.{one_judgement}
+use Rattle.journal_keeping.proofs.Starts.{one_begin}
+use Rattle.journal_keeping.proofs.Beginnings.{IsBare, begin_alike, first_no_entry, bare_place, bare_new}
 
 -- the two records of an entry of a journal are an entry that may be kept
 pub kept_each : (pairs : List (Pair Record Outcome)) → All IsPair pairs → AllByRecursion IsRecordPair (map records_of pairs)
 kept_each pairs all = recursion_from_All IsRecordPair (map records_of pairs) (All-map IsRecordPair records_of pairs (λ k d in_list. ((all k d in_list).asked, (all k d in_list).answered)))
 
 -- bytes that are not new and represent entries have them
-pub has_them : (version : Version) (pairs : List RecordPair) (bytes : List ℕ) → 9 < length bytes → StandsFor version pairs bytes → HasEntries version pairs bytes
-has_them version pairs bytes long (inl new) = absurd (omega (arith, long, new.short))
-has_them version pairs bytes long (inr has) = has
+pub has_them : (head : Head) (pairs : List RecordPair) (bytes : List ℕ) → (¬ IsNewDisk bytes) → StandsFor head pairs bytes → HasEntries head pairs bytes
+has_them head pairs bytes long (inl new) = absurd (long new.is_new)
+has_them head pairs bytes long (inr has) = has
 
 -- a valid journal is opened in one way
-module _ (version : Version) (pairs : List (Pair Record Outcome)) (market : Market) (journal : IsKeptJournal version pairs market) where
-  all_judged : AreJudged version (map records_of pairs) pairs [] market
-  all_judged = record { parts = sym (append-nil (map records_of pairs)); journal = journal; stops = tt }
-
-  pub not_rejected : (legal : List (Pair Record Outcome)) (m : Market) (bad : RecordPair) (more : List RecordPair) → IsKeptJournal version legal m → map records_of pairs ≡ map records_of legal ++ bad ∷ more → ¬ IsIllegalPair m bad
+module _ (begin : Start) (pairs : List (Pair Record Outcome)) (market : Market) (journal : IsKeptJournal begin pairs market) where
+  pub not_rejected : (legal : List (Pair Record Outcome)) (m : Market) (bad : RecordPair) (more : List RecordPair) → IsKeptJournal begin legal m → map records_of pairs ≡ map records_of legal ++ bad ∷ more → ¬ IsIllegalPair m bad
   not_rejected legal m bad more is parts illegal =
-      let one = one_judgement version (map records_of pairs) pairs legal [] (bad ∷ more) market m all_judged (record { parts = parts; journal = is; stops = illegal }) in
+      let one = one_judgement begin pairs legal [] (bad ∷ more) market m (append-nil (map records_of pairs) ∙ parts) journal is tt illegal in
       omega (arith, ap length one.1)
 
-  pub one_kept : (legal : List (Pair Record Outcome)) (m : Market) → IsKeptJournal version legal m → map records_of pairs ≡ map records_of legal → (pairs ≡ legal) × (market ≡ m)
+  pub one_kept : (legal : List (Pair Record Outcome)) (m : Market) → IsKeptJournal begin legal m → map records_of pairs ≡ map records_of legal → (pairs ≡ legal) × (market ≡ m)
   one_kept legal m is same =
-      let one = one_judgement version (map records_of pairs) pairs legal [] [] market m all_judged (record { parts = same ∙ sym (append-nil (map records_of legal)); journal = is; stops = tt }) in
+      let one = one_judgement begin pairs legal [] [] market m (append-nil (map records_of pairs) ∙ same ∙ sym (append-nil (map records_of legal))) journal is tt tt in
       (one.0, one.2)
 
--- valid first entries, under an equal version
-same_begins : (v w : Version) (bytes : List ℕ) (legal : List (Pair Record Outcome)) (m : Market) (place : ℕ) → v ≡ w → BeginsLegal v bytes legal m place → BeginsLegal w bytes legal m place
-same_begins v w bytes legal m place is begins = subst (λ (x : Version). BeginsLegal x bytes legal m place) is begins
+-- valid first entries, after an equal beginning
+pub same_begins : (v w : Start) (bytes : List ℕ) (legal : List (Pair Record Outcome)) (m : Market) (place : ℕ) → v ≡ w → BeginsLegal v bytes legal m place → BeginsLegal w bytes legal m place
+same_begins v w bytes legal m place is begins = subst (λ (x : Start). BeginsLegal x bytes legal m place) is begins
 
-module _ (version : Version) (pairs : List (Pair Record Outcome)) (market : Market) (bytes : List ℕ) (journal : IsKeptJournal version pairs market) (keeps : StandsForJournal version pairs bytes) (small : length bytes ≤ 2 ^ 60) where
-  of_same : 9 < length bytes → (v : Version) (legal : List (Pair Record Outcome)) (m : Market) (place : ℕ) → BeginsLegal v bytes legal m place → BeginsLegal version bytes legal m place
-  of_same long v legal m place begins =
-      let has = has_them version (map records_of pairs) bytes long keeps in
-      same_begins v version bytes legal m place (same_version v version (map records_of legal) (map records_of pairs) begins.rest (has.gate ∷ has.rest) bytes begins.spelled has.spelled) begins
+-- a journal that bytes have is the one that they have
+pub same_journal : (v w : Start) (bytes : List ℕ) (p q : List (Pair Record Outcome)) (m n : Market) → IsKeptJournal v p m → IsKeptJournal w q n → HasEntries (head_of v) (map records_of p) bytes → HasEntries (head_of w) (map records_of q) bytes → (v ≡ w) × (p ≡ q) × (m ≡ n)
+same_journal v w bytes p q m n a b has other =
+    let disk = same_disk (head_of v) (head_of w) (map records_of p) (map records_of q) bytes has other in
+    let same = one_begin v w a.starts b.starts disk.0 in
+    let one = one_kept v p m a q n (subst (λ (x : Start). IsKeptJournal x q n) (sym same) b) disk.1 in
+    (same, one.0, one.1)
 
-  legal_opens : (opening : Opening) → IsOpening bytes opening → (opening ≡ New) ⊎ (opening ≡ Legal version pairs market)
-  legal_opens Foreign is = absurd (not_foreign version (map records_of pairs) bytes keeps small is)
+module _ (begin : Start) (pairs : List (Pair Record Outcome)) (market : Market) (bytes : List ℕ) (journal : IsKeptJournal begin pairs market) (keeps : StandsForJournal begin pairs bytes) (small : length bytes ≤ 2 ^ 60) where
+  abbrev kept : List RecordPair
+  kept = map records_of pairs
+
+  has_kept : (¬ IsNewDisk bytes) → HasEntries (head_of begin) kept bytes
+  has_kept long = has_them (head_of begin) kept bytes long keeps
+
+  alike : (long : ¬ IsNewDisk bytes) (v : Start) (legal : List (Pair Record Outcome)) (m : Market) (place : ℕ) (begins : BeginsLegal v bytes legal m place)
+      → (v ≡ begin) ⊎ ((IsBare v (map records_of legal) × (n : Market) × HasFirst n bytes) ⊎ (IsBare begin kept × (n : Market) × HasFirst n bytes))
+  alike long v legal m place begins =
+      let has = has_kept long in
+      begin_alike bytes v begin (map records_of legal) kept begins.rest (has.gate ∷ has.rest) begins.journal.starts journal.starts begins.lawful has.lawful
+      (kept_each legal begins.journal.each) has.each begins.spelled has.spelled
+
+  not_damaged : (place : ℕ) → (¬ IsNewDisk bytes) → IsDamaged place bytes → ⊥
+  not_damaged place long is =
+      elim (alike long is.begin is.legal is.market place is.begins) [
+        | inl same ↦
+            let begins = same_begins is.begin begin bytes is.legal is.market place same is.begins in
+            undamaged (head_of begin) (map records_of is.legal) kept begins.rest bytes place (kept_each is.legal begins.journal.each) begins.spelled begins.begins (has_kept long) small is.damage
+        | inr other ↦
+            elim other [
+              | inl here ↦ is.unfit (is.begins.begins ∙ bare_place is.begin (map records_of is.legal) here.0) here.1 here.2
+              | inr there ↦ long (bare_new begin kept bytes there.0 (has_kept long))
+            ]
+      ]
+
+  not_illegal : (long : ¬ IsNewDisk bytes) (v : Start) (legal : List (Pair Record Outcome)) (m : Market) (place : ℕ) (begins : BeginsLegal v bytes legal m place) (bad : RecordPair) (rest : List ℕ) → HasEntryAt place bad rest bytes → IsIllegalPair m bad → ⊥
+  not_illegal long v legal m place found bad rest has illegal =
+      elim (alike long v legal m place found) [
+        | inl same ↦
+            let begins = same_begins v begin bytes legal m place same found in
+            let first = map records_of legal in
+            let whole = one_behind (head_of begin) first bad begins.rest rest bytes place begins.spelled begins.begins has.spelled in
+            let more = prefix_of (head_of begin) (first ++ bad ∷ []) kept rest bytes (each_more IsRecordPair first bad (kept_each legal begins.journal.each) has.is_pair) whole (has_kept long) in
+            not_rejected begin pairs market journal legal m bad more.0 begins.journal (more.1 ∙ append_assoc first (bad ∷ []) more.0) illegal
+        | inr other ↦
+            elim other [
+              | inl here ↦ first_no_entry bytes here.1 here.2 bad rest (subst (λ (n : ℕ). HasEntryAt n bad rest bytes) (found.begins ∙ bare_place v (map records_of legal) here.0) has)
+              | inr there ↦ long (bare_new begin kept bytes there.0 (has_kept long))
+            ]
+      ]
+
+  legal_opens : (opening : Opening) → IsOpening bytes opening → (opening ≡ New) ⊎ (opening ≡ Legal begin pairs market)
+  legal_opens Foreign is = absurd (not_foreign (head_of begin) kept bytes keeps small is)
   legal_opens New is = inl refl
-  legal_opens (Damaged place) is =
-      let begins = of_same is.0 is.2 is.3 is.4 place is.5 in
-      absurd (undamaged version (map records_of is.3) (map records_of pairs) begins.rest bytes place (kept_each is.3 begins.journal.each) begins.spelled begins.begins (has_them version (map records_of pairs) bytes is.0 keeps) small is.6)
-  legal_opens (Rejected number) is =
-      let begins = of_same is.0 is.2 is.3 is.4 is.5 is.6 in
-      let has = is.9 in
-      let first = map records_of is.3 in
-      let whole = one_behind version first is.7 begins.rest is.8 bytes is.5 begins.spelled begins.begins has.spelled in
-      let more = prefix_of version (first ++ is.7 ∷ []) (map records_of pairs) is.8 bytes (each_more IsRecordPair first is.7 (kept_each is.3 begins.journal.each) has.is_pair) whole (has_them version (map records_of pairs) bytes is.0 keeps) in
-      absurd (not_rejected version pairs market journal is.3 is.4 is.7 more.0 begins.journal (more.1 ∙ append_assoc first (is.7 ∷ []) more.0) is.10)
+  legal_opens (Damaged place) is = absurd (not_damaged place is.0 is.2)
+  legal_opens (Rejected number) is = absurd (not_illegal is.0 is.2 is.3 is.4 is.5 is.6 is.7 is.8 is.9 is.10)
   legal_opens (Legal w ps m) is =
-      let has = has_them version (map records_of pairs) bytes is.0 keeps in
-      let same : version ≡ w = one_version version w (map records_of pairs) (map records_of ps) bytes has is.3 in
-      let one = one_kept version pairs market journal ps m (subst (λ (x : Version). IsKeptJournal x ps m) (sym same) is.2) (one_list version w (map records_of pairs) (map records_of ps) bytes keeps (inr is.3)) in
-      inr (cc (same, one.0, one.1))
+      let same = same_journal begin w bytes pairs ps market m journal is.2 (has_kept is.0) is.3 in
+      inr (cc (same.0, same.1, same.2))
 
 pub legal_is_opened : LegalIsOpened
-legal_is_opened version pairs market bytes opening journal keeps small is = legal_opens version pairs market bytes journal keeps small opening is
+legal_is_opened begin pairs market bytes opening journal keeps small is = legal_opens begin pairs market bytes journal keeps small opening is

@@ -1,5 +1,6 @@
 -- What was read and written when keeping a journal ended.
-use Rattle.std.proofs.Common.{◌≡◌, inl, inr, ℕ, ◌+◌, ◌-◌, ◌≤◌, ◌<◌, List, [], ◌∷◌, ◌++◌, Option, Some, None, IfSome, Result, Ok, Err, length, map, take, flat_map, refl, sym, ap, subst, ◌∙◌, arith, append_assoc, length-append}
+use Rattle.std.proofs.Common.{◌≡◌, inl, inr, ℕ, ◌+◌, ◌-◌, ◌≤◌, List, [], ◌∷◌, ◌++◌, Option, Some, None, IfSome, Result, Ok, Err, length, take, flat_map, refl, sym, ap, subst, ◌∙◌, arith, append_assoc, length-append}
+use Rattle.std.proofs.lemmas.List.Elements.{All-nil}
 use Rattle.std.proofs.Math.Seq.{take-append-add}
 use Rattle.flow_io.specs.Streams.{Takes, TakesAtMost, Grows}
 use Rattle.flow_io.specs.Windows.{WindowState}
@@ -8,22 +9,22 @@ use Rattle.flow_io.proofs.Growth.{Grows-nothing}
 use Rattle.wire_records.specs.Records.{Record}
 use Rattle.wire_records.specs.Grammars.{BeginsWithNone, spell_all}
 use Rattle.wire_records.specs.Reading.{StartsWith}
-use Rattle.wire_records.specs.Formats.{commands, command_magic_of}
-use Rattle.wire_records.proofs.RecordCode.{eight}
-use Rattle.wire_records.specs.declared.version.Version.{Version}
+use Rattle.wire_records.specs.Formats.{commands}
 use Rattle.word_driver.specs.Does.{IsTaken}
 use Rattle.journal_records.specs.Pairs.{pair_spelling}
 use Rattle.market_rules.specs.Market.{Market}
+use Rattle.market_history.specs.Histories.{Start}
 use Rattle.file_units.specs.Units.{GoesToBreak}
 use Rattle.file_units.specs.Inputs.{known}
 use Rattle.disk_edge.specs.Disks.{DiskState}
 use Rattle.journal_keeping.specs.declared.fault.KeepFault.{KeepFault}
-use Rattle.journal_keeping.specs.declared.fault.KeepFault.TheVariants.{Read, Write, Disk, Memory, NotDisk, Damaged, Rejected, NotFlow, Torn, TooLong}
-use Rattle.journal_keeping.specs.Pacing.{asked_of, AnswersAll, IsNearPairs, IsNear, KeepsPace, AllocatesNext, RunsOut}
+use Rattle.journal_keeping.specs.declared.fault.KeepFault.TheVariants.{Read, Write, Disk, Memory, NotDisk, Damaged, Rejected, NotFlow, BadCheckpoint, Torn, TooLong}
+use Rattle.journal_keeping.specs.Starts.{source_start, sources}
+use Rattle.journal_keeping.specs.Pacing.{asked_of, AnswersAll, IsNear, KeepsPace, RunsOut}
 use Rattle.journal_keeping.specs.Private.{Adds, Names, ServesOn}
-use Rattle.journal_keeping.specs.Beginning.{IsBegun, IsBehindMagic, Unread}
+use Rattle.journal_keeping.specs.Beginning.{IsBegun, IsBehindStart, BreaksOffEarly, NotBegun, IsNearStart, Unread}
 use Rattle.journal_keeping.proofs.Turns.{Pairs}
-use Rattle.journal_keeping.proofs.Magic.{at_most, counted}
+use Rattle.journal_keeping.proofs.Magic.{at_most}
 use Rattle.journal_keeping.proofs.Sources.{BeginsWithAll, asked_are_units, all_before_break, all_to_wanting, starts_with}
 use Rattle.journal_keeping.proofs.Begun.{opens_journal}
 use Rattle.journal_keeping.proofs.Whole.{all_written}
@@ -34,28 +35,46 @@ near_none : (limit : ℕ) (content held : Option (List ℕ)) → IsNear limit co
 near_none limit None held = tt
 near_none limit (Some bytes) held = (0, omega arith, inl (omega arith))
 
-read_few : (limit : ℕ) (content left held : Option (List ℕ)) → IfSome content (λ bytes. (n : ℕ) × IsTaken bytes left n × (n < 8)) → KeepsPace limit content left held held (Err Read)
-read_few limit None left held few = tt
-read_few limit (Some bytes) left held few = (few.0, few.1, inl (few.2, Grows-nothing held))
+read_early : (limit : ℕ) (content left held : Option (List ℕ)) → IfSome content (BreaksOffEarly limit left) → KeepsPace limit content left held held (Err Read)
+read_early limit None left held few = tt
+read_early limit (Some bytes) left held few = (few.0, few.1, inl (few.2, Grows-nothing held))
 
-near_few : (limit : ℕ) (content left held : Option (List ℕ)) → IfSome content (λ bytes. (n : ℕ) × IsTaken bytes left n × (n ≤ 1038)) → IsNear limit content left held held
-near_few limit None left held few = tt
-near_few limit (Some bytes) left held few = (few.0, few.1, inl (omega (arith, few.2)))
+near_start : (limit : ℕ) (content left held : Option (List ℕ)) → IfSome content (IsNearStart limit left) → IsNear limit content left held held
+near_start limit None left held near = tt
+near_start limit (Some bytes) left held (n, taken, inl few) = (n, taken, inl (omega (arith, few)))
+near_start limit (Some bytes) left held (n, taken, inr (input, body, magic, few)) = (
+  n,
+  taken,
+  inr (record {
+    input = input;
+    pairs = [];
+    more = [];
+    starts = record { body = body; rest = body; magic = magic; whole = refl; each = All-nil commands.units.IsLawful };
+    stands = Grows-nothing held;
+    near = omega (arith, few);
+  }),
+)
 
 pub paced_unread : (limit : ℕ) (content left held : Option (List ℕ)) (fault : KeepFault) → Unread limit content left fault → KeepsPace limit content left held held (Err fault)
 paced_unread limit content left held NotFlow why = tt
+paced_unread limit content left held BadCheckpoint why = tt
 paced_unread limit content left held NotDisk why = tt
 paced_unread limit content left held (Damaged n) why = tt
 paced_unread limit content left held (Rejected n) why = tt
-paced_unread limit content left held Read why = read_few limit content left held why
-paced_unread limit content left held Memory why = subst (λ (o : Option (List ℕ)). IsNear limit content o held held) (sym why) (near_none limit content held)
-paced_unread limit content left held Disk why = near_few limit content left held why
+paced_unread limit content left held Read why = read_early limit content left held why
+paced_unread limit content left held Memory (inl same) = inl (subst (λ (o : Option (List ℕ)). IsNear limit content o held held) (sym same) (near_none limit content held))
+paced_unread limit content left held Memory (inr checkpoint) = inr (checkpoint, refl)
+paced_unread limit content left held Disk why = near_start limit content left held why
 paced_unread limit content left held Write why = absurd why
 paced_unread limit content left held (Torn n) why = absurd why
 paced_unread limit content left held TooLong why = absurd why
 
-pub unread_out : (limit : ℕ) (held : List ℕ) (content left : Option (List ℕ)) (end : DiskState) (before : Option (List ℕ)) (fault : KeepFault) → Unread limit content left fault → fault ≡ Memory → RunsOut limit held content left end before before
-unread_out limit held content left end before fault why is = inl (subst (Unread limit content left) is why, refl)
+pub unread_out : (limit : ℕ) (held : List ℕ) (content left : Option (List ℕ)) (end : DiskState) (before : Option (List ℕ)) (fault : KeepFault) → NotBegun limit held content left end fault → fault ≡ Memory → RunsOut limit held content left end before before
+unread_out limit held content left end before fault why is = either_of (subst (NotBegun limit held content left end) is why)
+  where
+    either_of : NotBegun limit held content left end Memory → RunsOut limit held content left end before before
+    either_of (inl same) = inl (same, refl)
+    either_of (inr early) = inr (inl (early.0, early.1, refl, early.2))
 
 -- ---- records were served
 
@@ -64,19 +83,19 @@ all_left None left bytes takes none = tt
 all_left (Some b) None bytes takes none = absurd takes
 all_left (Some b) (Some l) bytes takes none = ap (λ (x : List ℕ). Some x) none
 
--- what follows the magic
-behind_it : (version : Version) (bytes first held taken m l : List ℕ) → bytes ≡ first ++ m → first ≡ (command_magic_of version) ++ held → m ≡ taken ++ l → bytes ≡ (command_magic_of version) ++ (held ++ (taken ++ l))
-behind_it version bytes first held taken m l opens magic takes =
-    opens ∙ ap (λ (xs : List ℕ). xs ++ m) magic ∙ append_assoc (command_magic_of version) held m ∙ ap (λ (xs : List ℕ). (command_magic_of version) ++ (held ++ xs)) takes
+-- what follows the beginning
+behind_it : (start bytes first held taken m l : List ℕ) → bytes ≡ first ++ m → first ≡ start ++ held → m ≡ taken ++ l → bytes ≡ start ++ (held ++ (taken ++ l))
+behind_it start bytes first held taken m l opens magic takes =
+    opens ∙ ap (λ (xs : List ℕ). xs ++ m) magic ∙ append_assoc start held m ∙ ap (λ (xs : List ℕ). start ++ (held ++ xs)) takes
 
-module _ (limit : ℕ) (content mid left : Option (List ℕ)) (w : WindowState) (version : Version) (behind : IsBehindMagic limit version w content mid) (market : Market) (place : ℕ) (begun end : DiskState) (before after : Option (List ℕ)) where
-  of_magic : length (command_magic_of version) ≡ 8
-  of_magic = eight version
+module _ (limit : ℕ) (content mid left : Option (List ℕ)) (w : WindowState) (input : Start) (behind : IsBehindStart limit input w content mid) (market : Market) (place : ℕ) (begun end : DiskState) (before after : Option (List ℕ)) where
+  abbrev start : List ℕ
+  start = source_start input
 
-  first_long : length behind.first ≡ 8 + length w.held
-  first_long = ap length behind.magic.1 ∙ length-append (command_magic_of version) w.held ∙ ap (λ (n : ℕ). n + length w.held) of_magic
+  first_long : length behind.first ≡ length start + length w.held
+  first_long = ap length behind.magic.1 ∙ length-append start w.held
 
-  far : w.limit - w.place ≡ limit - 8
+  far : w.limit - w.place ≡ limit - length start
   far = omega (arith, behind.limited, behind.place)
 
   abbrev Served : Result (Unit {0}) KeepFault → Type 0
@@ -92,7 +111,7 @@ module _ (limit : ℕ) (content mid left : Option (List ℕ)) (w : WindowState) 
 
   -- near the records whose entries were written
   near_told : (o : Option (List ℕ)) (m l : Option (List ℕ)) (taken : List ℕ) (new : Pairs) (text : List ℕ) → Takes o m behind.first → Takes m l taken
-      → BeginsWithAll (take (limit - 8) (w.held ++ known taken l)) (asked_of new) → Grows before after (flat_map pair_spelling new ++ text)
+      → BeginsWithAll (take (limit - length start) (w.held ++ known taken l)) (asked_of new) → Grows before after (flat_map pair_spelling new ++ text)
       → length (w.held ++ taken) ≤ length (spell_all commands.units (asked_of new)) + (w.room + 1) → IsNear limit o l before after
   near_told None m l taken new text opens takes all stands few = tt
   near_told (Some bytes) None l taken new text opens takes all stands few = absurd opens
@@ -101,10 +120,10 @@ module _ (limit : ℕ) (content mid left : Option (List ℕ)) (w : WindowState) 
     length (behind.first ++ taken),
     sym (ap length (opens ∙ ap (λ (xs : List ℕ). behind.first ++ xs) takes ∙ sym (append_assoc behind.first taken l)) ∙ length-append (behind.first ++ taken) l),
     inr (record {
-      version = version;
+      input = input;
       pairs = new;
       more = text;
-      starts = starts_with version limit bytes behind.first w.held taken (Some m) (Some l) (asked_of new) opens behind.magic behind.few takes all;
+      starts = starts_with input limit bytes behind.first w.held taken (Some m) (Some l) (asked_of new) opens behind.magic behind.few takes all;
       stands = stands;
       near = omega (arith, few, length-append behind.first taken, length-append w.held taken, first_long, behind.room);
     }),
@@ -119,7 +138,7 @@ module _ (limit : ℕ) (content mid left : Option (List ℕ)) (w : WindowState) 
 
   -- all records that were taken
   read_all : (o m l : Option (List ℕ)) (taken : List ℕ) (new : Pairs) (units : List Record) (rest : List ℕ) → Takes o m behind.first → Takes m l taken → asked_of new ≡ units
-      → take (length (w.held ++ taken)) (take (limit - 8) (w.held ++ known taken l)) ≡ spell_all commands.units units ++ rest → BeginsWithNone commands.units rest → Grows before after (flat_map pair_spelling new)
+      → take (length (w.held ++ taken)) (take (limit - length start) (w.held ++ known taken l)) ≡ spell_all commands.units units ++ rest → BeginsWithNone commands.units rest → Grows before after (flat_map pair_spelling new)
       → IfSome o (λ bytes. (n : ℕ) × IsTaken bytes l n × AnswersAll (take n (take limit bytes)) before after)
   read_all None m l taken new units rest opens takes is whole none written = tt
   read_all (Some bytes) None l taken new units rest opens takes is whole none written = absurd opens
@@ -127,19 +146,19 @@ module _ (limit : ℕ) (content mid left : Option (List ℕ)) (w : WindowState) 
   read_all (Some bytes) (Some m) (Some l) taken new units rest opens takes is whole none written =
       let later = w.held ++ (taken ++ l) in
       let seen = w.held ++ taken in
-      let all : bytes ≡ (command_magic_of version) ++ later = behind_it version bytes behind.first w.held taken m l opens behind.magic.1 takes in
-      let parts : limit ≡ length (command_magic_of version) + (limit - 8) = omega (arith, behind.few, first_long, of_magic) in
-      let counts : length (behind.first ++ taken) ≡ length (command_magic_of version) + length seen = omega (arith, length-append behind.first taken, length-append w.held taken, first_long, of_magic) in
-      let within : take limit bytes ≡ (command_magic_of version) ++ take (limit - 8) later =
-      ap (take limit) all ∙ ap (λ (n : ℕ). take n ((command_magic_of version) ++ later)) parts ∙ take-append-add (command_magic_of version) later (limit - 8) in (
+      let all : bytes ≡ start ++ later = behind_it start bytes behind.first w.held taken m l opens behind.magic.1 takes in
+      let parts : limit ≡ length start + (limit - length start) = omega (arith, behind.few, first_long) in
+      let counts : length (behind.first ++ taken) ≡ length start + length seen = omega (arith, length-append behind.first taken, length-append w.held taken, first_long) in
+      let within : take limit bytes ≡ start ++ take (limit - length start) later =
+      ap (take limit) all ∙ ap (λ (n : ℕ). take n (start ++ later)) parts ∙ take-append-add start later (limit - length start) in (
         length (behind.first ++ taken),
         sym (ap length (opens ∙ ap (λ (xs : List ℕ). behind.first ++ xs) takes ∙ sym (append_assoc behind.first taken l)) ∙ length-append (behind.first ++ taken) l),
         record {
-          version = version;
+          input = input;
           pairs = new;
-          body = take (length seen) (take (limit - 8) later);
+          body = take (length seen) (take (limit - length start) later);
           rest = rest;
-          magic = (tt, ap (take (length (behind.first ++ taken))) within ∙ ap (λ (n : ℕ). take n ((command_magic_of version) ++ take (limit - 8) later)) counts ∙ take-append-add (command_magic_of version) (take (limit - 8) later) (length seen));
+          magic = (behind.magic.0, ap (take (length (behind.first ++ taken))) within ∙ ap (λ (n : ℕ). take n (start ++ take (limit - length start) later)) counts ∙ take-append-add start (take (limit - length start) later) (length seen));
           whole = whole ∙ ap (λ (l : List Record). spell_all commands.units l ++ rest) (sym is);
           none = none;
           written = written;
@@ -165,33 +184,35 @@ module _ (limit : ℕ) (content mid left : Option (List ℕ)) (w : WindowState) 
       (all_written (◌≡◌ {A = Result (Unit {0}) KeepFault} (Err Read) (Err Write)) before after on.new on.more on.acknowledged read_uncut on.ended.0 on.ended.1 on.written))
   paced_served (Err Write) on = broken_near Write (Err Write) on on.goes.goes.0 on.goes.goes.1
   paced_served (Err Disk) on = broken_near Disk (Err Disk) on on.goes.goes.0 on.goes.goes.1
-  paced_served (Err Memory) on = broken_near Memory (Err Memory) on on.goes.goes.0 on.goes.goes.1
+  paced_served (Err Memory) on = inl (broken_near Memory (Err Memory) on on.goes.goes.0 on.goes.goes.1)
   paced_served (Err NotDisk) on = tt
   paced_served (Err (Damaged n)) on = tt
   paced_served (Err (Rejected n)) on = tt
   paced_served (Err NotFlow) on = tt
+  paced_served (Err BadCheckpoint) on = tt
   paced_served (Err (Torn n)) on = tt
   paced_served (Err TooLong) on = tt
 
   -- a record that may allocate
-  starts_where : (o : Option (List ℕ)) (taken : List ℕ) (records : List Record) → Takes o mid behind.first → Takes mid left taken → BeginsWithAll (take (limit - 8) (w.held ++ known taken left)) records
-      → IfSome o (λ bytes. StartsWith commands limit bytes version records)
+  starts_where : (o : Option (List ℕ)) (taken : List ℕ) (records : List Record) → Takes o mid behind.first → Takes mid left taken → BeginsWithAll (take (limit - length start) (w.held ++ known taken left)) records
+      → IfSome o (λ bytes. StartsWith sources limit bytes input records)
   starts_where None taken records opens takes all = tt
-  starts_where (Some bytes) taken records opens takes all = starts_with version limit bytes behind.first w.held taken mid left records opens behind.magic behind.few takes all
+  starts_where (Some bytes) taken records opens takes all = starts_with input limit bytes behind.first w.held taken mid left records opens behind.magic behind.few takes all
 
-  pub wants_next : (held : List ℕ) → IsBegun held version market place begun → (result : Result (Unit {0}) KeepFault) → Served result → ◌≡◌ {A = Result (Unit {0}) KeepFault} result (Err Memory) → RunsOut limit held content left end before after
-  wants_next held is result on0 lacks =
+  pub wants_next : (held : List ℕ) (begin : Start) → IsBegun held begin input market place begun → (result : Result (Unit {0}) KeepFault) → Served result → ◌≡◌ {A = Result (Unit {0}) KeepFault} result (Err Memory) → RunsOut limit held content left end before after
+  wants_next held begin is result on0 lacks =
       let on = subst Served lacks on0 in
       let wanting = all_to_wanting on.market (take (w.limit - w.place) (w.held ++ known on.goes.taken left)) on.new on.more on.goes.goes.0 in
-      let kept = on.ended.2 version is.0 (opens_journal held version is.0 market is.1) is.2 in
-      inr (record {
-        version = version;
+      let kept = on.ended.2 begin is.0 (opens_journal held begin input is.0 market behind.magic.0 is.1) is.2 in
+      inr (inr (record {
+        begin = begin;
         old = is.0;
         market = market;
+        input = input;
         opens = is.1;
         new = on.new;
         now = on.market;
-        goes_on = on.so_far version is.0 (opens_journal held version is.0 market is.1) is.2;
+        goes_on = on.so_far begin is.0 (opens_journal held begin input is.0 market behind.magic.0 is.1) is.2;
         next = wanting.0;
         starts = starts_where content on.goes.taken (asked_of on.new ++ wanting.0 ∷ []) behind.takes on.goes.takes
             (subst (λ (n : ℕ). BeginsWithAll (take n (w.held ++ known on.goes.taken left)) (asked_of on.new ++ wanting.0 ∷ [])) far wanting.1);
@@ -199,4 +220,4 @@ module _ (limit : ℕ) (content mid left : Option (List ℕ)) (w : WindowState) 
         place = kept.0;
         keeps = kept.1;
         written = all_written (◌≡◌ {A = Result (Unit {0}) KeepFault} (Err Memory) (Err Write)) before after on.new on.more on.acknowledged memory_uncut on.ended.0 on.ended.1 on.written;
-      })
+      }))

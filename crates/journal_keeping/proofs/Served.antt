@@ -5,13 +5,13 @@ use Rattle.flow_io.specs.Streams.{Takes}
 use Rattle.flow_io.specs.Windows.{WindowState}
 use Rattle.wire_records.specs.Records.{Record}
 use Rattle.wire_records.specs.Grammars.{BeginsWith}
-use Rattle.wire_records.specs.Formats.{commands}
-use Rattle.wire_records.specs.declared.version.Version.{Version}
 use Rattle.market_rules.specs.Market.{Market}
+use Rattle.market_history.specs.Histories.{Start}
 use Rattle.file_units.specs.Inputs.{known}
 use Rattle.disk_edge.specs.Disks.{DiskState}
 use Rattle.journal_keeping.specs.declared.fault.KeepFault.{KeepFault}
-use Rattle.journal_keeping.specs.declared.fault.KeepFault.TheVariants.{Read, Write, Disk, Memory, NotDisk, Damaged, Rejected, NotFlow, Torn, TooLong}
+use Rattle.journal_keeping.specs.declared.fault.KeepFault.TheVariants.{Read, Write, Disk, Memory, NotDisk, Damaged, Rejected, NotFlow, BadCheckpoint, Torn, TooLong}
+use Rattle.journal_keeping.specs.Starts.{source_start, sources}
 use Rattle.journal_keeping.specs.Keeping.{AreServed}
 use Rattle.journal_keeping.specs.Private.{ServesOn}
 use Rattle.journal_keeping.specs.Pacing.{asked_of}
@@ -37,9 +37,10 @@ served_first window mid left (Err NotDisk) before from start end held holds on =
 served_first window mid left (Err (Damaged n)) before from start end held holds on = absurd on.ended
 served_first window mid left (Err (Rejected n)) before from start end held holds on = absurd on.ended
 served_first window mid left (Err NotFlow) before from start end held holds on = absurd on.ended
+served_first window mid left (Err BadCheckpoint) before from start end held holds on = absurd on.ended
 
--- the bytes of the source begin with the magic and the served records
-pub are_served : (version : Version) (limit : ℕ) (content mid left : Option (List ℕ)) (first held taken : List ℕ) (records : List Record) → Takes content mid first → BeginsWith commands.magics first version held → length first ≤ limit → Takes mid left taken
-    → BeginsWithAll (take (limit - 8) (held ++ known taken left)) records → AreServed limit version content records
-are_served version limit None mid left first held taken records opens magic few takes all = inr tt
-are_served version limit (Some bytes) mid left first held taken records opens magic few takes all = inr (starts_with version limit bytes first held taken mid left records opens magic few takes all)
+-- the bytes of the source begin so, and with the served records
+pub are_served : (input : Start) (limit : ℕ) (content mid left : Option (List ℕ)) (first held taken : List ℕ) (records : List Record) → Takes content mid first → BeginsWith sources.magics first input held → length first ≤ limit → Takes mid left taken
+    → BeginsWithAll (take (limit - length (source_start input)) (held ++ known taken left)) records → AreServed limit input content records
+are_served input limit None mid left first held taken records opens magic few takes all = inr tt
+are_served input limit (Some bytes) mid left first held taken records opens magic few takes all = inr (starts_with input limit bytes first held taken mid left records opens magic few takes all)

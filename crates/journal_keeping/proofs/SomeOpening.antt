@@ -1,24 +1,30 @@
 -- A disk's bytes are opened in some way.
-use Rattle.std.proofs.Common.{◌≡◌, ◌⊎◌, ⊎_elim, inl, inr, ℕ, zero, suc, ◌+◌, ◌≤◌, ◌<◌, ◌^◌, List, [], ◌∷◌, ◌++◌, length, drop, map, refl, sym, ap, subst, ◌∙◌, arith, length-append, length-drop}
+use Rattle.std.proofs.Common.{◌≡◌, ◌⊎◌, ⊎_elim, inl, inr, ℕ, zero, suc, ◌+◌, ◌≤◌, ◌<◌, ◌^◌, List, [], ◌∷◌, ◌++◌, length, drop, get_or, map, refl, sym, ap, ◌∙◌, arith, length-append}
 use Rattle.std.proofs.lemmas.Bool.{cases_eq}
-use Rattle.std.proofs.lemmas.List.{drop_at}
+use Rattle.std.proofs.lemmas.List.{append-nil, drop_at}
+use Rattle.std.specs.List.{flat_map}
 use Rattle.wire_records.specs.Records.{Record}
 use Rattle.wire_records.specs.Commands.{Pair}
 use Rattle.wire_records.specs.declared.version.Version.{Version}
+use Rattle.wire_records.specs.declared.version.Version.TheVariants.{One}
 use Rattle.wire_records.proofs.RecordCode.{magic_told}
 use Rattle.word_driver.specs.Laws.{IsNotDenied}
 use Rattle.word_driver.proofs.Denying.{not_denied, follows, one_of}
 use Rattle.flow_orders.specs.Outcomes.{Outcome}
 use Rattle.journal_records.specs.Formats.{records_of}
 use Rattle.market_rules.specs.Market.{Market, empty_market}
+use Rattle.market_snapshot.specs.Checkpoints.{checkpoint_bytes}
+use Rattle.market_history.specs.Histories.{Start, Empty, Kept}
 use Rattle.batch_audit.specs.Legal.{IsLegalPair}
 use Rattle.journal_disk.specs.Pairs.{RecordPair, pair_bytes}
-use Rattle.journal_disk.specs.Entries.{framed, entries, disk_magic_of}
+use Rattle.journal_disk.specs.Entries.{IsHead, framed, entry, entries, disk_magic_of, IsNewDisk}
 use Rattle.journal_disk.specs.Recovering.{IsForeign}
-use Rattle.journal_disk.specs.Stepping.{HasEntryAt}
-use Rattle.journal_disk.proofs.Entries.{entries_none, length-framed, disk_magics_told}
+use Rattle.journal_disk.specs.Stepping.{HasEntryAt, IsDamagedAt}
+use Rattle.journal_disk.proofs.Entries.{magic_alone, magic_first, length-framed, disk_magics_told, eight}
+use Rattle.journal_disk.proofs.OneList.{closed_gate}
+use Rattle.journal_disk.proofs.OpenedEntries.{new_not_foreign}
 use Rattle.journal_disk.proofs.Excluding.{one_behind}
-use Rattle.journal_keeping.specs.Keeping.{IsKeptJournal}
+use Rattle.journal_keeping.specs.Starts.{head_of, HasFirst}
 use Rattle.journal_keeping.specs.Openings.{Opening, Foreign, New, Damaged, Rejected, Legal, BeginsLegal, IsOpening}
 use Rattle.journal_keeping.specs.Laws.{SomeOpening}
 use Rattle.journal_keeping.proofs.Auditing.{none_read, one_read}
@@ -27,36 +33,41 @@ use Rattle.journal_keeping.proofs.Opened.{kept_each}
 le_or_more : (a b : ℕ) → (a ≤ b) ⊎ (b < a)
 le_or_more a b = grind arith
 
-module _ (version : Version) (bytes : List ℕ) (long : 9 < length bytes) (known : ¬ IsForeign bytes) where
+-- A disk that begins so, and whose first entry holds no checkpoint if its entries (head_of begin) at the first commit byte.
+module _ (begin : Start) (bytes : List ℕ) (long : ¬ IsNewDisk bytes) (known : ¬ IsForeign bytes) (lawful : IsHead (head_of begin)) (unfit : (legal : List (Pair Record Outcome)) → length (entries (head_of begin) (map records_of legal)) ≡ 8 → (first : Market) → ¬ HasFirst first bytes) where
   abbrev Opens : Type 0
   Opens = (opening : Opening) × IsOpening bytes opening
 
   abbrev At : List (Pair Record Outcome) → Market → ℕ → Type 0
-  At legal market place = BeginsLegal version bytes legal market place
+  At legal market place = BeginsLegal begin bytes legal market place
 
   -- what follows the valid entries
   at_gate : (legal : List (Pair Record Outcome)) (market : Market) (place : ℕ) (begins : At legal market place) → drop place bytes ≡ begins.rest
-  at_gate legal market place begins = ap (drop place) begins.spelled ∙ drop_at (entries version (map records_of legal)) begins.rest place (sym begins.begins)
+  at_gate legal market place begins = ap (drop place) begins.spelled ∙ drop_at (entries (head_of begin) (map records_of legal)) begins.rest place (sym begins.begins)
+
+  damaged_at : (legal : List (Pair Record Outcome)) (market : Market) (place : ℕ) (begins : At legal market place) → IsDamagedAt place bytes → Opens
+  damaged_at legal market place begins damage =
+      (Damaged place, (long, known, record { begin = begin; legal = legal; market = market; begins = begins; damage = damage; unfit = λ at. unfit legal (sym begins.begins ∙ at) }))
 
   -- nothing follows
   ended : (legal : List (Pair Record Outcome)) (market : Market) (place : ℕ) (begins : At legal market place) → begins.rest ≡ [] → Opens
   ended legal market place begins none =
-      (Damaged place, (long, known, version, legal, market, begins, inl (omega (arith, ap length begins.spelled, length-append (entries version (map records_of legal)) begins.rest, ap length none, begins.begins))))
+      damaged_at legal market place begins (inl (omega (arith, ap length begins.spelled, length-append (entries (head_of begin) (map records_of legal)) begins.rest, ap length none, begins.begins)))
 
   -- a commit byte that is set, without an entry
   damaged : (legal : List (Pair Record Outcome)) (market : Market) (place : ℕ) (begins : At legal market place) (rest : List ℕ) → begins.rest ≡ 1 ∷ rest → (((p : RecordPair) × (behind : List ℕ) × HasEntryAt place p behind bytes) → ⊥) → Opens
   damaged legal market place begins rest is none =
-      (Damaged place, (long, known, version, legal, market, begins, inr (rest, at_gate legal market place begins ∙ is, λ p behind has. none (p, behind, has))))
+      damaged_at legal market place begins (inr (rest, at_gate legal market place begins ∙ is, λ p behind has. none (p, behind, has)))
 
   -- one more valid entry
   one_more : (legal : List (Pair Record Outcome)) (market : Market) (place : ℕ) (begins : At legal market place) (p : RecordPair) (behind : List ℕ) → HasEntryAt place p behind bytes → (new : Market) → IsLegalPair market p new
       → (more : List (Pair Record Outcome)) × (next : ℕ) × (now : At more new next) × (now.rest ≡ behind)
   one_more legal market place begins p behind has new legal_pair =
-      let one = one_read version legal market new p begins.journal has.is_pair legal_pair in
-      let whole = one_behind version (map records_of legal) p begins.rest behind bytes place begins.spelled begins.begins has.spelled in (
+      let one = one_read begin legal market new p begins.journal has.is_pair legal_pair in
+      let whole = one_behind (head_of begin) (map records_of legal) p begins.rest behind bytes place begins.spelled begins.begins has.spelled in (
         one.0,
-        length (entries version (map records_of one.0)),
-        record { journal = one.1; rest = behind; spelled = whole ∙ ap (λ (l : List RecordPair). entries version l ++ behind) one.3; begins = refl },
+        length (entries (head_of begin) (map records_of one.0)),
+        record { lawful = lawful; journal = one.1; rest = behind; spelled = whole ∙ ap (λ (l : List RecordPair). entries (head_of begin) l ++ behind) one.3; begins = refl },
         refl,
       )
 
@@ -74,7 +85,7 @@ module _ (version : Version) (bytes : List ℕ) (long : 9 < length bytes) (known
         let more = one_more legal market place begins p behind has legal_pair.0 legal_pair.1 in
         let same : gate ∷ rest ≡ (1 ∷ framed (pair_bytes p)) ++ behind = sym is ∙ sym (at_gate legal market place begins) ∙ has.spelled in
         again more.0 legal_pair.0 more.1 more.2 behind more.3 (omega (arith, few, ap length same, length-append (framed (pair_bytes p)) behind, length-framed (pair_bytes p)))
-    at_pair p behind has (inr none) = not_denied (Rejected (length legal + 1), (long, known, version, legal, market, place, begins, p, behind, has, (λ new is_legal. none (new, is_legal)), refl))
+    at_pair p behind has (inr none) = not_denied (Rejected (length legal + 1), (long, known, begin, legal, market, place, begins, p, behind, has, (λ new is_legal. none (new, is_legal)), refl))
 
     at_entry : begins.rest ≡ 1 ∷ rest → Found place ⊎ (Found place → ⊥) → IsNotDenied Opens
     at_entry open_gate (inl found) = follows (at_pair found.0 found.1 found.2) (one_of ((new : Market) × IsLegalPair market found.0 new))
@@ -87,36 +98,84 @@ module _ (version : Version) (bytes : List ℕ) (long : 9 < length bytes) (known
       ⊎_elim
       (λ (is_open : gate ≡ 1). follows (at_entry fuel (go_on fuel) legal market place begins gate rest is (omega (arith, few)) (is ∙ ap (λ (g : ℕ). g ∷ rest) is_open)) (one_of (Found place)))
       (λ shut. not_denied (
-        Legal version legal market,
+        Legal begin legal market,
         (
           long,
           known,
           begins.journal,
           record {
+            lawful = lawful;
             each = kept_each legal begins.journal.each;
             gate = gate;
             shut = shut;
             rest = rest;
-            spelled = begins.spelled ∙ ap (λ (l : List ℕ). entries version (map records_of legal) ++ l) is;
+            spelled = begins.spelled ∙ ap (λ (l : List ℕ). entries (head_of begin) (map records_of legal) ++ l) is;
           },
         ),
       ))
       (cases_eq gate 1)
 
-module _ (bytes : List ℕ) (long : 9 < length bytes) (small : length bytes ≤ 2 ^ 60) where
-  by_magic : ((v : Version) × (rest : List ℕ) × (Unit {0} × (bytes ≡ disk_magic_of v ++ rest))) → IsNotDenied ((opening : Opening) × IsOpening bytes opening)
-  by_magic (v, rest, (lawful, is)) =
-      let begins : BeginsLegal v bytes [] (empty_market v) (length (entries v [])) = record {
-        journal = none_read v (empty_market v) refl;
-        rest = rest;
-        spelled = is ∙ ap (λ (l : List ℕ). l ++ rest) (sym (entries_none v));
+-- a disk that isn't new begins with a checkpoint, or without one
+module _ (bytes : List ℕ) (long : ¬ IsNewDisk bytes) (known : ¬ IsForeign bytes) where
+  abbrev First : Type 0
+  First = (m : Market) × HasFirst m bytes
+
+  by_first : (v : Version) (rest : List ℕ) → bytes ≡ disk_magic_of v ++ rest → First ⊎ (First → ⊥) → IsNotDenied ((opening : Opening) × IsOpening bytes opening)
+  by_first v rest is (inl (m, first)) =
+      let begin : Start = Kept m in
+      let place = length (entries (head_of begin) []) in
+      let begins : BeginsLegal begin bytes [] m place = record {
+        lawful = first.lawful;
+        journal = none_read begin m first.is_one refl;
+        rest = first.rest;
+        spelled = first.spelled;
         begins = refl;
       } in
-      go_on v bytes long (λ foreign. elim foreign [ inl large ↦ omega (arith, small, large) | inr none ↦ none.1 v rest tt is ]) (length rest) [] (empty_market v) (length (entries v [])) begins rest refl (omega arith)
+      go_on begin bytes long known first.lawful
+      (λ legal at. absurd (omega (arith, at, kept_place m (map records_of legal))))
+      (length first.rest) [] m place begins first.rest refl (omega arith)
+    where
+      kept_place : (m : Market) (pairs : List RecordPair) → 13 ≤ length (entries (head_of (Kept m)) pairs)
+      kept_place m pairs =
+          omega (
+            arith,
+            ap length (append-nil (entries (head_of (Kept m)) pairs)),
+            ap length (magic_first (head_of (Kept m)) pairs []),
+            eight m.version,
+            length-append (disk_magic_of m.version) ((1 ∷ framed (checkpoint_bytes m)) ++ (flat_map entry pairs ++ [])),
+            length-append (1 ∷ framed (checkpoint_bytes m)) (flat_map entry pairs ++ []),
+            length-framed (checkpoint_bytes m),
+          )
+  by_first v rest is (inr none) =
+      let begin : Start = Empty v in
+      let begins : BeginsLegal begin bytes [] (empty_market v) (length (entries (head_of begin) [])) = record {
+        lawful = tt;
+        journal = none_read begin (empty_market v) tt refl;
+        rest = rest;
+        spelled = is ∙ ap (λ (l : List ℕ). l ++ rest) (sym (magic_alone v));
+        begins = refl;
+      } in
+      go_on begin bytes long known tt (λ legal at. λ m first. none (m, first)) (length rest) [] (empty_market v) (length (entries (head_of begin) [])) begins rest refl (omega arith)
+
+module _ (bytes : List ℕ) (long : 9 < length bytes) (small : length bytes ≤ 2 ^ 60) where
+  by_magic : ((v : Version) × (rest : List ℕ) × (Unit {0} × (bytes ≡ disk_magic_of v ++ rest))) → IsNotDenied ((opening : Opening) × IsOpening bytes opening)
+  by_magic (v, [], (lawful, is)) = absurd (omega (arith, long, ap length is, length-append (disk_magic_of v) [], eight v))
+  by_magic (v, gate ∷ rest, (lawful, is)) =
+      let known : ¬ IsForeign bytes = λ foreign. elim foreign [ inl large ↦ omega (arith, small, large) | inr none ↦ none.1 v (gate ∷ rest) tt is ] in
+      ⊎_elim
+      (λ (is_open : gate ≡ 1). follows
+      (by_first bytes (λ new. elim new [ inl short ↦ omega (arith, short, long) | inr closed ↦ closed.shut (sym (closed_gate bytes closed) ∙ gate_of v gate rest is ∙ is_open) ]) known v (gate ∷ rest) is)
+      (one_of ((m : Market) × HasFirst m bytes)))
+      (λ shut. not_denied (New, (inr (record { of = v; gate = gate; shut = shut; rest = rest; spelled = is }), known)))
+      (cases_eq gate 1)
+    where
+      gate_of : (v : Version) (gate : ℕ) (rest : List ℕ) → bytes ≡ disk_magic_of v ++ gate ∷ rest → get_or bytes 8 0 ≡ gate
+      gate_of One gate rest is = ap (λ (l : List ℕ). get_or l 8 0) is
+      gate_of version gate rest is = ap (λ (l : List ℕ). get_or l 8 0) is
 
 pub some_opening : SomeOpening
 some_opening bytes = ⊎_elim
-    (λ (short : length bytes ≤ 9). not_denied (New, short))
+    (λ (short : length bytes ≤ 9). not_denied (New, (inl short, new_not_foreign bytes (inl short) (omega (arith, short)))))
     (λ (long : 9 < length bytes). ⊎_elim
     (λ (small : length bytes ≤ 2 ^ 60). ⊎_elim
     (λ begins. by_magic bytes long small begins)

@@ -10,16 +10,16 @@ use Rattle.wire_records.specs.Records.{Record}
 use Rattle.wire_records.specs.Commands.{Pair}
 use Rattle.wire_records.specs.Grammars.{BeginsWith, spell_all}
 use Rattle.wire_records.specs.Reading.{Ending, StartsWith}
-use Rattle.wire_records.specs.Formats.{commands, command_magic_of}
-use Rattle.wire_records.proofs.RecordCode.{eight}
-use Rattle.wire_records.specs.declared.version.Version.{Version}
+use Rattle.wire_records.specs.Formats.{commands}
 use Rattle.flow_orders.specs.Outcomes.{Outcome}
 use Rattle.market_rules.specs.Market.{Market}
 use Rattle.market_rules.specs.Allocating.{RecordMayAllocate}
+use Rattle.market_history.specs.Histories.{Start}
 use Rattle.file_units.specs.Units.{Leads, GoesToEnd, GoesToBreak}
 use Rattle.file_units.specs.Inputs.{known}
 use Rattle.journal_keeping.specs.declared.fault.KeepFault.{KeepFault}
 use Rattle.journal_keeping.specs.declared.fault.KeepFault.TheVariants.{Memory}
+use Rattle.journal_keeping.specs.Starts.{source_start, sources}
 use Rattle.journal_keeping.specs.Private.{Adds, Names}
 use Rattle.journal_keeping.specs.Pacing.{asked_of}
 use Rattle.journal_keeping.proofs.Turns.{Pairs}
@@ -98,20 +98,20 @@ longer n bytes records all = record {
   each = all.each;
 }
 
--- after the magic, in the known bytes of a source
-pub starts_with : (version : Version) (limit : ℕ) (bytes first held taken : List ℕ) (mid left : Option (List ℕ)) (records : List Record) → Takes (Some bytes) mid first → BeginsWith commands.magics first version held → length first ≤ limit → Takes mid left taken
-    → BeginsWithAll (take (limit - 8) (held ++ known taken left)) records → StartsWith commands limit bytes version records
-starts_with version limit bytes first held taken None left records opens magic few takes all = absurd opens
-starts_with version limit bytes first held taken (Some m) None records opens magic few takes all = absurd takes
-starts_with version limit bytes first held taken (Some m) (Some l) records opens magic few takes all =
+-- after the beginning, in the known bytes of a source
+pub starts_with : (input : Start) (limit : ℕ) (bytes first held taken : List ℕ) (mid left : Option (List ℕ)) (records : List Record) → Takes (Some bytes) mid first → BeginsWith sources.magics first input held → length first ≤ limit → Takes mid left taken
+    → BeginsWithAll (take (limit - length (source_start input)) (held ++ known taken left)) records → StartsWith sources limit bytes input records
+starts_with input limit bytes first held taken None left records opens magic few takes all = absurd opens
+starts_with input limit bytes first held taken (Some m) None records opens magic few takes all = absurd takes
+starts_with input limit bytes first held taken (Some m) (Some l) records opens magic few takes all =
+    let start = source_start input in
     let behind = held ++ (taken ++ l) in
-    let whole : bytes ≡ (command_magic_of version) ++ behind = opens ∙ ap (λ (xs : List ℕ). xs ++ m) magic.1 ∙ append_assoc (command_magic_of version) held m ∙ ap (λ (xs : List ℕ). (command_magic_of version) ++ (held ++ xs)) takes in
-    let of_magic : length (command_magic_of version) ≡ 8 = eight version in
-    let parts : limit ≡ length (command_magic_of version) + (limit - 8) = omega (arith, few, ap length magic.1, length-append (command_magic_of version) held, of_magic) in
+    let whole : bytes ≡ start ++ behind = opens ∙ ap (λ (xs : List ℕ). xs ++ m) magic.1 ∙ append_assoc start held m ∙ ap (λ (xs : List ℕ). start ++ (held ++ xs)) takes in
+    let parts : limit ≡ length start + (limit - length start) = omega (arith, few, ap length magic.1, length-append start held) in
     record {
-      body = take (limit - 8) behind;
+      body = take (limit - length start) behind;
       rest = all.rest;
-      magic = (tt, ap (take limit) whole ∙ ap (λ (n : ℕ). take n ((command_magic_of version) ++ behind)) parts ∙ take-append-add (command_magic_of version) behind (limit - 8));
+      magic = (magic.0, ap (take limit) whole ∙ ap (λ (n : ℕ). take n (start ++ behind)) parts ∙ take-append-add start behind (limit - length start));
       whole = all.whole;
       each = all.each;
     }

@@ -9,30 +9,30 @@ use Rattle.wire_records.specs.Records.{Record}
 use Rattle.wire_records.specs.Grammars.{BeginsWith}
 use Rattle.wire_records.specs.Reading.{Reads, ReadsOn}
 use Rattle.wire_records.specs.Reading as reading
-use Rattle.wire_records.specs.Formats.{commands, command_magic_of}
-use Rattle.wire_records.proofs.RecordCode.{eight}
+use Rattle.wire_records.specs.Formats.{commands}
 use Rattle.wire_records.specs.declared.version.Version.{Version}
 use Rattle.journal_records.specs.Pairs.{pair_spelling}
 use Rattle.journal_records.specs.Formats.{records_of}
 use Rattle.market_rules.specs.Market.{Market}
+use Rattle.market_history.specs.Histories.{Start}
 use Rattle.file_units.specs.Units.{ending_of, GoesToEnd}
 use Rattle.file_units.specs.Inputs.{known}
 use Rattle.file_units.specs.declared.units.Ending.{Ending}
 use Rattle.file_units.specs.declared.units.Ending.TheVariants as ending
 use Rattle.file_units.proofs.Endings.{reads_alike}
 use Rattle.disk_edge.specs.Disks.{DiskState, IsDisk}
-use Rattle.disk_edge.specs.Images.{LeavesOnly}
 use Rattle.journal_disk.specs.Recovering.{IsFound}
 use Rattle.journal_disk.specs.Entries.{Keeps}
 use Rattle.journal_keeping.specs.declared.fault.KeepFault.{KeepFault}
-use Rattle.journal_keeping.specs.declared.fault.KeepFault.TheVariants.{Read, Write, Disk, Memory, NotDisk, Damaged, Rejected, NotFlow, Torn, TooLong}
-use Rattle.journal_keeping.specs.Keeping.{IsKeptJournal, StandsForJournal, IsLegalImage, HoldsLegal, GoesOn, GoesOnIn, StandIn, Runs, KeepsOn, KeepsIn}
-use Rattle.journal_keeping.specs.Openings.{Opening, New, Legal, IsOpening, OpensAs}
+use Rattle.journal_keeping.specs.declared.fault.KeepFault.TheVariants.{Read, Write, Disk, Memory, NotDisk, Damaged, Rejected, NotFlow, BadCheckpoint, Torn, TooLong}
+use Rattle.journal_keeping.specs.Starts.{head_of, source_start, sources}
+use Rattle.journal_keeping.specs.Keeping.{IsKeptJournal, StandsForJournal, IsLegalImage, HoldsLegal, GoesOn, GoesOnIn, StandIn, KeepsIn}
+use Rattle.journal_keeping.specs.Openings.{Opening, New, Legal, IsOpening, OpensAs, ReadsKept}
 use Rattle.journal_keeping.specs.Openings as opening
-use Rattle.journal_keeping.specs.Ended.{IsRefused, HasKeptAll, HasLeftAll, ComesTo, IsRefusal, MayBeginAgain}
+use Rattle.journal_keeping.specs.Ended.{IsRefused, HasKeptAll, ComesTo, IsRefusal, MayBeginAgain}
 use Rattle.journal_keeping.specs.Private.{Adds, IfEnded, ServesOn}
 use Rattle.journal_keeping.specs.Pacing.{asked_of}
-use Rattle.journal_keeping.specs.Beginning.{IsBegun, OpensNot, IsOfDisk, IsBehindMagic, IsNoneOf, IsOfSource, NotBegun, Unread, Asked}
+use Rattle.journal_keeping.specs.Beginning.{IsBegun, IsKeptOn, OpensNot, IsOfDisk, IsBehindStart, IsOfSource, NotBegun, Unread, Asked, OpensSafely}
 use Rattle.journal_keeping.proofs.Serving.{unbegun, opened_first, stand_whole}
 use Rattle.journal_keeping.proofs.Ends.{take_every}
 use Rattle.journal_keeping.proofs.Again.{can_begin_again}
@@ -41,23 +41,24 @@ use Rattle.journal_keeping.proofs.Turns.{Pairs}
 use Rattle.journal_keeping.proofs.Sources.{BeginsWithAll, asked_are_units}
 use Rattle.journal_keeping.proofs.Served.{served_first, are_served}
 use Rattle.journal_keeping.proofs.Begun.{Opens, opens_journal}
-use Rattle.journal_keeping.proofs.Magic.{counted}
+use Rattle.journal_keeping.proofs.Starts.{of_source}
 
 -- ---- what a run does to the disk and to the output
 
 -- before the first record
-pub keeps_none : (limit : ℕ) (content : Option (List ℕ)) (Cut : Type 0) (version : Version) (start next : DiskState) (old : Pairs) (market : Market) (held : Option (List ℕ)) → IsKeptJournal version old market → IsDisk next → Opens version start next old
-    → KeepsIn limit content Cut version start next old market held held
-keeps_none limit content Cut version start next old market held journal is_disk opens = (
-  version,
-  market,
-  inl (refl, refl),
+pub keeps_none : (limit : ℕ) (content : Option (List ℕ)) (Cut : Type 0) (begin : Start) (start next : DiskState) (old : Pairs) (market : Market) (held : Option (List ℕ)) → IsDisk next → OpensSafely limit content start next begin old market
+    → KeepsIn limit content Cut begin start next old market held held
+keeps_none limit content Cut begin start next old market held is_disk safe = (
+  safe.of,
+  safe.from,
+  safe.input,
+  safe.goes,
   record {
     records = [];
     new = [];
     acknowledged = 0;
     served = inl refl;
-    runs = unbegun version start next old market journal is_disk opens;
+    runs = unbegun safe.of start next old safe.from safe.journal is_disk safe.moments;
     written = stand_whole Cut held held [] (Grows-nothing held);
   },
 )
@@ -65,50 +66,47 @@ keeps_none limit content Cut version start next old market held journal is_disk 
 -- ---- a later run
 
 legal_again : (end : DiskState) (content : Option (List ℕ)) → end.content ≡ content → IfSome content end.images → ((image : List ℕ) → end.images image → IsLegalImage image)
-    → IfSome content (λ bytes. (version : Version) × (pairs : Pairs) × (market : Market) × HoldsLegal end version pairs market)
+    → IfSome content (λ bytes. (begin : Start) × (pairs : Pairs) × (market : Market) × HoldsLegal end begin pairs market)
 legal_again end None is left each = tt
 legal_again end (Some bytes) is left each =
     let here = each bytes left in
     (here.0, here.1, here.2, record { bytes = bytes; told = is; journal = here.3; stands = here.4; each = each })
 
-pub may_begin_again : (limit : ℕ) (content : Option (List ℕ)) (Cut : Type 0) (version : Version) (start end : DiskState) (old : Pairs) (market : Market) (held holds : Option (List ℕ)) → HoldsLegal start version old market → IsDisk end
-    → KeepsIn limit content Cut version start end old market held holds → MayBeginAgain start end
-may_begin_again limit content Cut version start end old market held holds legal is_disk (of, from, in_version, keeps) =
+pub may_begin_again : (limit : ℕ) (content : Option (List ℕ)) (Cut : Type 0) (begin : Start) (start end : DiskState) (old : Pairs) (market : Market) (held holds : Option (List ℕ)) → HoldsLegal start begin old market → IsDisk end
+    → KeepsIn limit content Cut begin start end old market held holds → MayBeginAgain start end
+may_begin_again limit content Cut begin start end old market held holds legal is_disk (of, from, input, goes, keeps) =
     let runs = keeps.runs in
-    let returned = (can_begin_again start end).returned version of old keeps.new market from runs.now keeps.records keeps.acknowledged legal runs.goes_on runs.returns in
+    let returned = (can_begin_again start end).returned begin of old keeps.new market from runs.now keeps.records keeps.acknowledged legal runs.goes_on runs.returns in
     record {
-      stopped = (can_begin_again start end).during version of old keeps.new market from runs.now keeps.records legal runs.goes_on runs.during;
+      stopped = (can_begin_again start end).during begin of old keeps.new market from runs.now keeps.records legal runs.goes_on runs.during;
       returned = returned;
       told = legal_again end end.content refl is_disk.content returned;
     }
 
--- ---- a source that was read on after its magic
+-- ---- a source that was read on after its beginning
 
--- reading on after a magic
-reads_at : (version : Version) (More : Type 0) (bytes : List ℕ) (units : List Record) (how : reading.Ending) → ReadsOn commands 8 More bytes units how → ReadsOn commands (length (command_magic_of version)) More bytes units how
-reads_at version More bytes units how reads = subst (λ (n : ℕ). ReadsOn commands n More bytes units how) (sym (eight version)) reads
-
--- what a source with the version's magic is read as
-reads_kept : (version : Version) (limit : ℕ) (bytes first held taken : List ℕ) (mid left : Option (List ℕ)) (units : List Record) (how : reading.Ending) → Takes (Some bytes) mid first → BeginsWith commands.magics first version held → length first ≤ limit → Takes mid left taken
-    → ReadsOn commands 8 (limit - 8 < length (held ++ known taken left)) (take (limit - 8) (held ++ known taken left)) units how → Reads commands limit bytes (reading.File version units how)
-reads_kept version limit bytes first held taken None left units how opens magic few takes reads = absurd opens
-reads_kept version limit bytes first held taken (Some m) None units how opens magic few takes reads = absurd takes
-reads_kept version limit bytes first held taken (Some m) (Some l) units how opens magic few takes reads =
+-- what a source that begins so is read as
+reads_kept : (input : Start) (limit : ℕ) (bytes first held taken : List ℕ) (mid left : Option (List ℕ)) (units : List Record) (how : reading.Ending) → Takes (Some bytes) mid first → BeginsWith sources.magics first input held → length first ≤ limit → Takes mid left taken
+    → ReadsOn commands (length (source_start input)) (limit - length (source_start input) < length (held ++ known taken left)) (take (limit - length (source_start input)) (held ++ known taken left)) units how → Reads sources limit bytes (reading.File input units how)
+reads_kept input limit bytes first held taken None left units how opens magic few takes reads = absurd opens
+reads_kept input limit bytes first held taken (Some m) None units how opens magic few takes reads = absurd takes
+reads_kept input limit bytes first held taken (Some m) (Some l) units how opens magic few takes reads =
+    let start = source_start input in
     let behind = held ++ (taken ++ l) in
-    let whole : bytes ≡ (command_magic_of version) ++ behind = opens ∙ ap (λ (xs : List ℕ). xs ++ m) magic.1 ∙ append_assoc (command_magic_of version) held m ∙ ap (λ (xs : List ℕ). (command_magic_of version) ++ (held ++ xs)) takes in
-    let of_magic : length (command_magic_of version) ≡ 8 = eight version in
-    let within : 8 ≤ limit = omega (arith, few, ap length magic.1, length-append (command_magic_of version) held, of_magic) in
-    let parts : limit ≡ length (command_magic_of version) + (limit - 8) = omega (arith, within, of_magic) in
-    let size : length bytes ≡ 8 + length behind = ap length whole ∙ length-append (command_magic_of version) behind ∙ ap (λ (n : ℕ). n + length behind) of_magic in (
-      take (limit - 8) behind,
-      (tt, ap (take limit) whole ∙ ap (λ (n : ℕ). take n ((command_magic_of version) ++ behind)) parts ∙ take-append-add (command_magic_of version) behind (limit - 8)),
-      reads_at version (limit < length bytes) (take (limit - 8) behind) units how (reads_alike commands (limit - 8 < length behind) (limit < length bytes) 8 (take (limit - 8) behind) units how ((λ p. omega (arith, p, size, within)), (λ q. omega (arith, q, size, within))) reads),
+    let whole : bytes ≡ start ++ behind = opens ∙ ap (λ (xs : List ℕ). xs ++ m) magic.1 ∙ append_assoc start held m ∙ ap (λ (xs : List ℕ). start ++ (held ++ xs)) takes in
+    let within : length start ≤ limit = omega (arith, few, ap length magic.1, length-append start held) in
+    let parts : limit ≡ length start + (limit - length start) = omega (arith, within) in
+    let size : length bytes ≡ length start + length behind = ap length whole ∙ length-append start behind in (
+      take (limit - length start) behind,
+      (magic.0, ap (take limit) whole ∙ ap (λ (n : ℕ). take n (start ++ behind)) parts ∙ take-append-add start behind (limit - length start)),
+      of_source (length start) (limit < length bytes) (take (limit - length start) behind) units how
+          (reads_alike commands (limit - length start < length behind) (limit < length bytes) (length start) (take (limit - length start) behind) units how ((λ p. omega (arith, p, size, within)), (λ q. omega (arith, q, size, within))) reads),
     )
 
-reads_where : (version : Version) (limit : ℕ) (content : Option (List ℕ)) (first held taken : List ℕ) (mid left : Option (List ℕ)) (units : List Record) (how : reading.Ending) → Takes content mid first → BeginsWith commands.magics first version held → length first ≤ limit → Takes mid left taken
-    → ReadsOn commands 8 (limit - 8 < length (held ++ known taken left)) (take (limit - 8) (held ++ known taken left)) units how → IfSome content (λ bytes. Reads commands limit bytes (reading.File version units how))
-reads_where version limit None first held taken mid left units how opens magic few takes reads = tt
-reads_where version limit (Some bytes) first held taken mid left units how opens magic few takes reads = reads_kept version limit bytes first held taken mid left units how opens magic few takes reads
+reads_where : (input : Start) (limit : ℕ) (content : Option (List ℕ)) (first held taken : List ℕ) (mid left : Option (List ℕ)) (units : List Record) (how : reading.Ending) → Takes content mid first → BeginsWith sources.magics first input held → length first ≤ limit → Takes mid left taken
+    → ReadsOn commands (length (source_start input)) (limit - length (source_start input) < length (held ++ known taken left)) (take (limit - length (source_start input)) (held ++ known taken left)) units how → IfSome content (λ bytes. Reads sources limit bytes (reading.File input units how))
+reads_where input limit None first held taken mid left units how opens magic few takes reads = tt
+reads_where input limit (Some bytes) first held taken mid left units how opens magic few takes reads = reads_kept input limit bytes first held taken mid left units how opens magic few takes reads
 
 -- ---- what the output gained
 
@@ -132,70 +130,86 @@ all_written Cut held holds new more acknowledged not none all stands =
 -- ---- by the result
 
 -- nothing was served
-pub comes_not_begun : (limit : ℕ) (held : List ℕ) (content : Option (List ℕ)) (end : DiskState) (before : Option (List ℕ)) (fault : KeepFault) → NotBegun limit held content end fault → ComesTo limit held content end before before (Err fault)
-comes_not_begun limit held content end before NotDisk is = is
-comes_not_begun limit held content end before (Damaged place) is = is
-comes_not_begun limit held content end before (Rejected number) is = is
-comes_not_begun limit held content end before NotFlow is = is before
-comes_not_begun limit held content end before Disk is = tt
-comes_not_begun limit held content end before Memory is = tt
-comes_not_begun limit held content end before Read is = tt
-comes_not_begun limit held content end before Write is = absurd is
-comes_not_begun limit held content end before (Torn place) is = absurd is
-comes_not_begun limit held content end before TooLong is = absurd is
+pub comes_not_begun : (limit : ℕ) (held : List ℕ) (content left : Option (List ℕ)) (end : DiskState) (before : Option (List ℕ)) (fault : KeepFault) → NotBegun limit held content left end fault → ComesTo limit held content end before before (Err fault)
+comes_not_begun limit held content left end before NotDisk is = is
+comes_not_begun limit held content left end before (Damaged place) is = is
+comes_not_begun limit held content left end before (Rejected number) is = is
+comes_not_begun limit held content left end before NotFlow is = is before
+comes_not_begun limit held content left end before BadCheckpoint is = (Grows-nothing before, is)
+comes_not_begun limit held content left end before Disk is = tt
+comes_not_begun limit held content left end before Memory is = tt
+comes_not_begun limit held content left end before Read is = tt
+comes_not_begun limit held content left end before Write is = absurd is
+comes_not_begun limit held content left end before (Torn place) is = absurd is
+comes_not_begun limit held content left end before TooLong is = absurd is
 
 -- a fault at the opening of the disk
-pub not_begun_disk : (limit : ℕ) (held : List ℕ) (content : Option (List ℕ)) (end : DiskState) (fault : KeepFault) → OpensNot held end fault → NotBegun limit held content end fault
+pub not_begun_disk : (limit : ℕ) (held : List ℕ) (content : Option (List ℕ)) (end : DiskState) (fault : KeepFault) → OpensNot held end fault → NotBegun limit held content content end fault
 not_begun_disk limit held content end NotDisk is = is
 not_begun_disk limit held content end (Damaged place) is = is
 not_begun_disk limit held content end (Rejected number) is = is
 not_begun_disk limit held content end Disk is = tt
-not_begun_disk limit held content end Memory is = tt
+not_begun_disk limit held content end Memory is = inl refl
 not_begun_disk limit held content end Read is = absurd is
 not_begun_disk limit held content end Write is = absurd is
 not_begun_disk limit held content end NotFlow is = absurd is
+not_begun_disk limit held content end BadCheckpoint is = absurd is
 not_begun_disk limit held content end (Torn place) is = absurd is
 not_begun_disk limit held content end TooLong is = absurd is
 
--- a fault at the opening of the source, with a disk that keeps entries or is new
-left_kept : (limit : ℕ) (held : List ℕ) (content : Option (List ℕ)) (end : DiskState) (version : Version) (old : Pairs) (m : Market) (place : ℕ) → IsOpening held (Legal version old m) → Keeps version (map records_of old) place end
-    → IfSome content (λ bytes. IsNoneOf (Some version) (take limit bytes)) → NotBegun limit held content end NotFlow
-left_kept limit held content end version old m place is keeps none = λ before. (Grows-nothing before, inl (version, old, m, is, none, place, keeps))
-
-left_new : (limit : ℕ) (held : List ℕ) (content : Option (List ℕ)) (end : DiskState) → length held ≤ 9 → end.content ≡ Some held → LeavesOnly end.images held
-    → IfSome content (λ bytes. IsNoneOf None (take limit bytes)) → NotBegun limit held content end NotFlow
-left_new limit held content end short told only none = λ before. (Grows-nothing before, inr (short, none, told, only))
-
-pub not_begun_source : (wanted : Option Version) (limit : ℕ) (held : List ℕ) (content left : Option (List ℕ)) (end : DiskState) (fault : KeepFault) → (IfSome content (λ bytes. IsNoneOf wanted (take limit bytes)) → NotBegun limit held content end NotFlow)
-    → IsOfSource wanted limit content left fault → NotBegun limit held content end fault
-not_begun_source wanted limit held content left end NotFlow stays why = stays why
-not_begun_source wanted limit held content left end Read stays why = tt
-not_begun_source wanted limit held content left end Memory stays why = tt
-not_begun_source wanted limit held content left end NotDisk stays why = absurd why
-not_begun_source wanted limit held content left end (Damaged n) stays why = absurd why
-not_begun_source wanted limit held content left end (Rejected n) stays why = absurd why
-not_begun_source wanted limit held content left end Disk stays why = absurd why
-not_begun_source wanted limit held content left end Write stays why = absurd why
-not_begun_source wanted limit held content left end (Torn n) stays why = absurd why
-not_begun_source wanted limit held content left end TooLong stays why = absurd why
-
--- a fault at the opening of the source, with a disk of a version
-pub not_begun_kept : (version : Version) (limit : ℕ) (start : Option (List ℕ)) (content left : Option (List ℕ)) (at next : DiskState) (m : Market) (place : ℕ) (fault : KeepFault) → IfSome start (λ held. IsFound (Some version) held at) → IfSome start (λ held. IsBegun held version m place next)
-    → IsOfSource (Some version) limit content left fault → IfSome start (λ held. NotBegun limit held content next fault)
+-- a fault at the opening of the source, with a disk that keeps entries
+pub not_begun_kept : (version : Version) (limit : ℕ) (start : Option (List ℕ)) (content left : Option (List ℕ)) (at next : DiskState) (m : Market) (place : ℕ) (fault : KeepFault) → IfSome start (λ held. IsFound (Some version) held at) → IfSome start (λ held. IsKeptOn version held m place next)
+    → IsOfSource (Some version) limit content left fault → IfSome start (λ held. NotBegun limit held content left next fault)
 not_begun_kept version limit None content left at next m place fault found begun why = tt
-not_begun_kept version limit (Some held) content left at next m place fault found (old, inl legal, keeps) why =
-    not_begun_source (Some version) limit held content left next fault (left_kept limit held content next version old m place legal keeps) why
-not_begun_kept version limit (Some held) content left at next m place fault found (old, inr new, keeps) why = absurd (omega (arith, found.0, new.0))
+not_begun_kept version limit (Some held) content left at next m place fault found (begin, of, (old, inr new, keeps)) why = absurd (found.0 new.0.0)
+not_begun_kept version limit (Some held) content left at next m place NotFlow found (begin, of, (old, inl legal, keeps)) why = λ before. (
+  Grows-nothing before,
+  inl (begin, old, m, legal.0, subst (λ (v : Version). IfSome content (λ bytes. ReadsKept v limit bytes reading.NotFlow)) (sym of) why, place, keeps),
+)
+not_begun_kept version limit (Some held) content left at next m place BadCheckpoint found (begin, of, (old, inl legal, keeps)) why = absurd (not_none version why.0)
+  where
+    not_none : (v : Version) → ◌≡◌ {A = Option Version} (Some v) None → ⊥
+    not_none v e = absurd cc
+not_begun_kept version limit (Some held) content left at next m place Memory found (begin, of, (old, inl legal, keeps)) (inl same) = inl same
+not_begun_kept version limit (Some held) content left at next m place Memory found (begin, of, (old, inl legal, keeps)) (inr other) = absurd (not_none version other.0)
+  where
+    not_none : (v : Version) → ◌≡◌ {A = Option Version} (Some v) None → ⊥
+    not_none v e = absurd cc
+not_begun_kept version limit (Some held) content left at next m place Read found (begin, of, (old, inl legal, keeps)) why = tt
+not_begun_kept version limit (Some held) content left at next m place NotDisk found (begin, of, (old, inl legal, keeps)) why = absurd why
+not_begun_kept version limit (Some held) content left at next m place (Damaged n) found (begin, of, (old, inl legal, keeps)) why = absurd why
+not_begun_kept version limit (Some held) content left at next m place (Rejected n) found (begin, of, (old, inl legal, keeps)) why = absurd why
+not_begun_kept version limit (Some held) content left at next m place Disk found (begin, of, (old, inl legal, keeps)) why = absurd why
+not_begun_kept version limit (Some held) content left at next m place Write found (begin, of, (old, inl legal, keeps)) why = absurd why
+not_begun_kept version limit (Some held) content left at next m place (Torn n) found (begin, of, (old, inl legal, keeps)) why = absurd why
+not_begun_kept version limit (Some held) content left at next m place TooLong found (begin, of, (old, inl legal, keeps)) why = absurd why
 
-pub not_begun_new : (limit : ℕ) (start : Option (List ℕ)) (content left : Option (List ℕ)) (at : DiskState) (fault : KeepFault) → IfSome start (λ held. IsFound None held at) → IsOfSource None limit content left fault → IfSome start (λ held. NotBegun limit held content at fault)
+-- with a new disk
+new_not_begun : (limit : ℕ) (held : List ℕ) (content left : Option (List ℕ)) (at : DiskState) (fault : KeepFault) → IsFound None held at → IsOfSource None limit content left fault → NotBegun limit held content left at fault
+new_not_begun limit held content left at NotFlow found why = λ before. (Grows-nothing before, inr ((found.0, found.1), why, found.2, found.3))
+new_not_begun limit held content left at BadCheckpoint found why = ((found.0, found.1), why.1, found.2, found.3)
+new_not_begun limit held content left at Memory found (inl same) = inl same
+new_not_begun limit held content left at Memory found (inr other) = inr ((found.0, found.1), found.2, other.1)
+new_not_begun limit held content left at Read found why = tt
+new_not_begun limit held content left at NotDisk found why = absurd why
+new_not_begun limit held content left at (Damaged n) found why = absurd why
+new_not_begun limit held content left at (Rejected n) found why = absurd why
+new_not_begun limit held content left at Disk found why = absurd why
+new_not_begun limit held content left at Write found why = absurd why
+new_not_begun limit held content left at (Torn n) found why = absurd why
+new_not_begun limit held content left at TooLong found why = absurd why
+
+pub not_begun_new : (limit : ℕ) (start : Option (List ℕ)) (content left : Option (List ℕ)) (at : DiskState) (fault : KeepFault) → IfSome start (λ held. IsFound None held at) → IsOfSource None limit content left fault → IfSome start (λ held. NotBegun limit held content left at fault)
 not_begun_new limit None content left at fault found why = tt
-not_begun_new limit (Some held) content left at fault found why = not_begun_source None limit held content left at fault (left_new limit held content at found.0 found.1 found.2) why
+not_begun_new limit (Some held) content left at fault found why = new_not_begun limit held content left at fault found why
 
 -- what was taken of the source after a fault at its opening
 pub unread_source : (wanted : Option Version) (limit : ℕ) (content left : Option (List ℕ)) (fault : KeepFault) → IsOfSource wanted limit content left fault → Unread limit content left fault
 unread_source wanted limit content left NotFlow why = tt
+unread_source wanted limit content left BadCheckpoint why = tt
 unread_source wanted limit content left Read why = why
-unread_source wanted limit content left Memory why = why
+unread_source wanted limit content left Memory (inl same) = inl same
+unread_source wanted limit content left Memory (inr other) = inr other.1
 unread_source wanted limit content left NotDisk why = absurd why
 unread_source wanted limit content left (Damaged n) why = absurd why
 unread_source wanted limit content left (Rejected n) why = absurd why
@@ -208,21 +222,46 @@ pub unread_disk : (limit : ℕ) (content : Option (List ℕ)) (fault : KeepFault
 unread_disk limit content NotDisk is = tt
 unread_disk limit content (Damaged place) is = tt
 unread_disk limit content (Rejected number) is = tt
-unread_disk limit content Memory is = refl
+unread_disk limit content Memory is = inl refl
 unread_disk limit None Disk is = tt
-unread_disk limit (Some bytes) Disk is = (0, omega arith, omega arith)
+unread_disk limit (Some bytes) Disk is = (0, omega arith, inl (omega arith))
 unread_disk limit content Read is = absurd is
 unread_disk limit content Write is = absurd is
 unread_disk limit content NotFlow is = absurd is
+unread_disk limit content BadCheckpoint is = absurd is
 unread_disk limit content (Torn place) is = absurd is
 unread_disk limit content TooLong is = absurd is
 
-pub unread_made : (limit : ℕ) (version : Version) (w : WindowState) (content left : Option (List ℕ)) → IsBehindMagic limit version w content left → Unread limit content left Disk
-unread_made limit version w content left behind = counted content left behind.first (λ n. n ≤ 1038) behind.takes (omega (arith, behind.held))
+-- the beginning of the source was taken
+pub unread_made : (limit : ℕ) (input : Start) (w : WindowState) (content left : Option (List ℕ)) → IsBehindStart limit input w content left → Unread limit content left Disk
+unread_made limit input w None left behind = tt
+unread_made limit input w (Some bytes) None behind = absurd behind.takes
+unread_made limit input w (Some bytes) (Some m) behind = (
+  length behind.first,
+  sym (ap length behind.takes ∙ length-append behind.first m),
+  inr (
+    input,
+    take (limit - length (source_start input)) (w.held ++ m),
+    (
+      behind.magic.0,
+      ap (take limit) (behind.takes ∙ ap (λ (xs : List ℕ). xs ++ m) behind.magic.1 ∙ append_assoc (source_start input) w.held m)
+          ∙ ap (λ (n : ℕ). take n (source_start input ++ (w.held ++ m))) parts
+          ∙ take-append-add (source_start input) (w.held ++ m) (limit - length (source_start input)),
+    ),
+    omega (arith, behind.held, long),
+  ),
+)
+  where
+    long : length behind.first ≡ length (source_start input) + length w.held
+    long = ap length behind.magic.1 ∙ length-append (source_start input) w.held
+
+    parts : limit ≡ length (source_start input) + (limit - length (source_start input))
+    parts = omega (arith, behind.few, long)
 
 -- a fault of the source is no refusal of the disk
 pub asked_of_source : (wanted : Option Version) (limit : ℕ) (content left : Option (List ℕ)) (Same : Type 0) (fault : KeepFault) → IsOfSource wanted limit content left fault → Asked fault Same
 asked_of_source wanted limit content left Same NotFlow why = tt
+asked_of_source wanted limit content left Same BadCheckpoint why = tt
 asked_of_source wanted limit content left Same Read why = tt
 asked_of_source wanted limit content left Same Memory why = tt
 asked_of_source wanted limit content left Same Disk why = tt
@@ -238,6 +277,7 @@ asked_same Same NotDisk same = same
 asked_same Same (Damaged place) same = same
 asked_same Same (Rejected number) same = same
 asked_same Same NotFlow same = tt
+asked_same Same BadCheckpoint same = tt
 asked_same Same Read same = tt
 asked_same Same Memory same = tt
 asked_same Same Disk same = tt
@@ -250,6 +290,7 @@ asked_refused Same NotDisk asked refusal = asked
 asked_refused Same (Damaged place) asked refusal = asked
 asked_refused Same (Rejected number) asked refusal = asked
 asked_refused Same NotFlow asked refusal = absurd refusal
+asked_refused Same BadCheckpoint asked refusal = absurd refusal
 asked_refused Same Read asked refusal = absurd refusal
 asked_refused Same Memory asked refusal = absurd refusal
 asked_refused Same Disk asked refusal = absurd refusal
@@ -257,12 +298,12 @@ asked_refused Same Write asked refusal = absurd refusal
 asked_refused Same (Torn place) asked refusal = absurd refusal
 asked_refused Same TooLong asked refusal = absurd refusal
 
-module _ (limit : ℕ) (held : List ℕ) (content : Option (List ℕ)) (begun : DiskState) (version : Version) (market : Market) (place : ℕ) (is : IsBegun held version market place begun) where
-  journal : IsKeptJournal version is.0 market
-  journal = opens_journal held version is.0 market is.1
+module _ (limit : ℕ) (held : List ℕ) (content : Option (List ℕ)) (begun : DiskState) (begin input : Start) (market : Market) (place : ℕ) (is : IsBegun held begin input market place begun) where
+  module _ (mid left : Option (List ℕ)) (w : WindowState) (behind : IsBehindStart limit input w content mid) (end : DiskState) (before after : Option (List ℕ)) where
+    journal : IsKeptJournal begin is.0 market
+    journal = opens_journal held begin input is.0 market behind.magic.0 is.1
 
-  module _ (mid left : Option (List ℕ)) (w : WindowState) (behind : IsBehindMagic limit version w content mid) (end : DiskState) (before after : Option (List ℕ)) where
-    far : w.limit - w.place ≡ limit - 8
+    far : w.limit - w.place ≡ limit - length (source_start input)
     far = omega (arith, behind.limited, behind.place)
 
     abbrev bytes : List ℕ → List ℕ
@@ -271,27 +312,28 @@ module _ (limit : ℕ) (held : List ℕ) (content : Option (List ℕ)) (begun : 
     -- all records were served
     all_kept : (result : Result (Unit {0}) KeepFault) (ends : Ending) (on : ServesOn w mid left result market place begun end before after) → (¬ (result ≡ Err Write))
         → GoesToEnd commands Adds w.place (w.limit - w.place < length (bytes on.goes.taken)) (take (w.limit - w.place) (bytes on.goes.taken)) (ending_of ends) [] on.new tt tt
-        → (on.more ≡ []) × (on.acknowledged ≡ length on.new) × ((v : Version) (old : Pairs) → IsKeptJournal v old market → Keeps v (map records_of old) place begun → (later : ℕ) × Keeps v (map records_of (old ++ on.new)) later end)
+        → (on.more ≡ []) × (on.acknowledged ≡ length on.new) × ((v : Start) (old : Pairs) → IsKeptJournal v old market → Keeps (head_of v) (map records_of old) place begun → (later : ℕ) × Keeps (head_of v) (map records_of (old ++ on.new)) later end)
         → (records : List Record) × HasKeptAll limit held content end before after records (ending_of ends)
     all_kept result ends on uncut goes ended =
-        let runs = on.runs version is.0 journal is.2 in
+        let runs = on.runs begin is.0 journal is.2 in
         let new = on.new in
         let units : asked_of new ≡ goes.units = asked_are_units [] goes.units new tt tt goes.leads in
         let every : new ++ on.more ≡ new = ap (λ (m : Pairs). new ++ m) ended.0 ∙ append-nil new in
-        let kept = ended.2 version is.0 journal is.2 in
-        let reads : ReadsOn commands 8 (limit - 8 < length (bytes on.goes.taken)) (take (limit - 8) (bytes on.goes.taken)) goes.units (ending_of ends) =
-        subst (λ (n : ℕ). ReadsOn commands 8 (n < length (bytes on.goes.taken)) (take n (bytes on.goes.taken)) goes.units (ending_of ends)) far
+        let kept = ended.2 begin is.0 journal is.2 in
+        let reads : ReadsOn commands (length (source_start input)) (limit - length (source_start input) < length (bytes on.goes.taken)) (take (limit - length (source_start input)) (bytes on.goes.taken)) goes.units (ending_of ends) =
+        subst (λ (n : ℕ). ReadsOn commands (length (source_start input)) (n < length (bytes on.goes.taken)) (take n (bytes on.goes.taken)) goes.units (ending_of ends)) far
         (subst (λ (n : ℕ). ReadsOn commands n (w.limit - w.place < length (bytes on.goes.taken)) (take (w.limit - w.place) (bytes on.goes.taken)) goes.units (ending_of ends)) behind.place goes.reads) in (
           goes.units,
           record {
-            version = version;
+            begin = begin;
             old = is.0;
             market = market;
+            input = input;
             opens = is.1;
-            reads = reads_where version limit content behind.first w.held on.goes.taken mid left goes.units (ending_of ends) behind.takes behind.magic behind.few on.goes.takes reads;
+            reads = reads_where input limit content behind.first w.held on.goes.taken mid left goes.units (ending_of ends) behind.takes behind.magic behind.few on.goes.takes reads;
             new = new;
             now = runs.now;
-            goes_on = subst (λ (r : List Record). GoesOn version is.0 market r new runs.now) units (subst (λ (l : Pairs). GoesOn version is.0 market (asked_of l) l runs.now) every runs.goes_on);
+            goes_on = subst (λ (r : List Record). GoesOn begin is.0 market r new runs.now) units (subst (λ (l : Pairs). GoesOn begin is.0 market (asked_of l) l runs.now) every runs.goes_on);
             place = kept.0;
             keeps = kept.1;
             written = all_written (result ≡ Err Write) before after new on.more on.acknowledged uncut ended.0 ended.1 on.written;
@@ -320,23 +362,25 @@ module _ (limit : ℕ) (held : List ℕ) (content : Option (List ℕ)) (begun : 
     comes_served (Err (Damaged n)) on = absurd on.ended
     comes_served (Err (Rejected n)) on = absurd on.ended
     comes_served (Err NotFlow) on = absurd on.ended
+    comes_served (Err BadCheckpoint) on = absurd on.ended
 
 -- the records that were served are the source's first, and what happened to the disk and the output
-pub keeps_served : (limit : ℕ) (content mid left : Option (List ℕ)) (w : WindowState) (of : Version) (behind : IsBehindMagic limit of w content mid) (result : Result (Unit {0}) KeepFault) (version : Version) (start begun end : DiskState) (old : Pairs) (market session : Market) (place : ℕ) (before after : Option (List ℕ))
-    → Opens version start begun old → GoesOnIn start version market of session × IsKeptJournal of old session × Keeps of (map records_of old) place begun → Opens of start begun old
-    → ServesOn w mid left result session place begun end before after → KeepsIn limit content (result ≡ Err Write) version start end old market before after
-keeps_served limit content mid left w of behind result version start begun end old market session place before after opens0 is opens on =
+pub keeps_served : (limit : ℕ) (content mid left : Option (List ℕ)) (w : WindowState) (of input : Start) (behind : IsBehindStart limit input w content mid) (result : Result (Unit {0}) KeepFault) (begin : Start) (start begun end : DiskState) (old : Pairs) (market session : Market) (place : ℕ) (before after : Option (List ℕ))
+    → GoesOnIn limit content start begin market of session input × IsKeptJournal of old session × Keeps (head_of of) (map records_of old) place begun → Opens of start begun old
+    → ServesOn w mid left result session place begun end before after → KeepsIn limit content (result ≡ Err Write) begin start end old market before after
+keeps_served limit content mid left w of input behind result begin start begun end old market session place before after is opens on =
     let all = on.new ++ on.more in
     let served = on.runs of old is.1 is.2 in
-    let far : w.limit - w.place ≡ limit - 8 = omega (arith, behind.limited, behind.place) in (
+    let far : w.limit - w.place ≡ limit - length (source_start input) = omega (arith, behind.limited, behind.place) in (
       of,
       session,
+      input,
       is.0,
       record {
         records = asked_of all;
         new = all;
         acknowledged = on.acknowledged;
-        served = are_served of limit content mid left behind.first w.held on.goes.taken (asked_of all) behind.takes behind.magic behind.few on.goes.takes
+        served = are_served input limit content mid left behind.first w.held on.goes.taken (asked_of all) behind.takes behind.magic behind.few on.goes.takes
             (subst (λ (n : ℕ). BeginsWithAll (take n (w.held ++ known on.goes.taken left)) (asked_of all)) far (served_first w mid left result session place begun end before after on));
         runs = opened_first of start begun end old session place (asked_of all) all on.acknowledged opens is.2 served;
         written = on.written;
@@ -355,44 +399,46 @@ not_of_serving (Err NotDisk) P ended refusal = ended
 not_of_serving (Err (Damaged n)) P ended refusal = ended
 not_of_serving (Err (Rejected n)) P ended refusal = ended
 not_of_serving (Err NotFlow) P ended refusal = refusal
+not_of_serving (Err BadCheckpoint) P ended refusal = refusal
 not_of_serving (Err (Torn n)) P ended refusal = refusal
 not_of_serving (Err TooLong) P ended refusal = refusal
 
 -- a disk that keeps a valid journal is not refused
-module _ (version : Version) (held : List ℕ) (old : Pairs) (market : Market) (legal : IsKeptJournal version old market) (keeps : StandsForJournal version old held) (small : length held ≤ 2 ^ 60) (end : DiskState) where
-  opened : (opens : Opening) → IsRefused held opens end → (opens ≡ New) ⊎ (opens ≡ Legal version old market)
-  opened opens refused = legal_is_opened version old market held opens legal keeps small refused.is
+module _ (begin : Start) (held : List ℕ) (old : Pairs) (market : Market) (legal : IsKeptJournal begin old market) (keeps : StandsForJournal begin old held) (small : length held ≤ 2 ^ 60) (end : DiskState) where
+  opened : (opens : Opening) → IsRefused held opens end → (opens ≡ New) ⊎ (opens ≡ Legal begin old market)
+  opened opens refused = legal_is_opened begin old market held opens legal keeps small refused.is
 
-  not_foreign_one : (opening.Foreign ≡ New) ⊎ (opening.Foreign ≡ Legal version old market) → ⊥
+  not_foreign_one : (opening.Foreign ≡ New) ⊎ (opening.Foreign ≡ Legal begin old market) → ⊥
   not_foreign_one (inl e) = absurd cc
   not_foreign_one (inr e) = absurd cc
 
-  not_damaged_one : (n : ℕ) → (opening.Damaged n ≡ New) ⊎ (opening.Damaged n ≡ Legal version old market) → ⊥
+  not_damaged_one : (n : ℕ) → (opening.Damaged n ≡ New) ⊎ (opening.Damaged n ≡ Legal begin old market) → ⊥
   not_damaged_one n (inl e) = absurd cc
   not_damaged_one n (inr e) = absurd cc
 
-  not_rejected_one : (n : ℕ) → (opening.Rejected n ≡ New) ⊎ (opening.Rejected n ≡ Legal version old market) → ⊥
+  not_rejected_one : (n : ℕ) → (opening.Rejected n ≡ New) ⊎ (opening.Rejected n ≡ Legal begin old market) → ⊥
   not_rejected_one n (inl e) = absurd cc
   not_rejected_one n (inr e) = absurd cc
 
-  pub legal_not_refused : (limit : ℕ) (content : Option (List ℕ)) (fault : KeepFault) → NotBegun limit held content end fault → ¬ IsRefusal (Err fault)
-  legal_not_refused limit content NotDisk is refusal = not_foreign_one (opened opening.Foreign is)
-  legal_not_refused limit content (Damaged n) is refusal = not_damaged_one n (opened (opening.Damaged n) is)
-  legal_not_refused limit content (Rejected n) is refusal = not_rejected_one n (opened (opening.Rejected n) is)
-  legal_not_refused limit content Disk is refusal = refusal
-  legal_not_refused limit content Memory is refusal = refusal
-  legal_not_refused limit content Read is refusal = refusal
-  legal_not_refused limit content Write is refusal = refusal
-  legal_not_refused limit content NotFlow is refusal = refusal
-  legal_not_refused limit content (Torn n) is refusal = refusal
-  legal_not_refused limit content TooLong is refusal = refusal
+  pub legal_not_refused : (limit : ℕ) (content left : Option (List ℕ)) (fault : KeepFault) → NotBegun limit held content left end fault → ¬ IsRefusal (Err fault)
+  legal_not_refused limit content left NotDisk is refusal = not_foreign_one (opened opening.Foreign is)
+  legal_not_refused limit content left (Damaged n) is refusal = not_damaged_one n (opened (opening.Damaged n) is)
+  legal_not_refused limit content left (Rejected n) is refusal = not_rejected_one n (opened (opening.Rejected n) is)
+  legal_not_refused limit content left Disk is refusal = refusal
+  legal_not_refused limit content left Memory is refusal = refusal
+  legal_not_refused limit content left Read is refusal = refusal
+  legal_not_refused limit content left Write is refusal = refusal
+  legal_not_refused limit content left NotFlow is refusal = refusal
+  legal_not_refused limit content left BadCheckpoint is refusal = refusal
+  legal_not_refused limit content left (Torn n) is refusal = refusal
+  legal_not_refused limit content left TooLong is refusal = refusal
 
-pub refused_not_legal : (version : Version) (limit : ℕ) (content : Option (List ℕ)) (start end : DiskState) (old : Pairs) (market : Market) (fault : KeepFault) → HoldsLegal start version old market → IfSome start.content (λ held. length held ≤ 2 ^ 60)
-    → IfSome start.content (λ held. NotBegun limit held content end fault) → ¬ IsRefusal (Err fault)
-refused_not_legal version limit content start end old market fault holds small is =
-    legal_not_refused version holds.bytes old market holds.journal holds.stands
-    (subst (λ (o : Option (List ℕ)). IfSome o (λ (held : List ℕ). length held ≤ 2 ^ 60)) holds.told small) end limit content fault
-    (subst (λ (o : Option (List ℕ)). IfSome o (λ (held : List ℕ). NotBegun limit held content end fault)) holds.told is)
+pub refused_not_legal : (begin : Start) (limit : ℕ) (content left : Option (List ℕ)) (start end : DiskState) (old : Pairs) (market : Market) (fault : KeepFault) → HoldsLegal start begin old market → IfSome start.content (λ held. length held ≤ 2 ^ 60)
+    → IfSome start.content (λ held. NotBegun limit held content left end fault) → ¬ IsRefusal (Err fault)
+refused_not_legal begin limit content left start end old market fault holds small is =
+    legal_not_refused begin holds.bytes old market holds.journal holds.stands
+    (subst (λ (o : Option (List ℕ)). IfSome o (λ (held : List ℕ). length held ≤ 2 ^ 60)) holds.told small) end limit content left fault
+    (subst (λ (o : Option (List ℕ)). IfSome o (λ (held : List ℕ). NotBegun limit held content left end fault)) holds.told is)
 
 -- ---- which faults are whose
 

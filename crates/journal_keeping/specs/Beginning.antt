@@ -1,32 +1,98 @@
 -- For private functions alone: what opening a disk and a source results in.
-use Rattle.std.specs.Prelude.{◌≡◌, ◌≤◌, ◌<◌, ℕ, List, length, take, map, Option, None, Some, IfSome, ⊤}
+use Rattle.std.specs.Prelude.{◌≡◌, ◌⊎◌, ◌+◌, ◌≤◌, ℕ, List, [], ◌∷◌, ◌++◌, length, take, map, Option, None, Some, IfSome, ⊤}
 use Rattle.flow_io.specs.Streams.{Takes}
 use Rattle.flow_io.specs.Windows.{WindowState}
 use Rattle.wire_records.specs.Records.{Record, longest_record}
 use Rattle.wire_records.specs.Commands.{Pair}
-use Rattle.wire_records.specs.Grammars.{BeginsWith, BeginsWithNone}
+use Rattle.wire_records.specs.Grammars.{BeginsWith}
 use Rattle.wire_records.specs.Formats.{commands}
 use Rattle.wire_records.specs.declared.version.Version.{Version}
 use Rattle.word_driver.specs.Does.{IsTaken}
 use Rattle.flow_orders.specs.Outcomes.{Outcome}
 use Rattle.journal_records.specs.Formats.{records_of}
 use Rattle.market_rules.specs.Market.{Market}
-use Rattle.disk_edge.specs.Disks.{DiskState}
-use Rattle.journal_disk.specs.Entries.{EndsAt}
-use Rattle.journal_disk.specs.Entries.{Keeps}
+use Rattle.market_snapshot.specs.Checkpoints.{checkpoint_bytes}
+use Rattle.market_history.specs.Histories.{Start, Empty, Kept, market_of, CanStart}
+use Rattle.disk_edge.specs.Disks.{DiskState, AtEachMoment}
+use Rattle.disk_edge.specs.Images.{Images}
+use Rattle.journal_disk.specs.Entries.{framed, Holds, EndsAt, Keeps}
+use Rattle.journal_disk.specs.Lengths.{HasAtMost, LeavesAtMost}
+use Rattle.journal_disk.specs.Stepping.{IsDamagedAt}
+use Rattle.journal_keeping.specs.Starts.{version_of, head_of, source_start, sources, BeginsUnsound, BeginsOtherwise, HasFirst}
+use Rattle.journal_keeping.specs.Keeping.{IsKeptJournal, StandsForJournal, HoldsLegal, GoesOnIn, IsStillNew}
 use Rattle.journal_keeping.specs.Openings.{Legal, IsOpening, OpensAs}
 use Rattle.journal_keeping.specs.Openings as opening
-use Rattle.journal_keeping.specs.Ended.{IsRefused, HasLeftAll}
+use Rattle.journal_keeping.specs.Pacing.{IsInCheckpoint, IsUnbegun}
+use Rattle.journal_keeping.specs.Ended.{IsRefused, StaysNew, HasLeftAll}
 use Rattle.journal_keeping.specs.declared.fault.KeepFault.{KeepFault}
-use Rattle.journal_keeping.specs.declared.fault.KeepFault.TheVariants.{Read, Write, Disk, Memory, NotDisk, Damaged, Rejected, NotFlow, Torn, TooLong}
+use Rattle.journal_keeping.specs.declared.fault.KeepFault.TheVariants.{Read, Write, Disk, Memory, NotDisk, Damaged, Rejected, NotFlow, BadCheckpoint, Torn, TooLong}
 
--- the disk's bytes were opened as a valid journal with this market, and the commit byte at the place, after its entries, isn't set
-abbrev pub IsReadUp : List ℕ → Version → Market → ℕ → DiskState → Type 0
-IsReadUp held version market place now = (old : List (Pair Record Outcome)) × IsOpening held (Legal version old market) × EndsAt version (map records_of old) place now
+-- the disk's bytes were opened as a valid journal that begins so, with this market, and the commit byte at the place, after its entries, isn't set
+abbrev pub IsReadUp : List ℕ → Start → Market → ℕ → DiskState → Type 0
+IsReadUp held begin market place now =
+    (old : List (Pair Record Outcome)) × IsOpening held (Legal begin old market) × EndsAt (head_of begin) (map records_of old) place now
 
--- the journal was opened and the disk holds nothing after that commit byte; or the disk was new, and was made one of the version
-abbrev pub IsBegun : List ℕ → Version → Market → ℕ → DiskState → Type 0
-IsBegun held version market place now = (old : List (Pair Record Outcome)) × OpensAs held version old market × Keeps version (map records_of old) place now
+-- that holds for some beginning of this version
+abbrev pub IsOpened : Version → List ℕ → Market → ℕ → DiskState → Type 0
+IsOpened version held market place now = (begin : Start) × (version_of begin ≡ version) × IsReadUp held begin market place now
+
+-- the journal was opened and the disk holds nothing after that commit byte; or the disk was new, and was made one that begins so
+abbrev pub IsBegun : List ℕ → Start → Start → Market → ℕ → DiskState → Type 0
+IsBegun held begin input market place now =
+    (old : List (Pair Record Outcome)) × OpensAs held begin old market input × Keeps (head_of begin) (map records_of old) place now
+
+-- the journal of a disk of this version was opened, and the disk holds nothing after that commit byte
+abbrev pub IsKeptOn : Version → List ℕ → Market → ℕ → DiskState → Type 0
+IsKeptOn version held market place now = (begin : Start) × (version_of begin ≡ version) × IsBegun held begin (Empty version) market place now
+
+-- A window is after the beginning of a source, and was filled no further than the limit.
+pub record IsBehindStart (limit : ℕ) (input : Start) (window : WindowState) (before after : Option (List ℕ)) : Type 0 where
+  pub limited : window.limit ≡ limit
+  pub place : window.place ≡ length (source_start input)
+  pub room : window.room ≡ longest_record
+  pub over : window.over ≡ None
+  pub first : List ℕ
+  pub takes : Takes before after first
+  pub magic : BeginsWith sources.magics first input window.held
+  pub few : length first ≤ limit
+  pub held : length window.held ≤ longest_record
+
+-- A disk of a version, which holds these bytes, begins in this market; its entries begin at the place. The first entry isn't left out if it
+-- holds a checkpoint of the version.
+pub record BeginsAt (version : Version) (bytes : List ℕ) (market : Market) (place : ℕ) (disk : DiskState) : Type 0 where
+  pub begin : Start
+  pub starts : CanStart begin
+  pub market_is : market ≡ market_of begin
+  pub version_is : version_of begin ≡ version
+  pub rest : List ℕ
+  pub holds : Holds (head_of begin) [] place rest disk
+  pub unfit : place ≡ 8 → (first : Market) → ¬ HasFirst first bytes
+
+-- why no beginning was found: the first entry isn't an entry, and holds no checkpoint of the disk's version
+abbrev pub StopsFirst : KeepFault → List ℕ → Type 0
+StopsFirst (Damaged place) bytes = (place ≡ 8) × IsDamagedAt 8 bytes × ((first : Market) → ¬ HasFirst first bytes)
+StopsFirst Disk bytes = ⊤
+StopsFirst Memory bytes = ⊤
+StopsFirst NotDisk bytes = ⊥
+StopsFirst (Rejected number) bytes = ⊥
+StopsFirst Read bytes = ⊥
+StopsFirst Write bytes = ⊥
+StopsFirst NotFlow bytes = ⊥
+StopsFirst BadCheckpoint bytes = ⊥
+StopsFirst (Torn place) bytes = ⊥
+StopsFirst TooLong bytes = ⊥
+
+-- a first entry as it is stored, with an unset commit byte after it, or nothing if a journal begins without a checkpoint
+abbrev pub IsStored : Start → List ℕ → Type 0
+IsStored (Empty version) stored = stored ≡ []
+IsStored (Kept market) stored = stored ≡ framed (checkpoint_bytes market) ++ 0 ∷ []
+
+-- The beginning of a source was taken: a window is behind it, this is the market in which the journal begins, and its first entry as stored.
+pub record OpensStart (limit : ℕ) (market : Market) (stored : List ℕ) (window : WindowState) (before after : Option (List ℕ)) : Type 0 where
+  pub begin : Start
+  pub behind : IsBehindStart limit begin window before after
+  pub market_is : market ≡ market_of begin
+  pub stored_is : IsStored begin stored
 
 -- what a fault at the opening of a disk says of its bytes
 abbrev pub OpensNot : List ℕ → DiskState → KeepFault → Type 0
@@ -38,6 +104,7 @@ OpensNot held end Memory = ⊤
 OpensNot held end Read = ⊥
 OpensNot held end Write = ⊥
 OpensNot held end NotFlow = ⊥
+OpensNot held end BadCheckpoint = ⊥
 OpensNot held end (Torn place) = ⊥
 OpensNot held end TooLong = ⊥
 
@@ -51,36 +118,30 @@ IsOfDisk Memory = ⊤
 IsOfDisk Read = ⊥
 IsOfDisk Write = ⊥
 IsOfDisk NotFlow = ⊥
+IsOfDisk BadCheckpoint = ⊥
 IsOfDisk (Torn place) = ⊥
 IsOfDisk TooLong = ⊥
-
--- A window is after the magic of this version, and was filled no further than the limit.
-pub record IsBehindMagic (limit : ℕ) (version : Version) (window : WindowState) (before after : Option (List ℕ)) : Type 0 where
-  pub limited : window.limit ≡ limit
-  pub place : window.place ≡ 8
-  pub room : window.room ≡ longest_record
-  pub over : window.over ≡ None
-  pub first : List ℕ
-  pub takes : Takes before after first
-  pub magic : BeginsWith commands.magics first version window.held
-  pub few : length first ≤ limit
-  pub held : length first ≤ longest_record
 
 -- a version is the wanted one, if one is wanted
 abbrev pub IsWanted : Option Version → Version → Type 0
 IsWanted None version = ⊤
 IsWanted (Some own) version = version ≡ own
 
--- the bytes begin with the magic of no version, or not with that of the wanted one
+-- the bytes begin as no source of a new disk, and with no unsound checkpoint, or not with the magic of the wanted version
 abbrev pub IsNoneOf : Option Version → List ℕ → Type 0
-IsNoneOf None bytes = BeginsWithNone commands.magics bytes
+IsNoneOf None bytes = BeginsOtherwise bytes
 IsNoneOf (Some own) bytes = (body : List ℕ) → ¬ BeginsWith commands.magics bytes own body
+
+-- so many bytes were taken, which have no whole beginning of a source
+abbrev pub BreaksOffEarly : ℕ → Option (List ℕ) → List ℕ → Type 0
+BreaksOffEarly limit left bytes = (n : ℕ) × IsTaken bytes left n × IsUnbegun n (take n (take limit bytes))
 
 -- a fault that the opening of a source may have, and what was taken of the source then
 abbrev pub IsOfSource : Option Version → ℕ → Option (List ℕ) → Option (List ℕ) → KeepFault → Type 0
 IsOfSource wanted limit content left NotFlow = IfSome content (λ bytes. IsNoneOf wanted (take limit bytes))
-IsOfSource wanted limit content left Read = IfSome content (λ bytes. (n : ℕ) × IsTaken bytes left n × (n < 8))
-IsOfSource wanted limit content left Memory = left ≡ content
+IsOfSource wanted limit content left BadCheckpoint = (wanted ≡ None) × IfSome content (λ bytes. BeginsUnsound (take limit bytes))
+IsOfSource wanted limit content left Read = IfSome content (BreaksOffEarly limit left)
+IsOfSource wanted limit content left Memory = (left ≡ content) ⊎ ((wanted ≡ None) × IsInCheckpoint limit content left)
 IsOfSource wanted limit content left NotDisk = ⊥
 IsOfSource wanted limit content left (Damaged place) = ⊥
 IsOfSource wanted limit content left (Rejected number) = ⊥
@@ -89,25 +150,33 @@ IsOfSource wanted limit content left Write = ⊥
 IsOfSource wanted limit content left (Torn place) = ⊥
 IsOfSource wanted limit content left TooLong = ⊥
 
--- why nothing was served, if the disk held these bytes: the disk is refused, or the source is no file of its version
-abbrev pub NotBegun : ℕ → List ℕ → Option (List ℕ) → DiskState → KeepFault → Type 0
-NotBegun limit held content end NotDisk = IsRefused held opening.Foreign end
-NotBegun limit held content end (Damaged place) = IsRefused held (opening.Damaged place) end
-NotBegun limit held content end (Rejected number) = IsRefused held (opening.Rejected number) end
-NotBegun limit held content end NotFlow = (before : Option (List ℕ)) → HasLeftAll limit held content end before before
-NotBegun limit held content end Read = ⊤
-NotBegun limit held content end Memory = ⊤
-NotBegun limit held content end Disk = ⊤
-NotBegun limit held content end Write = ⊥
-NotBegun limit held content end (Torn place) = ⊥
-NotBegun limit held content end TooLong = ⊥
+-- why nothing was served, if the disk held these bytes: the disk is refused, or the source doesn't begin as it should
+abbrev pub NotBegun : ℕ → List ℕ → Option (List ℕ) → Option (List ℕ) → DiskState → KeepFault → Type 0
+NotBegun limit held content left end NotDisk = IsRefused held opening.Foreign end
+NotBegun limit held content left end (Damaged place) = IsRefused held (opening.Damaged place) end
+NotBegun limit held content left end (Rejected number) = IsRefused held (opening.Rejected number) end
+NotBegun limit held content left end NotFlow = (before : Option (List ℕ)) → HasLeftAll limit held content end before before
+NotBegun limit held content left end BadCheckpoint = StaysNew BeginsUnsound limit held content end
+NotBegun limit held content left end Read = ⊤
+NotBegun limit held content left end Memory = (left ≡ content) ⊎ (IsOpening held opening.New × (end.content ≡ Some held) × IsInCheckpoint limit content left)
+NotBegun limit held content left end Disk = ⊤
+NotBegun limit held content left end Write = ⊥
+NotBegun limit held content left end (Torn place) = ⊥
+NotBegun limit held content left end TooLong = ⊥
+
+-- the source was read no further than 1,030 bytes past its beginning, or past the first eight bytes
+abbrev pub IsNearStart : ℕ → Option (List ℕ) → List ℕ → Type 0
+IsNearStart limit left bytes =
+    (n : ℕ) × IsTaken bytes left n
+    × ((n ≤ 1038) ⊎ ((input : Start) × (body : List ℕ) × BeginsWith sources.magics (take limit bytes) input body × (n ≤ length (source_start input) + 1030)))
 
 -- how much of the source was taken if nothing was served
 abbrev pub Unread : ℕ → Option (List ℕ) → Option (List ℕ) → KeepFault → Type 0
-Unread limit content left Read = IfSome content (λ bytes. (n : ℕ) × IsTaken bytes left n × (n < 8))
-Unread limit content left Memory = left ≡ content
-Unread limit content left Disk = IfSome content (λ bytes. (n : ℕ) × IsTaken bytes left n × (n ≤ 1038))
+Unread limit content left Read = IfSome content (BreaksOffEarly limit left)
+Unread limit content left Memory = (left ≡ content) ⊎ IsInCheckpoint limit content left
+Unread limit content left Disk = IfSome content (IsNearStart limit left)
 Unread limit content left NotFlow = ⊤
+Unread limit content left BadCheckpoint = ⊤
 Unread limit content left NotDisk = ⊤
 Unread limit content left (Damaged place) = ⊤
 Unread limit content left (Rejected number) = ⊤
@@ -121,9 +190,35 @@ Asked NotDisk Same = Same
 Asked (Damaged place) Same = Same
 Asked (Rejected number) Same = Same
 Asked NotFlow Same = ⊤
+Asked BadCheckpoint Same = ⊤
 Asked Read Same = ⊤
 Asked Memory Same = ⊤
 Asked Disk Same = ⊤
 Asked Write Same = ⊤
 Asked (Torn place) Same = ⊤
 Asked TooLong Same = ⊤
+
+-- what a crash leaves while a disk is opened: what it might have left before, or the old entries of the journal that the run continues; or a
+-- new disk, if it was new
+abbrev pub WhileOpening : Start → DiskState → List (Pair Record Outcome) → Images
+WhileOpening begin start old image = start.images image ⊎ (StandsForJournal begin old image ⊎ IsStillNew start image)
+
+-- Opening leaves no more than that.
+pub record OpensSafely (limit : ℕ) (content : Option (List ℕ)) (start end : DiskState) (begin : Start) (old : List (Pair Record Outcome)) (market : Market) : Type 0 where
+  pub of : Start
+  pub from : Market
+  pub input : Start
+  pub goes : GoesOnIn limit content start begin market of from input
+  pub journal : IsKeptJournal of old from
+  pub moments : AtEachMoment start end (WhileOpening of start old)
+
+-- The disk and the source were opened: how the journal and the source begin, what was opened, and what a crash leaves meanwhile, no longer
+-- than by the beginning of the source.
+pub record HasBegun (limit : ℕ) (start end : DiskState) (window : WindowState) (before after : Option (List ℕ)) (market : Market) (place : ℕ) : Type 0 where
+  pub begin : Start
+  pub input : Start
+  pub behind : IsBehindStart limit input window before after
+  pub begun : IfSome start.content (λ held. IsBegun held begin input market place end)
+  pub moments : (was : Start) (old : List (Pair Record Outcome)) (m : Market) → HoldsLegal start was old m
+      → AtEachMoment start end (WhileOpening begin start old)
+  pub lengths : (most : ℕ) → 9 ≤ most → LeavesAtMost most start → AtEachMoment start end (HasAtMost (most + length (source_start input)))

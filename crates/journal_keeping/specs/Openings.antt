@@ -1,5 +1,5 @@
 -- What the bytes of a disk, and of a source, are opened as.
-use Rattle.std.specs.Prelude.{◌≡◌, ◌⊎◌, ℕ, ◌+◌, ◌<◌, ◌≤◌, List, [], ◌++◌, length, map, take}
+use Rattle.std.specs.Prelude.{◌≡◌, ◌⊎◌, ℕ, ◌+◌, List, [], ◌++◌, length, map, take}
 use Rattle.wire_records.specs.Records.{Record}
 use Rattle.wire_records.specs.Commands.{Pair}
 use Rattle.wire_records.specs.Grammars.{BeginsWith}
@@ -8,52 +8,65 @@ use Rattle.wire_records.specs.Formats.{commands}
 use Rattle.wire_records.specs.declared.version.Version.{Version}
 use Rattle.flow_orders.specs.Outcomes.{Outcome}
 use Rattle.journal_records.specs.Formats.{records_of}
-use Rattle.market_rules.specs.Market.{Market, empty_market}
+use Rattle.market_rules.specs.Market.{Market}
+use Rattle.market_history.specs.Histories.{Start, Empty, market_of}
 use Rattle.batch_audit.specs.Legal.{IsIllegalPair}
 use Rattle.journal_disk.specs.Pairs.{RecordPair}
-use Rattle.journal_disk.specs.Entries.{entries, HasEntries}
+use Rattle.journal_disk.specs.Entries.{IsHead, entries, IsNewDisk, HasEntries}
 use Rattle.journal_disk.specs.Recovering.{IsForeign}
 use Rattle.journal_disk.specs.Stepping.{HasEntryAt, IsDamagedAt}
+use Rattle.journal_keeping.specs.Starts.{version_of, head_of, sources, HasFirst}
 use Rattle.journal_keeping.specs.Keeping.{IsKeptJournal}
 
 -- What a disk is when it is opened: no journal's, new, damaged at the commit byte at this place, one whose first invalid entry has this
--- number, counted from 1, or one that keeps the entries of a valid journal of a version.
+-- number, counted from 1, or one that keeps the entries of a valid journal that begins so.
 pub data Opening : Type 0 where
   Foreign : Opening
   New : Opening
   Damaged : (place : ℕ) → Opening
   Rejected : (number : ℕ) → Opening
-  Legal : Version → List (Pair Record Outcome) → Market → Opening
+  Legal : Start → List (Pair Record Outcome) → Market → Opening
 
--- The bytes begin with the magic of a version and these entries as they are stored, which are a valid journal of it; what follows begins
--- at this place.
-pub record BeginsLegal (version : Version) (bytes : List ℕ) (legal : List (Pair Record Outcome)) (market : Market) (place : ℕ) : Type 0 where
-  pub journal : IsKeptJournal version legal market
+-- The bytes begin as those of a disk with this beginning and these entries, which are a valid journal; what follows begins at this place.
+pub record BeginsLegal (begin : Start) (bytes : List ℕ) (legal : List (Pair Record Outcome)) (market : Market) (place : ℕ) : Type 0 where
+  pub lawful : IsHead (head_of begin)
+  pub journal : IsKeptJournal begin legal market
   pub rest : List ℕ
-  pub spelled : bytes ≡ entries version (map records_of legal) ++ rest
-  pub begins : place ≡ length (entries version (map records_of legal))
+  pub spelled : bytes ≡ entries (head_of begin) (map records_of legal) ++ rest
+  pub begins : place ≡ length (entries (head_of begin) (map records_of legal))
+
+-- at this place, after valid entries, the bytes are damaged; the first entry isn't so if it holds a checkpoint of the disk's version
+pub record IsDamaged (place : ℕ) (bytes : List ℕ) : Type 0 where
+  pub begin : Start
+  pub legal : List (Pair Record Outcome)
+  pub market : Market
+  pub begins : BeginsLegal begin bytes legal market place
+  pub damage : IsDamagedAt place bytes
+  pub unfit : place ≡ 8 → (first : Market) → ¬ HasFirst first bytes
 
 -- these bytes are opened so: one of the five ways
 abbrev pub IsOpening : List ℕ → Opening → Type 0
 IsOpening bytes Foreign = IsForeign bytes
-IsOpening bytes New = length bytes ≤ 9
-IsOpening bytes (Damaged place) =
-    (9 < length bytes) × (¬ IsForeign bytes) × (version : Version) × (legal : List (Pair Record Outcome)) × (market : Market) × BeginsLegal version bytes legal market place × IsDamagedAt place bytes
+IsOpening bytes New = IsNewDisk bytes × (¬ IsForeign bytes)
+IsOpening bytes (Damaged place) = (¬ IsNewDisk bytes) × (¬ IsForeign bytes) × IsDamaged place bytes
 IsOpening bytes (Rejected number) =
-    (9 < length bytes) × (¬ IsForeign bytes) × (version : Version) × (legal : List (Pair Record Outcome)) × (market : Market) × (place : ℕ) × BeginsLegal version bytes legal market place
+    (¬ IsNewDisk bytes) × (¬ IsForeign bytes) × (begin : Start) × (legal : List (Pair Record Outcome)) × (market : Market) × (place : ℕ) × BeginsLegal begin bytes legal market place
     × (bad : RecordPair) × (rest : List ℕ) × HasEntryAt place bad rest bytes × IsIllegalPair market bad × (number ≡ length legal + 1)
-IsOpening bytes (Legal version pairs market) =
-    (9 < length bytes) × (¬ IsForeign bytes) × IsKeptJournal version pairs market × HasEntries version (map records_of pairs) bytes
+IsOpening bytes (Legal begin pairs market) =
+    (¬ IsNewDisk bytes) × (¬ IsForeign bytes) × IsKeptJournal begin pairs market × HasEntries (head_of begin) (map records_of pairs) bytes
 
 -- the bytes are no kept file, or a damaged one, or one with an invalid entry: they are not new, and keep no valid journal
 abbrev pub KeepNone : List ℕ → Type 0
-KeepNone bytes = (9 < length bytes) × ((version : Version) (pairs : List (Pair Record Outcome)) (market : Market) → ¬ IsOpening bytes (Legal version pairs market))
+KeepNone bytes = (¬ IsOpening bytes New) × ((begin : Start) (pairs : List (Pair Record Outcome)) (market : Market) → ¬ IsOpening bytes (Legal begin pairs market))
 
--- the old entries of a disk with these bytes, their version and market: a new disk has no entries, in any version
-abbrev pub OpensAs : List ℕ → Version → List (Pair Record Outcome) → Market → Type 0
-OpensAs bytes version old market = IsOpening bytes (Legal version old market) ⊎ (IsOpening bytes New × (old ≡ []) × (market ≡ empty_market version))
+-- How a disk with these bytes is continued: the beginning of its journal, its old entries and their market, and how the source has to begin.
+-- A new disk has no entries, and begins as the source does.
+abbrev pub OpensAs : List ℕ → Start → List (Pair Record Outcome) → Market → Start → Type 0
+OpensAs bytes begin old market input =
+    (IsOpening bytes (Legal begin old market) × (input ≡ Empty (version_of begin)))
+    ⊎ (IsOpening bytes New × (old ≡ []) × (market ≡ market_of begin) × (input ≡ begin))
 
--- what the first `limit` bytes of the source are read as: no command file of that version, or records of that version and an ending
-abbrev pub ReadsKept : Version → ℕ → List ℕ → Reading Version Record → Type 0
+-- what the first `limit` bytes of the source are read as, for a disk of a version: no command file of it, or its records and an ending
+abbrev pub ReadsKept : Version → ℕ → List ℕ → Reading Start Record → Type 0
 ReadsKept version limit bytes NotFlow = (body : List ℕ) → ¬ BeginsWith commands.magics (take limit bytes) version body
-ReadsKept version limit bytes (File of records ending) = (of ≡ version) × Reads commands limit bytes (File of records ending)
+ReadsKept version limit bytes (File input records ending) = (input ≡ Empty version) × Reads sources limit bytes (File input records ending)

@@ -8,12 +8,12 @@ use Rattle.wire_records.specs.Commands.{Pair}
 use Rattle.wire_records.specs.Versions.{IsReadAs}
 use Rattle.wire_records.specs.Grammars.{BeginsWith, BeginsWithNone}
 use Rattle.wire_records.specs.Formats.{commands}
-use Rattle.wire_records.specs.declared.version.Version.{Version}
 use Rattle.flow_orders.specs.Outcomes.{Outcome}
 use Rattle.canonical_rule.specs.Canonical.{IsCanonicalOutcome}
 use Rattle.journal_records.specs.Pairs.{IsPair, pair_spelling}
 use Rattle.journal_records.specs.Formats.{records_of}
 use Rattle.market_rules.specs.Market.{Market}
+use Rattle.market_history.specs.Histories.{Start}
 use Rattle.market_rules.specs.Journal.{Step}
 use Rattle.market_rules.specs.Allocating.{RecordMayAllocate}
 use Rattle.file_units.specs.declared.units.Front.{Front}
@@ -26,13 +26,13 @@ use Rattle.file_units.specs.Inputs.{GoesFrom}
 use Rattle.exchange_session.specs.Serving.{HasNumbers}
 use Rattle.disk_edge.specs.Disks.{DiskState, AtEachMoment}
 use Rattle.journal_disk.specs.Pairs.{RecordPair}
-use Rattle.journal_disk.specs.Entries.{WithOrWithout}
-use Rattle.journal_disk.specs.Entries.{Keeps}
+use Rattle.journal_disk.specs.Entries.{Head, WithOrWithout, Keeps}
+use Rattle.journal_keeping.specs.Starts.{head_of}
 use Rattle.journal_keeping.specs.Keeping.{IsKeptJournal, GoesOn, Runs, StandIn}
 use Rattle.journal_keeping.specs.Serving.{HasKept}
 use Rattle.journal_keeping.specs.Pacing.{asked_of}
 use Rattle.journal_keeping.specs.declared.fault.KeepFault.{KeepFault}
-use Rattle.journal_keeping.specs.declared.fault.KeepFault.TheVariants.{Read, Write, Disk, Memory, NotDisk, Damaged, Rejected, NotFlow, Torn, TooLong}
+use Rattle.journal_keeping.specs.declared.fault.KeepFault.TheVariants.{Read, Write, Disk, Memory, NotDisk, Damaged, Rejected, NotFlow, BadCheckpoint, Torn, TooLong}
 
 -- Up to `left` bytes of records can still be served and kept: there are numbers for their orders, and places on the disk for their entries.
 abbrev pub IsReady : Market → ℕ → ℕ → Type 0
@@ -40,8 +40,8 @@ IsReady market place left = HasNumbers market left × (place + 263183 * left ≤
 
 -- a disk that kept entries keeps one more, and at each moment since a crash left them with it or without it
 pub record KeepsOneMore (pair : Pair Record Outcome) (from to : ℕ) (old new : DiskState) : Type 0 where
-  pub keeps : (version : Version) (pairs : List RecordPair) → Keeps version pairs from old → Keeps version (pairs ++ records_of pair ∷ []) to new
-  pub moments : (version : Version) (pairs : List RecordPair) → Keeps version pairs from old → AtEachMoment old new (WithOrWithout version pairs (records_of pair))
+  pub keeps : (head : Head) (pairs : List RecordPair) → Keeps head pairs from old → Keeps head (pairs ++ records_of pair ∷ []) to new
+  pub moments : (head : Head) (pairs : List RecordPair) → Keeps head pairs from old → AtEachMoment old new (WithOrWithout head pairs (records_of pair))
 
 -- the first record of the bytes was answered so, by one step of the market, and the entry is within the limits of a journal
 pub record IsServed (bytes : List ℕ) (old : Market) (pair : Pair Record Outcome) (new : Market) : Type 0 where
@@ -86,13 +86,14 @@ module _ (bytes : List ℕ) (old : Market) (from to : ℕ) (disk later : DiskSta
   BreaksNext Memory = SameDisk × SameOut × HasAllocating old bytes
   BreaksNext Disk =
       SameOut × (pair : Pair Record Outcome) × (new : Market) × IsServed bytes old pair new
-      × ((version : Version) (pairs : List RecordPair) → Keeps version pairs from disk → AtEachMoment disk later (WithOrWithout version pairs (records_of pair)))
+      × ((head : Head) (pairs : List RecordPair) → Keeps head pairs from disk → AtEachMoment disk later (WithOrWithout head pairs (records_of pair)))
   BreaksNext Write = (pair : Pair Record Outcome) × (new : Market) × IsServed bytes old pair new × KeepsOneMore pair from to disk later × GrowsByPrefix before after (pair_spelling pair)
   BreaksNext Read = ⊥
   BreaksNext NotDisk = ⊥
   BreaksNext (Damaged place) = ⊥
   BreaksNext (Rejected number) = ⊥
   BreaksNext NotFlow = ⊥
+  BreaksNext BadCheckpoint = ⊥
   BreaksNext (Torn place) = ⊥
   BreaksNext TooLong = ⊥
 
@@ -103,7 +104,7 @@ Adds old asked new before after = (pair : Pair Record Outcome) × (pair.asked �
 -- What serving has done so far, from a market and a place: these entries were kept and written.
 pub record SoFar (start now : DiskState) (before market : Market) (from place : ℕ) (held holds : Option (List ℕ)) (new : List (Pair Record Outcome)) : Type 0 where
   pub written : Grows held holds (flat_map pair_spelling new)
-  pub kept : (version : Version) (old : List (Pair Record Outcome)) → IsKeptJournal version old before → Keeps version (map records_of old) from start → HasKept version start now old before place (asked_of new) new market
+  pub kept : (begin : Start) (old : List (Pair Record Outcome)) → IsKeptJournal begin old before → Keeps (head_of begin) (map records_of old) from start → HasKept begin start now old before place (asked_of new) new market
   pub told : IsSome now.content → IsSome start.content
 
 -- the result of keeping as the result of going through units
@@ -119,6 +120,7 @@ as_going (Err NotDisk) = Err (fault.Broken NotDisk)
 as_going (Err (Damaged place)) = Err (fault.Broken (Damaged place))
 as_going (Err (Rejected number)) = Err (fault.Broken (Rejected number))
 as_going (Err NotFlow) = Err (fault.Broken NotFlow)
+as_going (Err BadCheckpoint) = Err (fault.Broken BadCheckpoint)
 
 -- It broke off after the entries that were written, at the record of the next entry, if there is one. If memory ran out, that record may
 -- allocate.
@@ -139,6 +141,7 @@ IfEnded (Err NotDisk) P = ⊥
 IfEnded (Err (Damaged place)) P = ⊥
 IfEnded (Err (Rejected number)) P = ⊥
 IfEnded (Err NotFlow) P = ⊥
+IfEnded (Err BadCheckpoint) P = ⊥
 
 -- The records from those that a window held on were served: these entries were kept and written, and it broke off at the next one, if there
 -- is one.
@@ -147,10 +150,10 @@ pub record ServesOn (window : WindowState) (rest left : Option (List ℕ)) (resu
   pub more : List (Pair Record Outcome)
   pub acknowledged : ℕ
   pub market : Market
-  pub so_far : (version : Version) (old : List (Pair Record Outcome)) → IsKeptJournal version old before → Keeps version (map records_of old) from start → GoesOn version old before (asked_of new) new market
+  pub so_far : (begin : Start) (old : List (Pair Record Outcome)) → IsKeptJournal begin old before → Keeps (head_of begin) (map records_of old) from start → GoesOn begin old before (asked_of new) new market
   pub goes : GoesFrom commands Adds (Names market new more) window rest left (as_going result) [] new tt tt
-  pub runs : (version : Version) (old : List (Pair Record Outcome)) → IsKeptJournal version old before → Keeps version (map records_of old) from start → Runs version start end old before (asked_of (new ++ more)) (new ++ more) acknowledged
+  pub runs : (begin : Start) (old : List (Pair Record Outcome)) → IsKeptJournal begin old before → Keeps (head_of begin) (map records_of old) from start → Runs begin start end old before (asked_of (new ++ more)) (new ++ more) acknowledged
   pub written : StandIn (result ≡ Err Write) held holds (take acknowledged (new ++ more))
   pub whole : (text : List ℕ) × Grows held holds (flat_map pair_spelling new ++ text)
   pub ended : IfEnded result ((more ≡ []) × (acknowledged ≡ length new)
-      × ((version : Version) (old : List (Pair Record Outcome)) → IsKeptJournal version old before → Keeps version (map records_of old) from start → (place : ℕ) × Keeps version (map records_of (old ++ new)) place end))
+      × ((begin : Start) (old : List (Pair Record Outcome)) → IsKeptJournal begin old before → Keeps (head_of begin) (map records_of old) from start → (place : ℕ) × Keeps (head_of begin) (map records_of (old ++ new)) place end))

@@ -3,22 +3,23 @@ use Rattle.std.specs.Prelude.{ℕ, List, ◌++◌, map}
 use Rattle.wire_records.specs.Records.{Record}
 use Rattle.wire_records.specs.Commands.{Pair}
 use Rattle.wire_records.specs.Versions.{IsReadAs}
-use Rattle.wire_records.specs.declared.version.Version.{Version}
 use Rattle.flow_orders.specs.Outcomes.{Outcome}
 use Rattle.canonical_rule.specs.Canonical.{IsCanonicalOutcome}
 use Rattle.journal_records.specs.Formats.{records_of}
 use Rattle.market_rules.specs.Market.{Market}
+use Rattle.market_history.specs.Histories.{Start}
 use Rattle.market_rules.specs.Journal.{Step}
 use Rattle.disk_edge.specs.Disks.{DiskState}
 use Rattle.journal_disk.specs.Entries.{Keeps}
+use Rattle.journal_keeping.specs.Starts.{head_of}
 use Rattle.journal_keeping.specs.Keeping.{GoesOn, DuringCall}
 
 -- So far these records were served, from the market after the old entries to this one, and each new entry is kept. The disk has the entries
 -- up to the appender's place, and at each moment since the start a crash left the start's images or the first of the entries.
-pub record HasKept (version : Version) (start now : DiskState) (old : List (Pair Record Outcome)) (before : Market) (place : ℕ) (records : List Record) (new : List (Pair Record Outcome)) (market : Market) : Type 0 where
-  pub goes_on : GoesOn version old before records new market
-  pub keeps : Keeps version (map records_of (old ++ new)) place now
-  pub during : DuringCall version start now old new
+pub record HasKept (begin : Start) (start now : DiskState) (old : List (Pair Record Outcome)) (before : Market) (place : ℕ) (records : List Record) (new : List (Pair Record Outcome)) (market : Market) : Type 0 where
+  pub goes_on : GoesOn begin old before records new market
+  pub keeps : Keeps (head_of begin) (map records_of (old ++ new)) place now
+  pub during : DuringCall begin start now old new
 
 -- the entry of the record that is served next, by one step of the market
 abbrev pub IsNext : Market → Pair Record Outcome → Market → Type 0

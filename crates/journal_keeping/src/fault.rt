@@ -19,8 +19,11 @@ pub enum KeepFault {
     Damaged(u64),
     /// The kept entry of this number, counted from 1, isn't valid.
     Rejected(u64),
-    /// The source isn't a command file of the disk's version, or, for a new disk, isn't a command file at all.
+    /// The source isn't a command file of the disk's version, or, for a new disk, neither a command file nor a checkpoint and a command
+    /// file of its version.
     NotFlow,
+    /// The disk is new, and the source begins with the magic of a checkpoint, but with no checkpoint of a consistent market.
+    BadCheckpoint,
     /// The source breaks off, or states too long a record; the broken record begins at this byte, counted from 0.
     Torn(u64),
     /// The source has more bytes than the limit.

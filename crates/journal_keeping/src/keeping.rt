@@ -4,13 +4,13 @@ ghost use Rattle.flow_io.specs.Faults.{Blames};
 ghost use Rattle.flow_io.specs.Streams.{TakesAtMost};
 ghost use Rattle.wire_records.specs.Records.{Record};
 ghost use Rattle.wire_records.specs.Commands.{Pair};
-ghost use Rattle.wire_records.specs.declared.version.Version.{Version};
 ghost use Rattle.flow_orders.specs.Outcomes.{Outcome};
 ghost use Rattle.market_rules.specs.Market.{Market};
+ghost use Rattle.market_history.specs.Histories.{Start};
 ghost use Rattle.journal_disk.specs.Looking.{OnlyLooks};
 ghost use Rattle.journal_keeping.specs.Keeping.{HoldsLegal, KeepsIn};
 ghost use Rattle.journal_keeping.specs.Openings.{KeepNone};
-ghost use Rattle.journal_keeping.specs.Making.{IsMadeBehindMagic};
+ghost use Rattle.journal_keeping.specs.Making.{IsMadeBehindStart};
 ghost use Rattle.journal_keeping.specs.Lengths.{GrowsAtMost};
 ghost use Rattle.journal_keeping.specs.Pacing.{KeepsPace, RunsOut};
 ghost use Rattle.journal_keeping.specs.Ended.{ComesTo, IsRefusal, MayBeginAgain};
@@ -27,22 +27,23 @@ use std::alloc::Global;
 /// new one that was written to `out`, and at most one more; a later call continues with what it leaves. It leaves at most 263,183 bytes
 /// for each byte of the source more than it might have left before, or than the 9 of a new disk.
 ///
-/// First the disk is opened and its entries are audited; then the magic of the source is looked at, which has to be that of the disk's
-/// version. A new disk takes the version of the source, whose magic is looked at before anything is written to the disk. So `NotDisk`,
-/// `Damaged` and `Rejected` come before the source is asked and before anything is written, and leave what the disk holds. `Damaged` has
-/// the place of the first commit byte that is missing, or is set without a complete entry after it; `Rejected` has the number of the
-/// first kept entry that isn't valid, counted from 1. A disk that isn't new and keeps no valid journal is never changed, whatever the
-/// result; a new one isn't changed before the magic of a command file was taken. `NotFlow` leaves the entries that are kept. At `Ok`,
-/// `Torn` and `TooLong` all complete records of the first `limit` bytes of the source are served, kept and written. `Disk`, `Read` and
-/// `Write` come only if the count of faults of the disk, the source or `out` rose, which stays as it was in every other case. `Memory`
-/// comes before anything is read from the source, or at a record that may allocate.
+/// First the disk is opened and its entries are audited, from the checkpoint in its first entry if there is one; then the source is
+/// looked at, which has to be a command file of the disk's version. A new disk begins as its source does, which is a command file, or a
+/// checkpoint and a command file of its version: the checkpoint becomes the first entry. So `NotDisk`, `Damaged` and `Rejected` come before
+/// the source is asked and before anything is written, and leave what the disk holds. `Damaged` has the place of the first commit byte
+/// that is missing, or is set without a complete entry after it; `Rejected` has the number of the first kept entry that isn't valid,
+/// counted from 1. A disk that isn't new and keeps no valid journal is never changed, whatever the result; a new one isn't changed before
+/// the whole beginning of a source was taken. `NotFlow` leaves the entries that are kept. `BadCheckpoint` comes on a new disk alone. At
+/// `Ok`, `Torn` and `TooLong` all complete records of the first `limit` bytes of the source are served, kept and written. `Disk`, `Read`
+/// and `Write` come only if the count of faults of the disk, the source or `out` rose, which stays as it was in every other case. `Memory`
+/// comes before anything is read from the source, for its checkpoint, or at a record that may allocate.
 ///
-/// The source is read no further than 1,030 bytes past the last record whose entry was written; if a read of it fails, all complete
-/// records that were taken are answered. In all at most one byte past the limit is taken.
+/// The source is read no further than 1,030 bytes past the last record whose entry was written, or past its beginning; if a read of it
+/// fails, all complete records that were taken are answered. In all at most one byte past the limit is taken.
 ///
 /// Costs the audit of the kept entries, and for each record what serving it costs, two writes of the disk with a sync each, and one
-/// write of `out`. Holds a window of the longest command record, and a buffer of the longest entry of a disk. The limit is at most 2^32
-/// bytes.
+/// write of `out`. Holds a window of the longest command record, and a buffer of the longest entry of a disk; a checkpoint is held up to
+/// twice while it is read and kept. The limit is at most 2^32 bytes.
 pub fn keep<S: Source, D: Disk, K: Sink>(
     alloc: Global,
     limit: u64,
@@ -51,20 +52,20 @@ pub fn keep<S: Source, D: Disk, K: Sink>(
     out: &mut K,
 ) -> Result<(), KeepFault>
     requires few { limit ≤ 2 ^ 32 }
-    ensures keeps { (version : Version) (old : List (Pair Record Outcome)) (market : Market) → HoldsLegal (D.state disk.old) version old market →
-        KeepsIn limit (S.rest source.old) (result ≡ Err KeepFault.Write) version (D.state disk.old) (D.state disk.new) old market
+    ensures keeps { (begin : Start) (old : List (Pair Record Outcome)) (market : Market) → HoldsLegal (D.state disk.old) begin old market →
+        KeepsIn limit (S.rest source.old) (result ≡ Err KeepFault.Write) begin (D.state disk.old) (D.state disk.new) old market
         (K.held out.old) (K.held out.new) }
-    ensures again { (version : Version) (old : List (Pair Record Outcome)) (market : Market) → HoldsLegal (D.state disk.old) version old market →
+    ensures again { (begin : Start) (old : List (Pair Record Outcome)) (market : Market) → HoldsLegal (D.state disk.old) begin old market →
         MayBeginAgain (D.state disk.old) (D.state disk.new) }
     ensures lengths { IfSome (D.state disk.old).content (λ _. GrowsAtMost limit (S.rest source.old) (D.state disk.old) (D.state disk.new)) }
     ensures comes { IfSome (D.state disk.old).content
         (λ held. ComesTo limit held (S.rest source.old) (D.state disk.new) (K.held out.old) (K.held out.new) result) }
-    ensures legal { (version : Version) (old : List (Pair Record Outcome)) (market : Market) → HoldsLegal (D.state disk.old) version old market →
+    ensures legal { (begin : Start) (old : List (Pair Record Outcome)) (market : Market) → HoldsLegal (D.state disk.old) begin old market →
         IfSome (D.state disk.old).content (λ held. length held ≤ 2 ^ 60) → ¬ IsRefusal result }
     ensures untouched { IfSome (D.state disk.old).content
         (λ held. KeepNone held → OnlyLooks (D.state disk.old) (D.state disk.new) × (source.new ≡ source.old) × (out.new ≡ out.old)) }
     ensures made { IfSome (D.state disk.old).content
-        (λ held. IsMadeBehindMagic limit held (D.state disk.old) (D.state disk.new) (S.rest source.old) (S.rest source.new)) }
+        (λ held. IsMadeBehindStart limit held (D.state disk.old) (D.state disk.new) (S.rest source.old) (S.rest source.new)) }
     ensures taken { TakesAtMost (S.rest source.old) (S.rest source.new) (limit + 1) }
     ensures paced { KeepsPace limit (S.rest source.old) (S.rest source.new) (K.held out.old) (K.held out.new) result }
     ensures allocates { result ≡ Err KeepFault.Memory → IfSome (D.state disk.old).content

@@ -10,16 +10,17 @@ ghost use Rattle.flow_io.specs.declared.window.InputEnd.TheVariants.{Source as s
 ghost use Rattle.wire_records.specs.Records.{Record, AreBytes};
 ghost use Rattle.wire_records.specs.Commands.{Pair};
 ghost use Rattle.wire_records.specs.Formats.{commands};
-ghost use Rattle.wire_records.specs.declared.version.Version.{Version};
 ghost use Rattle.flow_orders.specs.Outcomes.{Outcome};
 ghost use Rattle.journal_records.specs.Pairs.{longest_plain_pair};
 ghost use Rattle.journal_records.specs.Formats.{records_of};
 ghost use Rattle.file_units.specs.Units.{StaysReady};
 ghost use Rattle.file_units.specs.Inputs.{HasLongest};
+ghost use Rattle.market_history.specs.Histories.{Start};
 ghost use Rattle.disk_edge.specs.Disks.{AtEachMoment};
 ghost use Rattle.journal_disk.specs.Pairs.{RecordPair, IsRecordPair, pair_bytes, IsWholePair};
-ghost use Rattle.journal_disk.specs.Entries.{WithOrWithout, Keeps};
+ghost use Rattle.journal_disk.specs.Entries.{Head, WithOrWithout, Keeps};
 ghost use Rattle.journal_disk.specs.Lengths.{ReachesAtMost};
+ghost use Rattle.journal_keeping.specs.Starts.{head_of};
 ghost use Rattle.journal_keeping.specs.Keeping.{IsKeptJournal};
 ghost use Rattle.journal_keeping.specs.Lengths.{HasYetAtMost};
 ghost use Rattle.journal_keeping.specs.Private.{IsReady, IsTakenNext, IsStill, BreaksNext, ServesOn};
@@ -49,13 +50,13 @@ fn put_pair<D: Disk, K: Sink>(
     requires pair { IsWholePair pair.now }
     requires room { appender.old ≤ 2 ^ 61 }
     requires kept { IfSome (D.state disk.old).content
-        (λ _. (version : Version) × (pairs : List RecordPair) × Keeps version pairs appender.old (D.state disk.old)) }
-    ensures kept { result ≢ Err KeepFault.Disk → (version : Version) (pairs : List RecordPair) (last : RecordPair) →
-        Keeps version pairs appender.old (D.state disk.old) → IsRecordPair last → pair.now ≡ pair_bytes last →
-        Keeps version (pairs ++ last ∷ []) appender.new (D.state disk.new) }
-    ensures moments { (version : Version) (pairs : List RecordPair) (last : RecordPair) →
-        Keeps version pairs appender.old (D.state disk.old) → IsRecordPair last → pair.now ≡ pair_bytes last →
-        AtEachMoment (D.state disk.old) (D.state disk.new) (WithOrWithout version pairs last) }
+        (λ _. (head : Head) × (pairs : List RecordPair) × Keeps head pairs appender.old (D.state disk.old)) }
+    ensures kept { result ≢ Err KeepFault.Disk → (head : Head) (pairs : List RecordPair) (last : RecordPair) →
+        Keeps head pairs appender.old (D.state disk.old) → IsRecordPair last → pair.now ≡ pair_bytes last →
+        Keeps head (pairs ++ last ∷ []) appender.new (D.state disk.new) }
+    ensures moments { (head : Head) (pairs : List RecordPair) (last : RecordPair) →
+        Keeps head pairs appender.old (D.state disk.old) → IsRecordPair last → pair.now ≡ pair_bytes last →
+        AtEachMoment (D.state disk.old) (D.state disk.new) (WithOrWithout head pairs last) }
     ensures lengths { ReachesAtMost (appender.old + (6 + length pair.now)) (D.state disk.old) (D.state disk.new) }
     ensures told { OnOk result (IsSome (D.state disk.new).content → IsSome (D.state disk.old).content) }
     ensures place { OnOk result (appender.new ≡ appender.old + (5 + length pair.now)) }
@@ -85,7 +86,7 @@ fn keep_next<D: Disk, K: Sink>(
     requires ready { (left : ℕ) × (length bytes.now ≤ left) × IsReady keeper.old.session keeper.old.appender left }
     requires room { longest_plain_pair ≤ vec_capacity keeper.old.pair }
     requires kept { IfSome (D.state disk.old).content
-        (λ _. (version : Version) × (pairs : List RecordPair) × Keeps version pairs keeper.old.appender (D.state disk.old)) }
+        (λ _. (head : Head) × (pairs : List RecordPair) × Keeps head pairs keeper.old.appender (D.state disk.old)) }
     ensures taken { IfOk result (λ front. IsTakenNext front bytes.now keeper.old.session keeper.new.session
         keeper.old.appender keeper.new.appender (D.state disk.old) (D.state disk.new) (K.held out.old) (K.held out.new)) }
     ensures room { vec_capacity keeper.old.pair ≤ vec_capacity keeper.new.pair }
@@ -153,8 +154,8 @@ pub(crate) fn serve_on<S: Source, D: Disk, K: Sink>(
     requires open { window.old.over ≡ None }
     requires ready { IsReady keeper.old.session keeper.old.appender (window.old.limit - window.old.place) }
     requires room { longest_plain_pair ≤ vec_capacity keeper.old.pair }
-    requires kept { IfSome (D.state disk.old).content (λ _. (version : Version) × (old : List (Pair Record Outcome))
-        × IsKeptJournal version old keeper.old.session × Keeps version (map records_of old) keeper.old.appender (D.state disk.old)) }
+    requires kept { IfSome (D.state disk.old).content (λ _. (begin : Start) × (old : List (Pair Record Outcome))
+        × IsKeptJournal begin old keeper.old.session × Keeps (head_of begin) (map records_of old) keeper.old.appender (D.state disk.old)) }
     ensures goes { ServesOn window.old (S.rest source.old) (S.rest source.new) result keeper.old.session keeper.old.appender
         (D.state disk.old) (D.state disk.new) (K.held out.old) (K.held out.new) }
     ensures lengths { (count : ℕ) → HasYetAtMost count window.old (S.rest source.old) →

@@ -1,17 +1,19 @@
 -- How keeping a journal ended, as a status.
-use Rattle.std.proofs.Common.{◌≡◌, ◌≢◌, inl, inr, ℕ, List, Option, Some, None, IfSome, Result, Ok, Err, refl}
+use Rattle.std.proofs.Common.{◌≡◌, ◌≢◌, inl, inr, ℕ, List, [], take, Option, Some, None, IfSome, Result, Ok, Err, refl}
 use Rattle.flow_io.specs.Faults.{Blames}
+use Rattle.flow_io.specs.Streams.{Grows}
 use Rattle.wire_records.specs.Records.{Record}
 use Rattle.wire_records.specs.Reading as reading
-use Rattle.wire_records.specs.declared.version.Version.TheVariants.{One}
 use Rattle.disk_edge.specs.Disks.{DiskState}
+use Rattle.journal_keeping.specs.Starts.{BeginsUnsound}
 use Rattle.journal_keeping.specs.Openings as opening
-use Rattle.journal_keeping.specs.Ended.{ComesTo, HasKeptAll, HasLeftAll}
+use Rattle.journal_keeping.specs.Ended.{ComesTo, HasKeptAll, StaysNew, HasLeftAll}
 use Rattle.journal_keeping.specs.Openings.{OpensAs}
 use Rattle.journal_keeping.specs.Ended as kept
 use Rattle.journal_keeping.specs.declared.fault.KeepFault.{KeepFault}
-use Rattle.journal_keeping.specs.declared.fault.KeepFault.TheVariants.{Read, Write, Disk, Memory, NotDisk, Damaged, Rejected, NotFlow, Torn, TooLong}
-use Rattle.flow_exchange.specs.Statuses.{reading_status}
+use Rattle.journal_keeping.specs.declared.fault.KeepFault.TheVariants.{Read, Write, Disk, Memory, NotDisk, Damaged, Rejected, NotFlow, BadCheckpoint, Torn, TooLong}
+use Rattle.journal_keeping.proofs.SourceStart.{unsound_none}
+use Rattle.flow_exchange.specs.Statuses.{ending_status}
 use Rattle.flow_exchange.specs.declared.status.Status.TheVariants as status
 use Rattle.kept_exchange.specs.Statuses.{kept_status, AsksStatus}
 use Rattle.kept_exchange.specs.Keeping.{Determines, IsRefusal}
@@ -43,6 +45,7 @@ read_back limit (Err NotDisk) e = absurd cc
 read_back limit (Err (Damaged place)) e = absurd cc
 read_back limit (Err (Rejected number)) e = absurd cc
 read_back limit (Err NotFlow) e = absurd cc
+read_back limit (Err BadCheckpoint) e = absurd cc
 read_back limit (Err (Torn place)) e = absurd cc
 read_back limit (Err TooLong) e = absurd cc
 
@@ -56,6 +59,7 @@ write_back limit (Err NotDisk) e = absurd cc
 write_back limit (Err (Damaged place)) e = absurd cc
 write_back limit (Err (Rejected number)) e = absurd cc
 write_back limit (Err NotFlow) e = absurd cc
+write_back limit (Err BadCheckpoint) e = absurd cc
 write_back limit (Err (Torn place)) e = absurd cc
 write_back limit (Err TooLong) e = absurd cc
 
@@ -69,6 +73,7 @@ disk_back limit (Err NotDisk) e = absurd cc
 disk_back limit (Err (Damaged place)) e = absurd cc
 disk_back limit (Err (Rejected number)) e = absurd cc
 disk_back limit (Err NotFlow) e = absurd cc
+disk_back limit (Err BadCheckpoint) e = absurd cc
 disk_back limit (Err (Torn place)) e = absurd cc
 disk_back limit (Err TooLong) e = absurd cc
 
@@ -82,6 +87,7 @@ memory_back limit (Err NotDisk) e = absurd cc
 memory_back limit (Err (Damaged place)) e = absurd cc
 memory_back limit (Err (Rejected number)) e = absurd cc
 memory_back limit (Err NotFlow) e = absurd cc
+memory_back limit (Err BadCheckpoint) e = absurd cc
 memory_back limit (Err (Torn place)) e = absurd cc
 memory_back limit (Err TooLong) e = absurd cc
 
@@ -95,6 +101,7 @@ done_back limit (Err NotDisk) e = absurd cc
 done_back limit (Err (Damaged place)) e = absurd cc
 done_back limit (Err (Rejected number)) e = absurd cc
 done_back limit (Err NotFlow) e = absurd cc
+done_back limit (Err BadCheckpoint) e = absurd cc
 done_back limit (Err (Torn place)) e = absurd cc
 done_back limit (Err TooLong) e = absurd cc
 
@@ -121,6 +128,9 @@ refusal_back limit (Err Memory) (inr (inr e)) = absurd cc
 refusal_back limit (Err NotFlow) (inl e) = absurd cc
 refusal_back limit (Err NotFlow) (inr (inl e)) = absurd cc
 refusal_back limit (Err NotFlow) (inr (inr e)) = absurd cc
+refusal_back limit (Err BadCheckpoint) (inl e) = absurd cc
+refusal_back limit (Err BadCheckpoint) (inr (inl e)) = absurd cc
+refusal_back limit (Err BadCheckpoint) (inr (inr e)) = absurd cc
 refusal_back limit (Err (Torn place)) (inl e) = absurd cc
 refusal_back limit (Err (Torn place)) (inr (inl e)) = absurd cc
 refusal_back limit (Err (Torn place)) (inr (inr e)) = absurd cc
@@ -130,17 +140,21 @@ refusal_back limit (Err TooLong) (inr (inr e)) = absurd cc
 
 module _ (limit : ℕ) (held : List ℕ) (end : DiskState) (before after : Option (List ℕ)) where
   -- all was kept: the status is that of the reading
-  asks_all : (bytes : List ℕ) (records : List Record) (ending : reading.Ending) → HasKeptAll limit held (Some bytes) end before after records ending → AsksStatus limit held bytes (reading_status limit (reading.File One records ending))
+  asks_all : (bytes : List ℕ) (records : List Record) (ending : reading.Ending) → HasKeptAll limit held (Some bytes) end before after records ending → AsksStatus limit held bytes (ending_status limit ending)
   asks_all bytes records ending has = by_opening has.opens
     where
-      by_opening : OpensAs held has.version has.old has.market → AsksStatus limit held bytes (reading_status limit (reading.File One records ending))
-      by_opening (inl legal) = (opening.Legal has.version has.old has.market, legal, (reading.File has.version records ending, (refl, has.reads), refl))
-      by_opening (inr new) = (opening.New, new.0, (reading.File has.version records ending, has.reads, refl))
+      by_opening : OpensAs held has.begin has.old has.market has.input → AsksStatus limit held bytes (ending_status limit ending)
+      by_opening (inl legal) = (opening.Legal has.begin has.old has.market, legal.0, (reading.File has.input records ending, (legal.1, has.reads), refl))
+      by_opening (inr new) = (opening.New, new.0, (reading.File has.input records ending, has.reads, refl))
 
-  -- the source was no command file
+  -- the source was no command file, nor a checkpoint and one
   asks_left : (bytes : List ℕ) → HasLeftAll limit held (Some bytes) end before after → AsksStatus limit held bytes status.NotFlow
   asks_left bytes (grows, inl kept) = (opening.Legal kept.0 kept.1 kept.2, kept.3, (reading.NotFlow, kept.4, refl))
-  asks_left bytes (grows, inr new) = (opening.New, new.0, (reading.NotFlow, new.1, refl))
+  asks_left bytes (grows, inr new) = (opening.New, new.0, (reading.NotFlow, new.1.0, inr (new.1.1, refl)))
+
+  -- the source began with an unsound checkpoint
+  asks_unsound : (bytes : List ℕ) → Grows before after [] × StaysNew BeginsUnsound limit held (Some bytes) end → AsksStatus limit held bytes status.BadCheckpoint
+  asks_unsound bytes (grows, new) = (opening.New, new.0, (reading.NotFlow, unsound_none (take limit bytes) new.1.0 new.1.1, inl (new.1, refl)))
 
   -- but for faults and running out of memory, the result is what the bytes lead to
   asks : (bytes : List ℕ) (result : Kept) → ComesTo limit held (Some bytes) end before after result
@@ -155,6 +169,7 @@ module _ (limit : ℕ) (held : List ℕ) (end : DiskState) (before after : Optio
   asks bytes (Err (Damaged place)) x r w d m = (opening.Damaged place, x.is, refl)
   asks bytes (Err (Rejected number)) x r w d m = (opening.Rejected number, x.is, refl)
   asks bytes (Err NotFlow) x r w d m = asks_left bytes x
+  asks bytes (Err BadCheckpoint) x r w d m = asks_unsound bytes x
   asks bytes (Err (Torn place)) x r w d m = asks_all bytes x.0 (reading.Torn place) x.1
   asks bytes (Err TooLong) x r w d m = asks_all bytes x.0 reading.TooLong x.1
 

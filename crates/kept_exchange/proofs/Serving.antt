@@ -1,5 +1,5 @@
 -- A call that keeps a journal does what is promised of it.
-use Rattle.std.proofs.Common.{◌≡◌, ◌≢◌, ◌⊎◌, ◌+◌, ◌≤◌, ◌^◌, inl, inr, ℕ, List, [], subst, length, Option, Some, None, IfSome, Result, Ok, Err, OnOk, OnErr, IsErr, refl, ap}
+use Rattle.std.proofs.Common.{◌≡◌, ◌≢◌, ◌⊎◌, ◌+◌, ◌≤◌, ◌^◌, inl, inr, ℕ, List, subst, length, Option, Some, None, IfSome, Result, Ok, Err, OnOk, OnErr, IsErr, refl, ap}
 use Rattle.flow_io.specs.Faults.{Rose, Blames}
 use Rattle.flow_io.specs.Streams.{Grows, GrowsByPrefix, TakesAtMost}
 use Rattle.flow_io.specs.Changes.{Change}
@@ -7,14 +7,14 @@ use Rattle.flow_io.specs.declared.sink.WriteFailed.{WriteFailed}
 use Rattle.flow_io.proofs.Growth.{GrowsByPrefix-whole}
 use Rattle.wire_records.specs.Records.{Record}
 use Rattle.wire_records.specs.Commands.{Pair}
-use Rattle.wire_records.specs.declared.version.Version.{Version}
 use Rattle.flow_orders.specs.Outcomes.{Outcome}
 use Rattle.market_rules.specs.Market.{Market}
+use Rattle.market_history.specs.Histories.{Start}
 use Rattle.disk_edge.specs.Disks.{DiskState}
 use Rattle.journal_disk.specs.Looking.{OnlyLooks}
 use Rattle.journal_keeping.specs.Keeping.{HoldsLegal, KeepsIn}
 use Rattle.journal_keeping.specs.Openings.{KeepNone}
-use Rattle.journal_keeping.specs.Making.{IsMadeBehindMagic}
+use Rattle.journal_keeping.specs.Making.{IsMadeBehindStart}
 use Rattle.journal_keeping.specs.Lengths.{GrowsAtMost}
 use Rattle.journal_keeping.specs.Pacing.{KeepsPace, IsNear, RunsOut}
 use Rattle.journal_keeping.specs.Ended.{ComesTo, MayBeginAgain}
@@ -27,13 +27,14 @@ use Rattle.kept_exchange.specs.Keeping.{ComesToStatus, Determines, ServesKeep}
 use Rattle.kept_exchange.proofs.AsStatus.{Kept, blames_as, read_back, write_back, disk_back, memory_back, done_back, refusal_back, determines}
 
 -- what a call keeps, for a weaker condition on when a write was cut short
-keeps_wider : (limit : ℕ) (content : Option (List ℕ)) (Cut Wider : Type 0) (version : Version) (start end : DiskState) (old : List (Pair Record Outcome)) (market : Market) (held holds : Option (List ℕ)) → (Cut → Wider)
-    → KeepsIn limit content Cut version start end old market held holds → KeepsIn limit content Wider version start end old market held holds
-keeps_wider limit content Cut Wider version start end old market held holds wider (of, from, in_version, keeps) =
+keeps_wider : (limit : ℕ) (content : Option (List ℕ)) (Cut Wider : Type 0) (begin : Start) (start end : DiskState) (old : List (Pair Record Outcome)) (market : Market) (held holds : Option (List ℕ)) → (Cut → Wider)
+    → KeepsIn limit content Cut begin start end old market held holds → KeepsIn limit content Wider begin start end old market held holds
+keeps_wider limit content Cut Wider begin start end old market held holds wider (of, from, input, goes, keeps) =
     let stands = keeps.written in (
       of,
       from,
-      in_version,
+      input,
+      goes,
       record {
         records = keeps.records;
         new = keeps.new;
@@ -79,20 +80,19 @@ module _ (limit : ℕ) (result : Kept) (start end : DiskState) (source out : Cha
   paced_by : (other : Kept) → KeepsPace limit source.before source.after out.before out.after result → ◌≡◌ {A = Kept} result other → KeepsPace limit source.before source.after out.before out.after other
   paced_by other paced is = subst (KeepsPace limit source.before source.after out.before out.after) is paced
 
-  near_by : KeepsPace limit source.before source.after out.before out.after result → (kept_status limit result ≡ status.WriteFault) ⊎ (kept_status limit result ≡ status.DiskFault) ⊎ (kept_status limit result ≡ status.NoMemory)
+  near_by : KeepsPace limit source.before source.after out.before out.after result → (kept_status limit result ≡ status.WriteFault) ⊎ (kept_status limit result ≡ status.DiskFault)
       → IsNear limit source.before source.after out.before out.after
   near_by paced (inl e) = paced_by (Err Write) paced (write_back limit result e)
-  near_by paced (inr (inl e)) = paced_by (Err Disk) paced (disk_back limit result e)
-  near_by paced (inr (inr e)) = paced_by (Err Memory) paced (memory_back limit result e)
+  near_by paced (inr e) = paced_by (Err Disk) paced (disk_back limit result e)
 
   pub serves : (notes : Change) (noting : Result (Unit {0}) WriteFailed)
-      → ((version : Version) (old : List (Pair Record Outcome)) (market : Market) → HoldsLegal start version old market → KeepsIn limit source.before (◌≡◌ {A = Kept} result (Err Write)) version start end old market out.before out.after)
-      → ((version : Version) (old : List (Pair Record Outcome)) (market : Market) → HoldsLegal start version old market → MayBeginAgain start end)
+      → ((begin : Start) (old : List (Pair Record Outcome)) (market : Market) → HoldsLegal start begin old market → KeepsIn limit source.before (◌≡◌ {A = Kept} result (Err Write)) begin start end old market out.before out.after)
+      → ((begin : Start) (old : List (Pair Record Outcome)) (market : Market) → HoldsLegal start begin old market → MayBeginAgain start end)
       → IfSome start.content (λ held. GrowsAtMost limit source.before start end)
       → IfSome start.content (λ held. ComesTo limit held source.before end out.before out.after result)
-      → ((version : Version) (old : List (Pair Record Outcome)) (market : Market) → HoldsLegal start version old market → IfSome start.content (λ held. length held ≤ 2 ^ 60) → ¬ kept.IsRefusal result)
+      → ((begin : Start) (old : List (Pair Record Outcome)) (market : Market) → HoldsLegal start begin old market → IfSome start.content (λ held. length held ≤ 2 ^ 60) → ¬ kept.IsRefusal result)
       → IfSome start.content (λ held. KeepNone held → OnlyLooks start end × (source.after ≡ source.before) × (out.after ≡ out.before))
-      → IfSome start.content (λ held. IsMadeBehindMagic limit held start end source.before source.after)
+      → IfSome start.content (λ held. IsMadeBehindStart limit held start end source.before source.after)
       → TakesAtMost source.before source.after (limit + 1)
       → KeepsPace limit source.before source.after out.before out.after result
       → (◌≡◌ {A = Kept} result (Err Memory) → IfSome start.content (λ held. RunsOut limit held source.before source.after end out.before out.after))
@@ -104,10 +104,10 @@ module _ (limit : ℕ) (result : Kept) (start end : DiskState) (source out : Cha
       → Blames (IsErr noting) notes.faults notes.faults_after
       → ServesKeep limit (kept_status limit result) start end source out notes
   serves notes noting keeps again lengths comes legal untouched made taken paced allocates disk read write line front cause = record {
-    keeps = λ version old market holds. keeps_wider limit source.before (◌≡◌ {A = Kept} result (Err Write)) (kept_status limit result ≡ status.WriteFault) version start end old market out.before out.after (ap (kept_status limit)) (keeps version old market holds);
+    keeps = λ begin old market holds. keeps_wider limit source.before (◌≡◌ {A = Kept} result (Err Write)) (kept_status limit result ≡ status.WriteFault) begin start end old market out.before out.after (ap (kept_status limit)) (keeps begin old market holds);
     again = again;
     lengths = lengths;
-    opens = λ version old market holds small refused. legal version old market holds small (refusal_back limit result refused);
+    opens = λ begin old market holds small refused. legal begin old market holds small (refusal_back limit result refused);
     ends = ends_as start.content comes;
     complete = λ no_disk no_read no_write memory. completes start.content comes (λ e. no_read (read.rose e)) (λ e. no_write (write.rose e)) (λ e. no_disk (disk.rose e)) memory;
     untouched = untouched;
@@ -116,6 +116,7 @@ module _ (limit : ℕ) (result : Kept) (start end : DiskState) (source out : Cha
     left = λ e. paced_by (Ok tt) paced (done_back limit result e);
     read = λ e. paced_by (Err Read) paced (read_back limit result e);
     near = near_by paced;
+    within = λ e. paced_by (Err Memory) paced (memory_back limit result e);
     allocates = λ e. allocates (memory_back limit result e);
     disks = blames_as _ _ _ _ (ap (kept_status limit)) (disk_back limit result) disk;
     reads = blames_as _ _ _ _ (ap (kept_status limit)) (read_back limit result) read;

@@ -5,16 +5,16 @@ use Rattle.flow_io.specs.Streams.{Grows, GrowsByPrefix, TakesAtMost}
 use Rattle.flow_io.specs.Changes.{Change}
 use Rattle.wire_records.specs.Records.{Record}
 use Rattle.wire_records.specs.Commands.{Pair}
-use Rattle.wire_records.specs.declared.version.Version.{Version}
 use Rattle.flow_orders.specs.Outcomes.{Outcome}
 use Rattle.market_rules.specs.Market.{Market}
+use Rattle.market_history.specs.Histories.{Start}
 use Rattle.disk_edge.specs.Disks.{DiskState}
 use Rattle.journal_disk.specs.Looking.{OnlyLooks}
 use Rattle.journal_keeping.specs.Keeping.{HoldsLegal, KeepsIn}
 use Rattle.journal_keeping.specs.Openings.{KeepNone}
-use Rattle.journal_keeping.specs.Making.{IsMadeBehindMagic}
+use Rattle.journal_keeping.specs.Making.{IsMadeBehindStart}
 use Rattle.journal_keeping.specs.Lengths.{GrowsAtMost}
-use Rattle.journal_keeping.specs.Pacing.{ReadsAll, IsNear, RunsOut}
+use Rattle.journal_keeping.specs.Pacing.{ReadsAll, IsNear, IsInCheckpoint, RunsOut}
 use Rattle.journal_keeping.specs.Ended.{ComesTo, MayBeginAgain}
 use Rattle.journal_keeping.specs.declared.fault.KeepFault.{KeepFault}
 use Rattle.flow_exchange.specs.declared.status.Status.{Status}
@@ -41,16 +41,17 @@ pub record ServesKeep (limit : ℕ) (status : Status) (start end : DiskState) (s
   -- If a crash can leave only valid journals at the start, then at each moment a crash leaves what it might have left then, or the old
   -- entries and the first of the new ones, which answer the first records of the source and are one valid journal with the old ones.
   -- After the call it leaves each entry that was acknowledged, and at most one more; the output gained the acknowledged entries. A new
-  -- disk takes the version of its source, and any other keeps its own.
-  pub keeps : (version : Version) (old : List (Pair Record Outcome)) (market : Market) → HoldsLegal start version old market
-      → KeepsIn limit source.before (status ≡ WriteFault) version start end old market out.before out.after
+  -- disk begins as its source does, with its checkpoint if it has one, and any other keeps its beginning. Only if it was new at the start may
+  -- a crash leave a new one, and after the call only if no entry was acknowledged.
+  pub keeps : (begin : Start) (old : List (Pair Record Outcome)) (market : Market) → HoldsLegal start begin old market
+      → KeepsIn limit source.before (status ≡ WriteFault) begin start end old market out.before out.after
   -- What a crash leaves of such a disk is again a disk of which all this holds.
-  pub again : (version : Version) (old : List (Pair Record Outcome)) (market : Market) → HoldsLegal start version old market → MayBeginAgain start end
+  pub again : (begin : Start) (old : List (Pair Record Outcome)) (market : Market) → HoldsLegal start begin old market → MayBeginAgain start end
   -- At each moment a crash leaves at most 263,183 bytes for each byte of the source more than it might have left at the start, or than the
   -- 9 of a new disk. So if that was at most 2^59, and the source has at most 2^32 bytes, what it leaves has at most 2^60.
   pub lengths : IfSome start.content (λ held. GrowsAtMost limit source.before start end)
   -- A disk that holds a valid journal of at most 2^60 bytes isn't refused.
-  pub opens : (version : Version) (old : List (Pair Record Outcome)) (market : Market) → HoldsLegal start version old market
+  pub opens : (begin : Start) (old : List (Pair Record Outcome)) (market : Market) → HoldsLegal start begin old market
       → IfSome start.content (λ held. length held ≤ 2 ^ 60) → ¬ IsRefusal status
   -- Which status comes, and what the disk and the output have then.
   pub ends : IfSome start.content (λ held. ComesToStatus limit held source.before end out.before out.after status)
@@ -60,17 +61,19 @@ pub record ServesKeep (limit : ℕ) (status : Status) (start end : DiskState) (s
   -- A disk that keeps no valid journal (it is no kept file, is damaged, or has an entry that isn't valid) is never changed, whatever the
   -- status, and nothing is read or written then.
   pub untouched : IfSome start.content (λ held. KeepNone held → OnlyLooks start end × (source.after ≡ source.before) × (out.after ≡ out.before))
-  -- A new disk is never changed, whatever the status, unless the magic of a command file was taken of the source.
-  pub made : IfSome start.content (λ held. IsMadeBehindMagic limit held start end source.before source.after)
+  -- A new disk is never changed, whatever the status, unless the whole beginning of a source was taken: the magic of a command file, or a
+  -- checkpoint and the magic after it.
+  pub made : IfSome start.content (λ held. IsMadeBehindStart limit held start end source.before source.after)
   -- At most one byte past the limit was taken of the source, and nothing is left of it at Done.
   pub taken : TakesAtMost source.before source.after (limit + 1)
   pub left : status ≡ Done → IfSome source.before (λ bytes. source.after ≡ Some [])
   -- After a fault of the source all complete records that were taken were answered, and no others.
   pub read : status ≡ ReadFault → ReadsAll limit source.before source.after out.before out.after
-  -- If a write failed, the disk failed, or memory ran out, the source was read no further than 1,030 bytes past the last record whose
-  -- entry was written, or past the first eight bytes.
-  pub near : (status ≡ WriteFault) ⊎ (status ≡ DiskFault) ⊎ (status ≡ NoMemory) → IsNear limit source.before source.after out.before out.after
-  -- Memory runs out before anything is read or written, or at a record that may allocate.
+  -- If a write failed or the disk failed, the source was read no further than 1,030 bytes past the last record whose entry was written, or
+  -- past its beginning, or past the first eight bytes. So it was if memory ran out, unless that was for a checkpoint of the source.
+  pub near : (status ≡ WriteFault) ⊎ (status ≡ DiskFault) → IsNear limit source.before source.after out.before out.after
+  pub within : status ≡ NoMemory → IsNear limit source.before source.after out.before out.after ⊎ (IsInCheckpoint limit source.before source.after × (out.after ≡ out.before))
+  -- Memory runs out before anything is read or written, for a checkpoint of the source, or at a record that may allocate.
   pub allocates : status ≡ NoMemory → IfSome start.content (λ held. RunsOut limit held source.before source.after end out.before out.after)
   -- A fault is answered only if its count rose; otherwise the count stays.
   pub disks : Blames (status ≡ DiskFault) start.faults end.faults

@@ -1,15 +1,15 @@
 -- Which status keeping a journal ends with.
-use Rattle.std.specs.Prelude.{◌≡◌, ℕ, List, Result, Ok, Err}
+use Rattle.std.specs.Prelude.{◌≡◌, ◌⊎◌, ℕ, List, take, Result, Ok, Err}
 use Rattle.wire_records.specs.Records.{Record}
-use Rattle.wire_records.specs.Reading.{Reading, Reads}
-use Rattle.wire_records.specs.Formats.{commands}
-use Rattle.wire_records.specs.declared.version.Version.{Version}
+use Rattle.wire_records.specs.Reading.{Reading, NotFlow, File, Reads}
+use Rattle.market_history.specs.Histories.{Start}
+use Rattle.journal_keeping.specs.Starts.{version_of, sources, BeginsUnsound}
 use Rattle.journal_keeping.specs.declared.fault.KeepFault.{KeepFault}
 use Rattle.journal_keeping.specs.declared.fault.KeepFault.TheVariants as kept
 use Rattle.journal_keeping.specs.Openings.{Opening, Foreign, New, Damaged, Rejected, Legal, IsOpening, ReadsKept}
 use Rattle.flow_exchange.specs.declared.status.Status.{Status}
 use Rattle.flow_exchange.specs.declared.status.Status.TheVariants as status
-use Rattle.flow_exchange.specs.Statuses.{reading_status}
+use Rattle.flow_exchange.specs.Statuses.{ending_status, reading_status}
 
 -- the status of how keeping a journal ended
 abbrev pub kept_status : ℕ → Result (Unit {0}) KeepFault → Status
@@ -22,17 +22,25 @@ kept_status limit (Err kept.NotDisk) = status.NotDisk
 kept_status limit (Err (kept.Damaged place)) = status.Damaged place
 kept_status limit (Err (kept.Rejected number)) = status.Rejected number
 kept_status limit (Err kept.NotFlow) = status.NotFlow
+kept_status limit (Err kept.BadCheckpoint) = status.BadCheckpoint
 kept_status limit (Err (kept.Torn place)) = status.Torn place
 kept_status limit (Err kept.TooLong) = status.TooLong limit
 
+-- the status of a source of a new disk: as for `run`, but one that begins with an unsound checkpoint has a status of its own
+abbrev pub IsSourceStatus : ℕ → List ℕ → Reading Start Record → Status → Type 0
+IsSourceStatus limit bytes NotFlow ends =
+    (BeginsUnsound (take limit bytes) × (ends ≡ status.BadCheckpoint)) ⊎ ((¬ BeginsUnsound (take limit bytes)) × (ends ≡ status.NotFlow))
+IsSourceStatus limit bytes (File input records ending) ends = ends ≡ ending_status limit ending
+
 -- The status after a disk was opened so: a disk that is refused has a status of its own; otherwise it is the status of the source, as for
--- `run`, but a source of another version than the disk is no command file.
+-- `run`, but for a disk that isn't new a source of another version, or one that begins with a checkpoint, is no command file.
 abbrev pub OpensTo : ℕ → List ℕ → Opening → Status → Type 0
 OpensTo limit bytes Foreign ends = ends ≡ status.NotDisk
 OpensTo limit bytes (Damaged place) ends = ends ≡ status.Damaged place
 OpensTo limit bytes (Rejected number) ends = ends ≡ status.Rejected number
-OpensTo limit bytes New ends = (reading : Reading Version Record) × Reads commands limit bytes reading × (ends ≡ reading_status limit reading)
-OpensTo limit bytes (Legal version pairs market) ends = (reading : Reading Version Record) × ReadsKept version limit bytes reading × (ends ≡ reading_status limit reading)
+OpensTo limit bytes New ends = (reading : Reading Start Record) × Reads sources limit bytes reading × IsSourceStatus limit bytes reading ends
+OpensTo limit bytes (Legal begin pairs market) ends =
+    (reading : Reading Start Record) × ReadsKept (version_of begin) limit bytes reading × (ends ≡ reading_status limit reading)
 
 -- the bytes of a disk and of a source lead to this status, if no call fails and memory doesn't run out
 abbrev pub AsksStatus : ℕ → List ℕ → List ℕ → Status → Type 0

@@ -19,6 +19,7 @@ pub(crate) fn status_of(ended: Result<(), KeepFault>, limit: u64) -> Status
         Err(KeepFault::Damaged(place)) => Status::Damaged(place),
         Err(KeepFault::Rejected(number)) => Status::Rejected(number),
         Err(KeepFault::NotFlow) => Status::NotFlow,
+        Err(KeepFault::BadCheckpoint) => Status::BadCheckpoint,
         Err(KeepFault::Torn(place)) => Status::Torn(place),
         Err(KeepFault::TooLong) => Status::TooLong(limit),
     }

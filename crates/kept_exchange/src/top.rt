@@ -34,25 +34,29 @@ pub fn flow_disk_limited<S: Source, D: Disk, K: Sink, N: Sink>(
 /// Serves a command file and keeps its journal on a disk, after the entries that the disk keeps already.
 ///
 /// The disk is opened first, its entries are read and audited, and what a crash left after them is cut off. Then the command file is read
-/// from the source, at most 2^32 bytes; it has to be of the version of the disk. A new disk takes the version of the command file, whose
-/// magic is looked at before anything is written to the disk. Each record is served by the market after all entries before it. Its entry
-/// is put onto the disk by two writes, each with a sync, and only then written to `out`, by one write, before the source is asked for
-/// more; no magic is written to `out`. So a crash at any moment takes nothing away of what was written to `out`, and leaves at most one
-/// entry more.
+/// from the source, at most 2^32 bytes; it has to be of the version of the disk. A new disk begins as its source does, which is read up to
+/// the first record before anything is written to the disk: with a checkpoint as its first entry, if one stands before the command file.
+/// Each record is served by the market after all entries before it. Its entry is put onto the disk by two writes, each with a sync, and
+/// only then written to `out`, by one write, before the source is asked for more; no magic is written to `out`. So a crash at any moment
+/// takes nothing away of what was written to `out`, and leaves at most one entry more.
+///
+/// A disk is new if it has at most 9 bytes, or begins with one of the magics and its first commit byte isn't set. `BadCheckpoint` says that
+/// it is new, and the source begins with the magic of a checkpoint but with no checkpoint of a consistent market; nothing is written then.
 ///
 /// `NotDisk` says that the disk holds something else: more than 9 bytes that begin with none of its magics, or more than 2^60. `Damaged`
 /// has the place, in bytes from 0, of the first commit byte that is missing, or is set without a complete entry after it; `Rejected` has
-/// the number of the first kept entry that isn't valid, counted from 1. None of these comes of a crash. A disk that isn't new and keeps
-/// no valid journal is never changed, whatever the status. `DiskFault` comes only if a call of the disk failed; the disk has to be opened
-/// again then. The other statuses are those of `run`, but a source of another version than the disk is `NotFlow` too. With every status
-/// but `Done` one line is written to `notes`; a fault of `notes` changes nothing.
+/// the number of the first kept entry that isn't valid, counted from 1. None of these comes of a crash. A disk that isn't new and keeps no
+/// valid journal is never changed, whatever the status. `DiskFault` comes only if a call of the disk failed; the disk has to be opened
+/// again then. The other statuses are those of `run`, but a source of another version than the disk is `NotFlow` too, and so is one that
+/// begins with a checkpoint, if the disk isn't new. With every status but `Done` one line is written to `notes`; a fault of `notes` changes
+/// nothing.
 ///
-/// The source is read no further than 1,030 bytes past the last record whose entry was written, and at most one byte past the limit; if a
-/// read of it fails, all complete records that were taken are answered. `NoMemory` comes before it is read, or at a record that may
-/// allocate.
+/// The source is read no further than 1,030 bytes past the last record whose entry was written, or past its beginning, and at most one byte
+/// past the limit; if a read of it fails, all complete records that were taken are answered. `NoMemory` comes before it is read, while its
+/// checkpoint is read, or at a record that may allocate.
 ///
 /// Costs the audit of the kept entries, and for each record what `run` costs and the two syncs. Memory is that of the market, a window of
-/// 1,029 bytes and the longest entry, 263,183 bytes.
+/// 1,029 bytes and the longest entry, 263,183 bytes; while a checkpoint is read also that of its bytes.
 pub fn flow_disk<S: Source, D: Disk, K: Sink, N: Sink>(
     alloc: Global,
     source: &mut S,

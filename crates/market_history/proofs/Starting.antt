@@ -18,7 +18,7 @@ use Rattle.market_history.specs.declared.start.StartFault.{StartFault}
 use Rattle.market_history.specs.declared.start.StartFault.TheVariants.{Read, Memory, NotFlow, NoCheckpoint}
 use Rattle.market_history.specs.Histories.{Start, Empty, Kept, starts, BeginsUnsound, BeginsOtherwise}
 use Rattle.market_history.specs.Reading.{Begins, AreFound, AreTaken, FindsStart}
-use Rattle.market_history.specs.Private.{TakesOn, FindsNone, FindsKept}
+use Rattle.market_history.specs.Kept.{TakesOn, FindsNone, FindsKept}
 use Rattle.market_history.proofs.Taking.{known_behind, considered_behind}
 
 -- a checkpoint begins with its magic

@@ -9,7 +9,8 @@ use Rattle.file_units.proofs.Gone.{considered, within_limit}
 use Rattle.market_rules.specs.Market.{Market}
 use Rattle.market_snapshot.specs.Checkpoints.{IsCheckpoint, BeginsWithNoCheckpoint}
 use Rattle.market_history.specs.declared.start.StartFault.TheVariants.{Read, Memory, NoCheckpoint}
-use Rattle.market_history.specs.Private.{IsJoined, TakesOn, TakesAll, HasLeast, IsWholeIfAny, FindsNone}
+use Rattle.market_history.specs.Kept.{TakesOn, FindsNone}
+use Rattle.market_history.specs.Private.{IsJoined, TakesAll, HasLeast, IsWholeIfAny}
 
 nothing_taken : (told : Option (List ℕ)) → Takes told told []
 nothing_taken None = tt

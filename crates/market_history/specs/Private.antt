@@ -1,12 +1,10 @@
 -- Definitions that only private functions use: the bytes of a checkpoint that were read so far, which here are the prefix.
-use Rattle.std.specs.Prelude.{◌≡◌, ◌+◌, ◌≤◌, ◌<◌, ℕ, List, [], ◌++◌, length, take, drop, Option, None}
+use Rattle.std.specs.Prelude.{◌≡◌, ◌+◌, ◌≤◌, ◌<◌, ℕ, List, ◌++◌, length, take, drop, Option}
 use Rattle.flow_io.specs.Streams.{Takes}
 use Rattle.flow_io.specs.Windows.{WindowState}
 use Rattle.file_units.specs.Inputs.{known}
 use Rattle.market_rules.specs.Market.{Market}
-use Rattle.market_snapshot.specs.Checkpoints.{IsCheckpoint, BeginsWithNoCheckpoint}
-use Rattle.market_history.specs.declared.start.StartFault.{StartFault}
-use Rattle.market_history.specs.declared.start.StartFault.TheVariants.{Read, Memory, NotFlow, NoCheckpoint}
+use Rattle.market_snapshot.specs.Checkpoints.{IsCheckpoint}
 
 -- The first bytes that a window held were moved to the end of the prefix: `most` of them at most, and some if there were any.
 pub record IsJoined (old new : WindowState) (front now : List ℕ) (most : ℕ) : Type 0 where
@@ -16,17 +14,6 @@ pub record IsJoined (old new : WindowState) (front now : List ℕ) (most : ℕ) 
   pub some : 0 < most → 0 < length old.held → 0 < count
   pub window : new ≡ record old { held = drop count old.held; place = old.place + count }
   pub moved : now ≡ front ++ take count old.held
-
--- Bytes were taken from a source: the prefix grew, and the window holds what follows it. The end of the input wasn't seen.
-pub record TakesOn (old new : WindowState) (front now : List ℕ) (before after : Option (List ℕ)) : Type 0 where
-  pub more : List ℕ
-  pub takes : Takes before after more
-  pub grew : now ++ new.held ≡ (front ++ old.held) ++ more
-  pub place : new.place ≡ length now
-  pub limit : new.limit ≡ old.limit
-  pub room : new.room ≡ old.room
-  pub within : new.place + length new.held ≤ new.limit
-  pub unended : new.over ≡ None
 
 -- The prefix grew to all bytes that are considered.
 pub record TakesAll (old : WindowState) (front now : List ℕ) (before after : Option (List ℕ)) : Type 0 where
@@ -45,17 +32,3 @@ HasLeast bytes n = (m : Market) (checkpoint more rest : List ℕ) → IsCheckpoi
 -- each checkpoint that begins with these bytes has no more
 abbrev pub IsWholeIfAny : List ℕ → Type 0
 IsWholeIfAny bytes = (m : Market) (checkpoint more rest : List ℕ) → IsCheckpoint m checkpoint → bytes ++ more ≡ checkpoint ++ rest → length checkpoint ≡ length bytes
-
--- why no market was found where the magic of a checkpoint is, by the bytes that were taken after those that a window held
-abbrev pub FindsNone : (old : WindowState) (before after : Option (List ℕ)) → StartFault → Type 0
-FindsNone old before after Read = (more : List ℕ) × Takes before after more × (length (old.held ++ more) ≤ old.limit) × BeginsWithNoCheckpoint (old.held ++ more)
-FindsNone old before after Memory = (more : List ℕ) × Takes before after more × (length (old.held ++ more) ≤ old.limit)
-FindsNone old before after NoCheckpoint =
-    (more : List ℕ) × Takes before after more × (length (old.held ++ more) ≤ old.limit + 1) × BeginsWithNoCheckpoint (take old.limit (known (old.held ++ more) after))
-FindsNone old before after NotFlow = ⊥
-
--- a market was found: its checkpoint was taken, and the window holds what follows it
-pub record FindsKept (old new : WindowState) (before after : Option (List ℕ)) (market : Market) : Type 0 where
-  pub checkpoint : List ℕ
-  pub is_one : IsCheckpoint market checkpoint
-  pub taken : TakesOn old new [] checkpoint before after

@@ -7,4 +7,4 @@
 
 mod start;
 
-pub use start::{StartFault, read_start};
+pub use start::{StartFault, kept_market, read_start};

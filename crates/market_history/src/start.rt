@@ -5,7 +5,8 @@ ghost use Rattle.flow_io.specs.Streams.{Takes};
 ghost use Rattle.flow_io.specs.Windows.{empty_window};
 ghost use Rattle.market_snapshot.specs.Checkpoints.{HasCheckpointMagic, BeginsWithNoCheckpoint};
 ghost use Rattle.market_history.specs.Reading.{FindsStart};
-ghost use Rattle.market_history.specs.Private.{IsJoined, TakesOn, TakesAll, IsWholeIfAny, FindsNone, FindsKept};
+ghost use Rattle.market_history.specs.Kept.{TakesOn, FindsNone, FindsKept};
+ghost use Rattle.market_history.specs.Private.{IsJoined, TakesAll, IsWholeIfAny};
 
 use flow_io::{Filled, ReadAllFault, Source, Window};
 use journal_records::journal_version;
@@ -160,8 +161,15 @@ fn read_checkpoint<S: Source>(
     }
 }
 
-// Returns the market of the checkpoint whose magic the window holds.
-fn kept_market<S: Source>(
+/// Reads the checkpoint of a market from a source, through a window that holds the first bytes of its input, and returns the market. The
+/// window then holds what was read after the checkpoint.
+///
+/// `NoCheckpoint`: the input begins with no checkpoint of a consistent market within the window's limit. `Read`: only if the source's
+/// count of faults rose. Never returns `NotFlow`.
+///
+/// The checkpoint is read to its length, which its counts say, into memory of its own, which is freed before returning. Costs its bytes,
+/// once, and what [`read_market`] costs.
+pub fn kept_market<S: Source>(
     alloc: Global,
     window: &mut Window,
     source: &mut S,

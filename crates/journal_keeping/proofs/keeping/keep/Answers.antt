@@ -3,37 +3,37 @@ use Rattle.wire_records.specs.Formats.{commands}
 use Rattle.file_units.specs.Inputs.{HasLongest}
 use Rattle.exchange_session.proofs.RunLaws.{run_is_exact}
 use Rattle.journal_keeping.proofs.Counts.{if_some}
-use Rattle.journal_keeping.proofs.Making.{each_some, magic_taken}
-use Rattle.journal_keeping.proofs.Begun.{begun_known, legal_in, none_begun, can_serve}
+use Rattle.journal_keeping.proofs.Making.{each_some, start_taken, source_begins}
+use Rattle.journal_keeping.proofs.Begun.{begun_known, none_begun, can_serve}
 use Rattle.journal_keeping.proofs.Pacing.{paced_unread, unread_out, taken_at_most, paced_served, wants_next}
 use Rattle.journal_keeping.proofs.Whole.{keeps_none, may_begin_again, comes_not_begun, comes_served, keeps_served, not_of_serving, refused_not_legal, asked_refused}
-use Rattle.journal_keeping.proofs.Lengths.{grows_none, grows_served}
+use Rattle.journal_keeping.proofs.Lengths.{grows_served}
 use Rattle.journal_keeping.proofs.keeping.keep.Goals as goal
 
 -- ---- nothing was served
 
 pub returns-in-Err-clause-keeps : goal.returns-in-Err-clause-keeps
-returns-in-Err-clause-keeps g c = λ version old market legal.
-    keeps_none c.args.limit (g.S.Source.rest c.args.source.now) _ version (g.D.Disk.state c.args.disk.now) (g.D.Disk.state c.begin.new.disk) old market (g.K.Sink.held c.args.out.now) legal.journal (g.met.D.Disk.is_disk c.begin.new.disk) (c.begin.ensures.moments version old market legal)
+returns-in-Err-clause-keeps g c = λ begin old market legal.
+    keeps_none c.args.limit (g.S.Source.rest c.args.source.now) _ begin (g.D.Disk.state c.args.disk.now) (g.D.Disk.state c.begin.new.disk) old market (g.K.Sink.held c.args.out.now) (g.met.D.Disk.is_disk c.begin.new.disk) (c.in-Err.ensures.safe refl begin old market legal)
 
 pub returns-in-Err-clause-again : goal.returns-in-Err-clause-again
-returns-in-Err-clause-again g c = λ version old market legal.
+returns-in-Err-clause-again g c = λ begin old market legal.
     let start = g.D.Disk.state c.args.disk.now in
     let end = g.D.Disk.state c.begin.new.disk in
     let content = g.S.Source.rest c.args.source.now in
     let held = g.K.Sink.held c.args.out.now in
     let is_disk = g.met.D.Disk.is_disk c.begin.new.disk in
-    may_begin_again c.args.limit content (Unit {0}) version start end old market held held legal is_disk (keeps_none c.args.limit content (Unit {0}) version start end old market held legal.journal is_disk (c.begin.ensures.moments version old market legal))
+    may_begin_again c.args.limit content (Unit {0}) begin start end old market held held legal is_disk (keeps_none c.args.limit content (Unit {0}) begin start end old market held is_disk (c.in-Err.ensures.safe refl begin old market legal))
 
 pub returns-in-Err-clause-comes : goal.returns-in-Err-clause-comes
 returns-in-Err-clause-comes g c =
     if_some (g.D.Disk.state c.args.disk.now).content _ _
-    (λ (held : List ℕ) why. comes_not_begun c.args.limit held (g.S.Source.rest c.args.source.now) (g.D.Disk.state c.begin.new.disk) (g.K.Sink.held c.args.out.now) c.in-Err.fault why)
+    (λ (held : List ℕ) why. comes_not_begun c.args.limit held (g.S.Source.rest c.args.source.now) (g.S.Source.rest c.begin.new.source) (g.D.Disk.state c.begin.new.disk) (g.K.Sink.held c.args.out.now) c.in-Err.fault why)
     c.in-Err.ensures.refused
 
 pub returns-in-Err-clause-legal : goal.returns-in-Err-clause-legal
-returns-in-Err-clause-legal g c = λ version old market legal small.
-    refused_not_legal version c.args.limit (g.S.Source.rest c.args.source.now) (g.D.Disk.state c.args.disk.now) (g.D.Disk.state c.begin.new.disk) old market c.in-Err.fault legal small c.in-Err.ensures.refused
+returns-in-Err-clause-legal g c = λ begin old market legal small.
+    refused_not_legal begin c.args.limit (g.S.Source.rest c.args.source.now) (g.S.Source.rest c.begin.new.source) (g.D.Disk.state c.args.disk.now) (g.D.Disk.state c.begin.new.disk) old market c.in-Err.fault legal small c.in-Err.ensures.refused
 
 pub returns-in-Err-clause-untouched : goal.returns-in-Err-clause-untouched
 returns-in-Err-clause-untouched g c =
@@ -45,7 +45,7 @@ returns-in-Err-clause-paced g c = paced_unread c.args.limit (g.S.Source.rest c.a
 pub returns-in-Err-clause-allocates : goal.returns-in-Err-clause-allocates
 returns-in-Err-clause-allocates g c = λ lacks.
     if_some (g.D.Disk.state c.args.disk.now).content _ _
-    (λ (held : List ℕ) why. unread_out c.args.limit held (g.S.Source.rest c.args.source.now) (g.S.Source.rest c.begin.new.source) (g.D.Disk.state c.begin.new.disk) (g.K.Sink.held c.args.out.now) c.in-Err.fault c.in-Err.ensures.unread (cc lacks))
+    (λ (held : List ℕ) why. unread_out c.args.limit held (g.S.Source.rest c.args.source.now) (g.S.Source.rest c.begin.new.source) (g.D.Disk.state c.begin.new.disk) (g.K.Sink.held c.args.out.now) c.in-Err.fault why (cc lacks))
     c.in-Err.ensures.refused
 
 pub returns-in-Err-clause-unasked : goal.returns-in-Err-clause-unasked
@@ -54,14 +54,14 @@ returns-in-Err-clause-unasked g c = λ refusal. (asked_refused _ c.in-Err.fault 
 -- ---- records were served
 
 pub serve_on-requires-clause-longest : goal.serve_on-requires-clause-longest
-serve_on-requires-clause-longest g c = subst (HasLongest commands) (sym c.in-Ok.ensures.behind.room) run_is_exact.longest
+serve_on-requires-clause-longest g c = subst (HasLongest commands) (sym c.in-Ok.ensures.begun.behind.room) run_is_exact.longest
 
 pub serve_on-requires-clause-kept : goal.serve_on-requires-clause-kept
 serve_on-requires-clause-kept g c =
-    can_serve (g.D.Disk.state c.args.disk.now).content (g.D.Disk.state c.begin.new.disk).content c.in-Ok.begun.version c.in-Ok.begun.keeper.session c.in-Ok.begun.keeper.appender (g.D.Disk.state c.begin.new.disk) c.in-Ok.ensures.told c.in-Ok.ensures.begun
+    can_serve (g.D.Disk.state c.args.disk.now).content (g.D.Disk.state c.begin.new.disk).content c.in-Ok.ensures.begun.begin c.in-Ok.ensures.begun.input c.in-Ok.begun.keeper.session c.in-Ok.begun.keeper.appender (g.D.Disk.state c.begin.new.disk) c.in-Ok.ensures.begun.behind.magic.0 c.in-Ok.ensures.told c.in-Ok.ensures.begun.begun
 
 pub returns-in-Ok-clause-keeps : goal.returns-in-Ok-clause-keeps
-returns-in-Ok-clause-keeps g c = λ version old market legal.
+returns-in-Ok-clause-keeps g c = λ begin old market legal.
     let start = g.D.Disk.state c.args.disk.now in
     let mid = g.D.Disk.state c.begin.new.disk in
     let end = g.D.Disk.state c.serve_on.new.disk in
@@ -70,12 +70,13 @@ returns-in-Ok-clause-keeps g c = λ version old market legal.
     let left = g.S.Source.rest c.serve_on.new.source in
     let held = g.K.Sink.held c.args.out.now in
     let holds_out = g.K.Sink.held c.serve_on.new.out in
-    let known = begun_known start version old market legal mid c.in-Ok.begun.version c.in-Ok.begun.keeper.session c.in-Ok.begun.keeper.appender c.in-Ok.ensures.begun in
-    keeps_served c.args.limit content after left c.in-Ok.begun.window c.in-Ok.begun.version c.in-Ok.ensures.behind c.serve_on.result version start mid end old market c.in-Ok.begun.keeper.session c.in-Ok.begun.keeper.appender held holds_out
-    (c.in-Ok.ensures.moments version old market legal) known (c.in-Ok.ensures.moments c.in-Ok.begun.version old c.in-Ok.begun.keeper.session (legal_in start version old market legal c.in-Ok.begun.version c.in-Ok.begun.keeper.session known.0)) c.serve_on.ensures.goes
+    let known = begun_known start begin old market legal c.args.limit content mid c.in-Ok.ensures.begun.begin c.in-Ok.ensures.begun.input c.in-Ok.begun.keeper.session c.in-Ok.begun.keeper.appender c.in-Ok.ensures.begun.behind.magic.0
+    (source_begins c.args.limit c.in-Ok.begun.window c.in-Ok.ensures.begun.input content after c.in-Ok.ensures.begun.behind) c.in-Ok.ensures.begun.begun in
+    keeps_served c.args.limit content after left c.in-Ok.begun.window c.in-Ok.ensures.begun.begin c.in-Ok.ensures.begun.input c.in-Ok.ensures.begun.behind c.serve_on.result begin start mid end old market c.in-Ok.begun.keeper.session c.in-Ok.begun.keeper.appender held holds_out
+    known (c.in-Ok.ensures.begun.moments begin old market legal) c.serve_on.ensures.goes
 
 pub returns-in-Ok-clause-again : goal.returns-in-Ok-clause-again
-returns-in-Ok-clause-again g c = λ version old market legal.
+returns-in-Ok-clause-again g c = λ begin old market legal.
     let start = g.D.Disk.state c.args.disk.now in
     let mid = g.D.Disk.state c.begin.new.disk in
     let end = g.D.Disk.state c.serve_on.new.disk in
@@ -84,10 +85,11 @@ returns-in-Ok-clause-again g c = λ version old market legal.
     let left = g.S.Source.rest c.serve_on.new.source in
     let held = g.K.Sink.held c.args.out.now in
     let holds_out = g.K.Sink.held c.serve_on.new.out in
-    let known = begun_known start version old market legal mid c.in-Ok.begun.version c.in-Ok.begun.keeper.session c.in-Ok.begun.keeper.appender c.in-Ok.ensures.begun in
-    may_begin_again c.args.limit content _ version start end old market held holds_out legal (g.met.D.Disk.is_disk c.serve_on.new.disk)
-    (keeps_served c.args.limit content after left c.in-Ok.begun.window c.in-Ok.begun.version c.in-Ok.ensures.behind c.serve_on.result version start mid end old market c.in-Ok.begun.keeper.session c.in-Ok.begun.keeper.appender held holds_out
-    (c.in-Ok.ensures.moments version old market legal) known (c.in-Ok.ensures.moments c.in-Ok.begun.version old c.in-Ok.begun.keeper.session (legal_in start version old market legal c.in-Ok.begun.version c.in-Ok.begun.keeper.session known.0)) c.serve_on.ensures.goes)
+    let known = begun_known start begin old market legal c.args.limit content mid c.in-Ok.ensures.begun.begin c.in-Ok.ensures.begun.input c.in-Ok.begun.keeper.session c.in-Ok.begun.keeper.appender c.in-Ok.ensures.begun.behind.magic.0
+    (source_begins c.args.limit c.in-Ok.begun.window c.in-Ok.ensures.begun.input content after c.in-Ok.ensures.begun.behind) c.in-Ok.ensures.begun.begun in
+    may_begin_again c.args.limit content _ begin start end old market held holds_out legal (g.met.D.Disk.is_disk c.serve_on.new.disk)
+    (keeps_served c.args.limit content after left c.in-Ok.begun.window c.in-Ok.ensures.begun.begin c.in-Ok.ensures.begun.input c.in-Ok.ensures.begun.behind c.serve_on.result begin start mid end old market c.in-Ok.begun.keeper.session c.in-Ok.begun.keeper.appender held holds_out
+    known (c.in-Ok.ensures.begun.moments begin old market legal) c.serve_on.ensures.goes)
 
 pub returns-in-Ok-clause-comes : goal.returns-in-Ok-clause-comes
 returns-in-Ok-clause-comes g c =
@@ -100,19 +102,19 @@ returns-in-Ok-clause-comes g c =
     let before = g.K.Sink.held c.args.out.now in
     let holds_out = g.K.Sink.held c.serve_on.new.out in
     if_some start.content _ _
-    (λ (held : List ℕ) begun. comes_served c.args.limit held content mid c.in-Ok.begun.version c.in-Ok.begun.keeper.session c.in-Ok.begun.keeper.appender begun after left
-    c.in-Ok.begun.window c.in-Ok.ensures.behind end before holds_out c.serve_on.result c.serve_on.ensures.goes)
-    c.in-Ok.ensures.begun
+    (λ (held : List ℕ) begun. comes_served c.args.limit held content mid c.in-Ok.ensures.begun.begin c.in-Ok.ensures.begun.input c.in-Ok.begun.keeper.session c.in-Ok.begun.keeper.appender begun after left
+    c.in-Ok.begun.window c.in-Ok.ensures.begun.behind end before holds_out c.serve_on.result c.serve_on.ensures.goes)
+    c.in-Ok.ensures.begun.begun
 
 pub returns-in-Ok-clause-legal : goal.returns-in-Ok-clause-legal
-returns-in-Ok-clause-legal g c = λ version old market legal small refusal. absurd (not_of_serving c.serve_on.result _ c.serve_on.ensures.goes.ended refusal)
+returns-in-Ok-clause-legal g c = λ begin old market legal small refusal. absurd (not_of_serving c.serve_on.result _ c.serve_on.ensures.goes.ended refusal)
 
 pub returns-in-Ok-clause-unasked : goal.returns-in-Ok-clause-unasked
 returns-in-Ok-clause-unasked g c = λ refusal. absurd (not_of_serving c.serve_on.result _ c.serve_on.ensures.goes.ended refusal)
 
 pub returns-in-Ok-clause-untouched : goal.returns-in-Ok-clause-untouched
 returns-in-Ok-clause-untouched g c =
-    none_begun (g.D.Disk.state c.args.disk.now).content c.in-Ok.begun.version c.in-Ok.begun.keeper.session c.in-Ok.begun.keeper.appender (g.D.Disk.state c.begin.new.disk) _ c.in-Ok.ensures.begun
+    none_begun (g.D.Disk.state c.args.disk.now).content c.in-Ok.ensures.begun.begin c.in-Ok.ensures.begun.input c.in-Ok.begun.keeper.session c.in-Ok.begun.keeper.appender (g.D.Disk.state c.begin.new.disk) _ c.in-Ok.ensures.begun.begun
 
 pub returns-in-Ok-clause-taken : goal.returns-in-Ok-clause-taken
 returns-in-Ok-clause-taken g c =
@@ -124,7 +126,7 @@ returns-in-Ok-clause-taken g c =
     let left = g.S.Source.rest c.serve_on.new.source in
     let held = g.K.Sink.held c.args.out.now in
     let holds_out = g.K.Sink.held c.serve_on.new.out in
-    taken_at_most c.args.limit content after left c.in-Ok.begun.window c.in-Ok.begun.version c.in-Ok.ensures.behind c.in-Ok.begun.keeper.session c.in-Ok.begun.keeper.appender mid end held holds_out c.serve_on.result c.serve_on.ensures.goes
+    taken_at_most c.args.limit content after left c.in-Ok.begun.window c.in-Ok.ensures.begun.input c.in-Ok.ensures.begun.behind c.in-Ok.begun.keeper.session c.in-Ok.begun.keeper.appender mid end held holds_out c.serve_on.result c.serve_on.ensures.goes
 
 pub returns-in-Ok-clause-paced : goal.returns-in-Ok-clause-paced
 returns-in-Ok-clause-paced g c =
@@ -136,7 +138,7 @@ returns-in-Ok-clause-paced g c =
     let left = g.S.Source.rest c.serve_on.new.source in
     let held = g.K.Sink.held c.args.out.now in
     let holds_out = g.K.Sink.held c.serve_on.new.out in
-    paced_served c.args.limit content after left c.in-Ok.begun.window c.in-Ok.begun.version c.in-Ok.ensures.behind c.in-Ok.begun.keeper.session c.in-Ok.begun.keeper.appender mid end held holds_out c.serve_on.result c.serve_on.ensures.goes
+    paced_served c.args.limit content after left c.in-Ok.begun.window c.in-Ok.ensures.begun.input c.in-Ok.ensures.begun.behind c.in-Ok.begun.keeper.session c.in-Ok.begun.keeper.appender mid end held holds_out c.serve_on.result c.serve_on.ensures.goes
 
 pub returns-in-Ok-clause-allocates : goal.returns-in-Ok-clause-allocates
 returns-in-Ok-clause-allocates g c = λ lacks.
@@ -149,18 +151,17 @@ returns-in-Ok-clause-allocates g c = λ lacks.
     let before = g.K.Sink.held c.args.out.now in
     let holds_out = g.K.Sink.held c.serve_on.new.out in
     if_some start.content _ _
-    (λ (held : List ℕ) begun. wants_next c.args.limit content after left c.in-Ok.begun.window c.in-Ok.begun.version c.in-Ok.ensures.behind c.in-Ok.begun.keeper.session c.in-Ok.begun.keeper.appender mid end before holds_out held begun c.serve_on.result c.serve_on.ensures.goes lacks)
-    c.in-Ok.ensures.begun
+    (λ (held : List ℕ) begun. wants_next c.args.limit content after left c.in-Ok.begun.window c.in-Ok.ensures.begun.input c.in-Ok.ensures.begun.behind c.in-Ok.begun.keeper.session c.in-Ok.begun.keeper.appender mid end before holds_out held c.in-Ok.ensures.begun.begin begun c.serve_on.result c.serve_on.ensures.goes lacks)
+    c.in-Ok.ensures.begun.begun
 
 pub returns-in-Ok-clause-made : goal.returns-in-Ok-clause-made
 returns-in-Ok-clause-made g c =
     each_some (g.D.Disk.state c.args.disk.now).content _
-    (λ (held : List ℕ) short. inr (magic_taken c.args.limit c.in-Ok.begun.window c.in-Ok.begun.version (g.S.Source.rest c.args.source.now) (g.S.Source.rest c.begin.new.source) (g.S.Source.rest c.serve_on.new.source) c.serve_on.ensures.goes.goes.taken c.in-Ok.ensures.behind c.serve_on.ensures.goes.goes.takes))
+    (λ (held : List ℕ) short. inr (start_taken c.args.limit c.in-Ok.begun.window c.in-Ok.ensures.begun.input (g.S.Source.rest c.args.source.now) (g.S.Source.rest c.begin.new.source) (g.S.Source.rest c.serve_on.new.source) c.serve_on.ensures.goes.goes.taken c.in-Ok.ensures.begun.behind c.serve_on.ensures.goes.goes.takes))
 
 pub returns-in-Err-clause-lengths : goal.returns-in-Err-clause-lengths
 returns-in-Err-clause-lengths g c =
-    each_some (g.D.Disk.state c.args.disk.now).content _
-    (λ (held : List ℕ). grows_none c.args.limit (g.S.Source.rest c.args.source.now) (g.D.Disk.state c.args.disk.now) (g.D.Disk.state c.begin.new.disk) c.begin.ensures.lengths)
+    each_some (g.D.Disk.state c.args.disk.now).content _ (λ (held : List ℕ). c.in-Err.ensures.lengths refl)
 
 pub returns-in-Ok-clause-lengths : goal.returns-in-Ok-clause-lengths
 returns-in-Ok-clause-lengths g c =
@@ -170,6 +171,6 @@ returns-in-Ok-clause-lengths g c =
     let content = g.S.Source.rest c.args.source.now in
     let after = g.S.Source.rest c.begin.new.source in
     if_some start.content _ _
-    (λ (held : List ℕ) begun. grows_served c.args.limit c.in-Ok.begun.version c.in-Ok.begun.window content after c.in-Ok.ensures.behind start mid end (g.met.D.Disk.is_disk c.begin.new.disk) c.begin.ensures.lengths
+    (λ (held : List ℕ) begun. grows_served c.args.limit c.in-Ok.ensures.begun.begin c.in-Ok.ensures.begun.input c.in-Ok.begun.window content after c.in-Ok.ensures.begun.behind start mid end (g.met.D.Disk.is_disk c.begin.new.disk) c.in-Ok.ensures.begun.lengths
     held c.in-Ok.begun.keeper.session c.in-Ok.begun.keeper.appender begun c.serve_on.ensures.lengths)
-    c.in-Ok.ensures.begun
+    c.in-Ok.ensures.begun.begun

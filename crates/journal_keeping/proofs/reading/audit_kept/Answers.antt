@@ -5,62 +5,61 @@ use Rattle.journal_disk.specs.Pairs.{RecordPair}
 use Rattle.journal_disk.specs.Entries.{Holds}
 use Rattle.journal_disk.specs.Ahead.{IsPiece}
 use Rattle.journal_disk.specs.Stepping.{HasEntryAt, StatesAt, Finds}
-use Rattle.journal_disk.proofs.GoingOn.{looks_more, looks_hold, entry_holds}
+use Rattle.journal_disk.proofs.GoingOn.{looks_none, looks_more, looks_hold, entry_holds}
+use Rattle.journal_keeping.specs.Starts.{head_of}
 use Rattle.journal_keeping.proofs.Auditing.{by_both, none_read, one_read, stops_judged}
 use Rattle.journal_keeping.proofs.reading.audit_kept.Goals as goal
 
 pub pairs-init : goal.pairs-init
 pairs-init g c =
     let start = g.D.Disk.state c.args.disk.now in
-    let mid = g.D.Disk.state c.new.new.disk in
-    let e = c.in-Ok.ensures in
     record {
-      looks = e.looks;
-      reads = λ version rest new holds. ([], rest, none_read version c.args.audit.now new, refl, looks_hold version [] c.args.journal.now rest start mid holds e.looks);
-      piece = e.piece;
+      looks = looks_none start (g.met.D.Disk.is_disk c.args.disk.now);
+      reads = λ begin rest starts new holds. ([], rest, none_read begin c.args.audit.now starts new, refl, holds);
+      piece = c.requires.piece;
       next = c.requires.next;
       small = omega arith;
-      quiet = e.cause.quiet (λ is. cc is);
+      quiet = refl;
     }
 
 pub pairs-preserved : goal.pairs-preserved
 pairs-preserved g c =
     let i = c.pairs.invariant in
     let e = c.in-Ok-Some.ensures in
-    let t = c.in-Ok-take.ensures in
-    let judged = c.in_ok-judge-in-Ok-take.ensures in
+    let t = c.in-Ok.ensures in
+    let judged = c.in_ok-judge-in-Ok.ensures in
     let mid = g.D.Disk.state c.pairs.disk in
     let next = g.D.Disk.state c.find.new.disk in
-    let pair = c.in-Ok-take.pair in
+    let pair = c.in-Ok.pair in
     let states = subst (λ (o : Option ℕ). IfSome mid.content (Finds (Ok o) c.pairs.journal)) c.in-Ok-Some.field-0-is e.found in
     let stands = by_both mid.content next.content (StatesAt c.pairs.journal c.in-Ok-Some.count) (IsPiece c.find.new.ahead) (λ l. (rest : List ℕ) × HasEntryAt c.pairs.journal pair rest l) e.looks.content states e.piece t.taken in
     let more : c.saturating_add-number.result ≡ c.pairs.number + 1 = omega (arith, c.saturating_add-number.ensures, i.small, t.near, t.moves) in
     record {
       looks = looks_more (g.D.Disk.state c.args.disk.now) mid next i.looks e.looks;
-      reads = λ version rest new holds.
-          let was = i.reads version rest new holds in
-          let now = entry_holds version (map records_of was.0) c.pairs.journal was.1 mid was.4 pair c.take.new.self stands (omega (arith, t.moves, t.spelled.2)) in
-          let one = one_read version was.0 c.pairs.audit c.judge.new.audit pair was.2 t.spelled.0 judged.legal in
-          (one.0, now.0, one.1, omega (arith, more, was.3, one.2), looks_hold version (map records_of one.0) c.take.new.self now.0 mid next (subst (λ (l : List RecordPair). Holds version l c.take.new.self now.0 mid) one.3 now.1) e.looks);
+      reads = λ begin rest starts new holds.
+          let was = i.reads begin rest starts new holds in
+          let now = entry_holds (head_of begin) (map records_of was.0) c.pairs.journal was.1 mid was.4 pair c.take.new.self stands (omega (arith, t.moves, t.spelled.2)) in
+          let one = one_read begin was.0 c.pairs.audit c.judge.new.audit pair was.2 t.spelled.0 judged.legal in
+          (one.0, now.0, one.1, omega (arith, more, was.3, one.2), looks_hold (head_of begin) (map records_of one.0) c.take.new.self now.0 mid next (subst (λ (l : List RecordPair). Holds (head_of begin) l c.take.new.self now.0 mid) one.3 now.1) e.looks);
       piece = e.piece;
       next = omega (arith, judged.next, i.next, t.moves);
       small = omega (arith, more, i.small, t.moves);
       quiet = e.cause.quiet (λ is. cc is) ∙ i.quiet;
     }
 
-pub returns-in_err-judge-in-Ok-take-clause-stops : goal.returns-in_err-judge-in-Ok-take-clause-stops
-returns-in_err-judge-in-Ok-take-clause-stops g c =
+pub returns-in_err-judge-in-Ok-clause-stops : goal.returns-in_err-judge-in-Ok-clause-stops
+returns-in_err-judge-in-Ok-clause-stops g c =
     let i = c.pairs.invariant in
     let e = c.in-Ok-Some.ensures in
-    let t = c.in-Ok-take.ensures in
-    let judged = c.in_err-judge-in-Ok-take.ensures in
+    let t = c.in-Ok.ensures in
+    let judged = c.in_err-judge-in-Ok.ensures in
     let mid = g.D.Disk.state c.pairs.disk in
     let next = g.D.Disk.state c.find.new.disk in
-    let pair = c.in-Ok-take.pair in
+    let pair = c.in-Ok.pair in
     let states = subst (λ (o : Option ℕ). IfSome mid.content (Finds (Ok o) c.pairs.journal)) c.in-Ok-Some.field-0-is e.found in
     let stands = by_both mid.content next.content (StatesAt c.pairs.journal c.in-Ok-Some.count) (IsPiece c.find.new.ahead) (λ l. (rest : List ℕ) × HasEntryAt c.pairs.journal pair rest l) e.looks.content states e.piece t.taken in
     let more : c.saturating_add-number.result ≡ c.pairs.number + 1 = omega (arith, c.saturating_add-number.ensures, i.small, t.near, t.moves) in
     let p = err_from_is_err_and c.from_residual.result c.from_residual.ensures.1 in
-    rw (p.1, p.2) (λ version rest bytes new holds told.
-    let was = i.reads version rest new holds in
-    stops_judged version was.0 c.pairs.audit c.pairs.journal was.1 bytes mid was.2 was.4 (i.looks.content ∙ told) c.in_err-judge-in-Ok-take.field-0.0 c.saturating_add-number.result pair (omega (arith, more, was.3)) stands judged.refused (λ is. judged.illegal (ap Err is)))
+    rw (p.1, p.2) (λ begin rest bytes starts new holds told.
+    let was = i.reads begin rest starts new holds in
+    stops_judged begin was.0 c.pairs.audit c.pairs.journal was.1 bytes mid was.2 was.4 (i.looks.content ∙ told) c.in_err-judge-in-Ok.field-0.0 c.saturating_add-number.result pair (omega (arith, more, was.3)) stands judged.refused (λ is. judged.illegal (ap Err is)))

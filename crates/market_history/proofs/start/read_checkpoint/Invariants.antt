@@ -1,5 +1,6 @@
 use Rattle.std.proofs.Common.{◌≡◌, ◌-◌, [], length}
-use Rattle.market_history.specs.Private.{TakesOn, HasLeast}
+use Rattle.market_history.specs.Kept.{TakesOn}
+use Rattle.market_history.specs.Private.{HasLeast}
 use Rattle.market_history.proofs.start.read_checkpoint.Given as goal
 
 abbrev pub invariant-sizes : goal.invariant-sizes

@@ -1,5 +1,5 @@
 use Rattle.std.proofs.Common.{◌≡◌, ◌≤◌, ◌-◌, length}
-use Rattle.market_history.specs.Private.{TakesOn}
+use Rattle.market_history.specs.Kept.{TakesOn}
 use Rattle.market_history.proofs.start.read_to.Given as goal
 
 abbrev pub invariant-loop-window : goal.invariant-loop-window

@@ -19,24 +19,24 @@ write_synced-requires g c =
     (subst (λ (n : ℕ). IfSome (g.D.Disk.state c.args.disk.now).content (λ held. length held ≡ n + 1)) (sym c.self.view_is) within)
 
 pub returns-in_err-write_synced-clause-moments : goal.returns-in_err-write_synced-clause-moments
-returns-in_err-write_synced-clause-moments g c = λ version pairs last keeps is spelled.
+returns-in_err-write_synced-clause-moments g c = λ head pairs last keeps is spelled.
     let filled = c.deref.ensures.value ∙ c.fill.ensures.filled in
-    cut_short version pairs last c.self.inside.place c.args.pair.now c.deref.result.now (g.D.Disk.state c.args.disk.now) (g.D.Disk.state c.write_synced.new.disk) (subst (λ (n : ℕ). Keeps version pairs n (g.D.Disk.state c.args.disk.now)) (sym c.self.view_is) keeps) is spelled filled (length c.deref.result.now) c.write_synced.ensures.moments
+    cut_short head pairs last c.self.inside.place c.args.pair.now c.deref.result.now (g.D.Disk.state c.args.disk.now) (g.D.Disk.state c.write_synced.new.disk) (subst (λ (n : ℕ). Keeps head pairs n (g.D.Disk.state c.args.disk.now)) (sym c.self.view_is) keeps) is spelled filled (length c.deref.result.now) c.write_synced.ensures.moments
 
 pub returns-in_err-open_gate-clause-moments : goal.returns-in_err-open_gate-clause-moments
-returns-in_err-open_gate-clause-moments g c = λ version pairs last keeps is spelled.
+returns-in_err-open_gate-clause-moments g c = λ head pairs last keeps is spelled.
     let filled = c.deref.ensures.value ∙ c.fill.ensures.filled in
-    both_steps version pairs last c.self.inside.place c.args.pair.now c.deref.result.now (g.D.Disk.state c.args.disk.now) (g.D.Disk.state c.write_synced.new.disk) (subst (λ (n : ℕ). Keeps version pairs n (g.D.Disk.state c.args.disk.now)) (sym c.self.view_is) keeps) is spelled filled (g.D.Disk.state c.open_gate.new.disk) c.in_ok-write_synced.ensures.written c.in_ok-write_synced.ensures.kept c.write_synced.ensures.moments c.open_gate.ensures.moments
+    both_steps head pairs last c.self.inside.place c.args.pair.now c.deref.result.now (g.D.Disk.state c.args.disk.now) (g.D.Disk.state c.write_synced.new.disk) (subst (λ (n : ℕ). Keeps head pairs n (g.D.Disk.state c.args.disk.now)) (sym c.self.view_is) keeps) is spelled filled (g.D.Disk.state c.open_gate.new.disk) c.in_ok-write_synced.ensures.written c.in_ok-write_synced.ensures.kept c.write_synced.ensures.moments c.open_gate.ensures.moments
 
 pub returns-clause-moments : goal.returns-clause-moments
-returns-clause-moments g c = λ version pairs last keeps is spelled.
+returns-clause-moments g c = λ head pairs last keeps is spelled.
     let filled = c.deref.ensures.value ∙ c.fill.ensures.filled in
-    both_steps version pairs last c.self.inside.place c.args.pair.now c.deref.result.now (g.D.Disk.state c.args.disk.now) (g.D.Disk.state c.write_synced.new.disk) (subst (λ (n : ℕ). Keeps version pairs n (g.D.Disk.state c.args.disk.now)) (sym c.self.view_is) keeps) is spelled filled (g.D.Disk.state c.open_gate.new.disk) c.in_ok-write_synced.ensures.written c.in_ok-write_synced.ensures.kept c.write_synced.ensures.moments c.open_gate.ensures.moments
+    both_steps head pairs last c.self.inside.place c.args.pair.now c.deref.result.now (g.D.Disk.state c.args.disk.now) (g.D.Disk.state c.write_synced.new.disk) (subst (λ (n : ℕ). Keeps head pairs n (g.D.Disk.state c.args.disk.now)) (sym c.self.view_is) keeps) is spelled filled (g.D.Disk.state c.open_gate.new.disk) c.in_ok-write_synced.ensures.written c.in_ok-write_synced.ensures.kept c.write_synced.ensures.moments c.open_gate.ensures.moments
 
 pub returns-clause-kept : goal.returns-clause-kept
-returns-clause-kept g c = λ version pairs last keeps is spelled.
+returns-clause-kept g c = λ head pairs last keeps is spelled.
     let filled = c.deref.ensures.value ∙ c.fill.ensures.filled in
-    added version pairs last c.self.inside.place c.args.pair.now c.deref.result.now (g.D.Disk.state c.args.disk.now) (g.D.Disk.state c.write_synced.new.disk) (subst (λ (n : ℕ). Keeps version pairs n (g.D.Disk.state c.args.disk.now)) (sym c.self.view_is) keeps) is spelled filled (g.D.Disk.state c.open_gate.new.disk) c.in_ok-write_synced.ensures.written c.in_ok-open_gate.ensures.written c.in_ok-open_gate.ensures.kept
+    added head pairs last c.self.inside.place c.args.pair.now c.deref.result.now (g.D.Disk.state c.args.disk.now) (g.D.Disk.state c.write_synced.new.disk) (subst (λ (n : ℕ). Keeps head pairs n (g.D.Disk.state c.args.disk.now)) (sym c.self.view_is) keeps) is spelled filled (g.D.Disk.state c.open_gate.new.disk) c.in_ok-write_synced.ensures.written c.in_ok-open_gate.ensures.written c.in_ok-open_gate.ensures.kept
 
 pub returns-in_err-write_synced-clause-lengths : goal.returns-in_err-write_synced-clause-lengths
 returns-in_err-write_synced-clause-lengths g c =

@@ -1,0 +1,76 @@
+//! How a disk begins that is opened: with a first entry that holds a checkpoint, or without one.
+ghost use Rattle.std.specs.Prelude.{◌≡◌, ◌≤◌, ◌<◌, ◌+◌, ◌^◌, ◌⊎◌, ℕ, List, [], Some, None, Err, IfSome, IfOk, IfErr, OnOk, OnErr};
+ghost use Rattle.flow_io.specs.Faults.{Blames};
+ghost use Rattle.market_rules.specs.Market.{Market as market_value};
+ghost use Rattle.market_snapshot.specs.Checkpoints.{IsCheckpoint};
+ghost use Rattle.journal_disk.specs.Entries.{Holds};
+ghost use Rattle.journal_disk.specs.Ahead.{IsPiece};
+ghost use Rattle.journal_disk.specs.Looking.{OnlyLooks};
+ghost use Rattle.journal_keeping.specs.Beginning.{BeginsAt, StopsFirst, IsOfDisk};
+
+use crate::fault::KeepFault;
+use crate::version::is_same;
+use disk_edge::Disk;
+use journal_disk::{Ahead, DiskJournal};
+use market_core::Market;
+use market_snapshot::{CHECKPOINT_MAGIC, SnapshotFault, read_market};
+use std::alloc::Global;
+use wire_records::Version;
+
+// The place of the first commit byte.
+const FIRST: u64 = 8;
+
+// Returns the market of a first entry that holds a checkpoint of a version.
+fn checkpoint_market(alloc: Global, bytes: &[u8], version: Version) -> Result<Market, KeepFault>
+    ensures one { IfOk result (λ market. IsCheckpoint market bytes.now × (market.version ≡ version)) }
+    ensures none { IfErr result (λ fault. fault ≡ KeepFault.Damaged 8 →
+        (market : market_value) → IsCheckpoint market bytes.now → market.version ≡ version → ⊥) }
+    ensures refused { IfErr result (λ fault. (fault ≡ KeepFault.Damaged 8) ⊎ (fault ≡ KeepFault.Memory)) }
+{
+    match read_market(alloc, bytes) {
+        Ok((market, taken)) => {
+            if taken < bytes.len() {
+                return Err(KeepFault::Damaged(FIRST));
+            }
+            if !is_same(market.version(), version) {
+                return Err(KeepFault::Damaged(FIRST));
+            }
+            Ok(market)
+        }
+        Err(SnapshotFault::NotSound) => Err(KeepFault::Damaged(FIRST)),
+        Err(SnapshotFault::Memory) => Err(KeepFault::Memory),
+    }
+}
+
+// Returns the market in which a disk of a version begins, and moves the reading to its first entry that is one of the journal.
+pub(crate) fn first_market<D: Disk>(
+    alloc: Global,
+    journal: &mut DiskJournal,
+    disk: &mut D,
+    ahead: &mut Ahead,
+    version: Version,
+) -> Result<Market, KeepFault>
+    requires first { journal.old ≡ 8 }
+    requires piece { IfSome (D.state disk.old).content (IsPiece ahead.old) }
+    ensures begins { IfOk result (λ market. (rest bytes : List ℕ) → (D.state disk.old).content ≡ Some bytes →
+        Holds (record { version = version; first = None }) [] 8 rest (D.state disk.old) → BeginsAt version bytes market journal.new (D.state disk.new)) }
+    ensures stops { IfErr result (λ fault. (rest bytes : List ℕ) → (D.state disk.old).content ≡ Some bytes →
+        Holds (record { version = version; first = None }) [] 8 rest (D.state disk.old) → StopsFirst fault bytes) }
+    ensures piece { IfSome (D.state disk.new).content (IsPiece ahead.new) }
+    ensures of_disk { IfErr result IsOfDisk }
+    ensures near { IfOk result (λ market. (market.next_order ≤ 2 ^ 63) × (journal.new ≤ 2 ^ 60)) }
+    ensures looks { OnlyLooks (D.state disk.old) (D.state disk.new) }
+    ensures cause { Blames (result ≡ Err KeepFault.Disk) (D.state disk.old).faults (D.state disk.new).faults }
+{
+    match journal.find_first(disk, ahead, &CHECKPOINT_MAGIC) {
+        Ok(Some(count)) => match checkpoint_market(alloc, journal.first(ahead, count), version) {
+            Ok(market) => {
+                journal.pass(count);
+                Ok(market)
+            }
+            Err(fault) => Err(fault),
+        },
+        Ok(None) => Ok(Market::new_in(alloc, version)),
+        Err(fault) => Err(KeepFault::from(fault)),
+    }
+}

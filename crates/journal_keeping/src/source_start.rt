@@ -1,0 +1,206 @@
+//! How a source begins that is opened: with the magic of a command file, or with a checkpoint and the magic after it.
+ghost use Rattle.std.specs.Prelude.{◌≡◌, ◌≢◌, ◌≤◌, ◌<◌, ◌+◌, ◌^◌, ◌++◌, ◌∷◌, ℕ, List, [], Option, None, Err, IfSome, IfOk, IfErr, IsErr, length, drop, take};
+ghost use Rattle.flow_io.specs.Faults.{Blames};
+ghost use Rattle.flow_io.specs.Streams.{Takes, TakesAtMost};
+ghost use Rattle.flow_io.specs.Windows.{empty_window};
+ghost use Rattle.wire_records.specs.Records.{longest_record};
+ghost use Rattle.wire_records.specs.Grammars.{BeginsWith};
+ghost use Rattle.wire_records.specs.Formats.{commands};
+ghost use Rattle.market_rules.specs.Market.{Market as market_value};
+ghost use Rattle.market_snapshot.specs.Checkpoints.{IsCheckpoint, checkpoint_bytes};
+ghost use Rattle.market_history.specs.Histories.{Empty};
+ghost use Rattle.journal_disk.specs.Entries.{framed};
+ghost use Rattle.journal_keeping.specs.Beginning.{IsBehindStart, OpensStart, IsOfSource};
+
+use crate::fault::KeepFault;
+use crate::version::is_same;
+use flow_io::{Filled, Source, Window};
+use journal_disk::stored_first;
+use market_core::Market;
+use market_history::{StartFault, kept_market};
+use market_snapshot::{CHECKPOINT_MAGIC, write_market};
+use std::alloc::Global;
+use wire_records::{MOST_RECORD, Version, command_version};
+
+// The bytes of each magic.
+const MAGIC: usize = 8;
+
+// A source of a new disk that is opened: its window after its beginning, the market in which the journal begins, and the first entry of
+// the disk as it is stored, which has no bytes if there is no checkpoint.
+#[derive(Drop)]
+pub(crate) struct OpenStart {
+    pub(crate) window: Window,
+    pub(crate) market: Market,
+    pub(crate) stored: Vec<u8>,
+}
+
+// Moves a window past the magic that it holds, if that is the magic of this version.
+fn behind_magic(window: Window, version: Version) -> Result<Window, KeepFault>
+    requires some { 8 ≤ length window.held }
+    ensures behind { IfOk result (λ behind. ((body : List ℕ) × BeginsWith commands.magics window.held version body)
+        × (behind ≡ record window { held = drop 8 window.held; place = window.place + 8 }) × (length window.held ≤ window.room)) }
+    ensures other { IfErr result (λ fault. (fault ≡ KeepFault.NotFlow) × ((body : List ℕ) → ¬ BeginsWith commands.magics window.held version body)) }
+{
+    let mut window = window;
+    let found = match command_version(window.held()) {
+        Some(found) => found,
+        None => return Err(KeepFault::NotFlow),
+    };
+    if !is_same(found, version) {
+        return Err(KeepFault::NotFlow);
+    }
+    window.advance(MAGIC);
+    Ok(window)
+}
+
+// Opens a source, and moves past its magic, which has to be that of this version.
+pub(crate) fn open_source<S: Source>(
+    alloc: Global,
+    limit: u64,
+    source: &mut S,
+    version: Version,
+) -> Result<Window, KeepFault>
+    ensures behind { IfOk result (λ window. IsBehindStart limit (Empty version) window (S.rest source.old) (S.rest source.new)) }
+    ensures of_source { IfErr result (IsOfSource (Some version) limit (S.rest source.old) (S.rest source.new)) }
+    ensures taken { IsErr result → TakesAtMost (S.rest source.old) (S.rest source.new) (limit + 1) }
+    ensures cause { Blames (result ≡ Err KeepFault.Read) (S.faults source.old) (S.faults source.new) }
+{
+    let mut window = match Window::new(alloc, MOST_RECORD, limit) {
+        Ok(window) => window,
+        Err(_) => return Err(KeepFault::Memory),
+    };
+    match window.fill(source, MAGIC) {
+        Ok(Filled::Enough) => behind_magic(window, version),
+        Ok(Filled::Ended) => Err(KeepFault::NotFlow),
+        Ok(Filled::Limited) => Err(KeepFault::NotFlow),
+        Err(_) => Err(KeepFault::Read),
+    }
+}
+
+// Puts the checkpoint of a market together as a first entry.
+fn stored_checkpoint(alloc: Global, market: &mut Market) -> Result<Vec<u8>, KeepFault>
+    requires { length (checkpoint_bytes market.old) < 2 ^ 32 }
+    ensures stored { IfOk result (λ stored. stored.items ≡ framed (checkpoint_bytes market.old) ++ 0 ∷ []) }
+    ensures market { market.new ≡ market.old }
+    ensures refused { IfErr result (λ fault. fault ≡ KeepFault.Memory) }
+{
+    let mut checkpoint = Vec::new(alloc);
+    match write_market(market, &mut checkpoint) {
+        Ok(()) => {}
+        Err(_) => return Err(KeepFault::Memory),
+    }
+    match stored_first(alloc, &checkpoint) {
+        Ok(stored) => Ok(stored),
+        Err(_) => Err(KeepFault::Memory),
+    }
+}
+
+// Moves a window, which is after the checkpoint of this market, past the magic of a command file of its version.
+fn behind_checkpoint<S: Source>(
+    alloc: Global,
+    window: Window,
+    source: &mut S,
+    market: Market,
+) -> Result<OpenStart, KeepFault>
+    requires room { window.room ≡ longest_record }
+    requires open { window.over ≡ None }
+    requires within { window.place + length window.held ≤ window.limit }
+    requires few { window.limit ≤ 2 ^ 32 }
+    requires placed { window.place ≡ length (checkpoint_bytes market) }
+    ensures opens { IfOk result (λ o. (before : Option (List ℕ)) → IsCheckpoint market (checkpoint_bytes market) →
+        Takes before (S.rest source.old) (checkpoint_bytes market ++ window.held) →
+        OpensStart window.limit o.market o.stored.items o.window before (S.rest source.new)) }
+    ensures market { IfOk result (λ o. o.market ≡ market) }
+    ensures of_source { IfErr result (λ fault. (before : Option (List ℕ)) → IsCheckpoint market (checkpoint_bytes market) →
+        Takes before (S.rest source.old) (checkpoint_bytes market ++ window.held) →
+        IsOfSource None window.limit before (S.rest source.new) fault × TakesAtMost before (S.rest source.new) (window.limit + 1)) }
+    ensures cause { Blames (result ≡ Err KeepFault.Read) (S.faults source.old) (S.faults source.new) }
+{
+    let mut window = window;
+    match window.fill(source, MAGIC) {
+        Ok(Filled::Enough) => {}
+        Ok(Filled::Ended) => return Err(KeepFault::NotFlow),
+        Ok(Filled::Limited) => return Err(KeepFault::NotFlow),
+        Err(_) => return Err(KeepFault::Read),
+    }
+    let mut market = market;
+    match behind_magic(window, market.version()) {
+        Ok(window) => match stored_checkpoint(alloc, &mut market) {
+            Ok(stored) => Ok(OpenStart {
+                window,
+                market,
+                stored,
+            }),
+            Err(fault) => Err(fault),
+        },
+        Err(fault) => Err(fault),
+    }
+}
+
+// Moves a window, which holds the first bytes of a source, past its beginning.
+fn start_at<S: Source>(
+    alloc: Global,
+    window: Window,
+    source: &mut S,
+) -> Result<OpenStart, KeepFault>
+    requires some { 8 ≤ length window.held }
+    requires room { window.room ≡ longest_record }
+    requires open { window.over ≡ None }
+    requires within { window.place + length window.held ≤ window.limit }
+    requires few { window.limit ≤ 2 ^ 32 }
+    requires first { window.place ≡ 0 }
+    ensures opens { IfOk result (λ o. (before : Option (List ℕ)) → Takes before (S.rest source.old) window.held →
+        OpensStart window.limit o.market o.stored.items o.window before (S.rest source.new)) }
+    ensures numbers { IfOk result (λ o. o.market.next_order ≤ 2 ^ 63) }
+    ensures of_source { IfErr result (λ fault. (before : Option (List ℕ)) → Takes before (S.rest source.old) window.held →
+        IsOfSource None window.limit before (S.rest source.new) fault × TakesAtMost before (S.rest source.new) (window.limit + 1)) }
+    ensures cause { Blames (result ≡ Err KeepFault.Read) (S.faults source.old) (S.faults source.new) }
+{
+    let mut window = window;
+    match command_version(window.held()) {
+        Some(version) => {
+            window.advance(MAGIC);
+            return Ok(OpenStart {
+                window,
+                market: Market::new_in(alloc, version),
+                stored: Vec::new(alloc),
+            });
+        }
+        None => {}
+    }
+    if !window.held().starts_with(&CHECKPOINT_MAGIC) {
+        return Err(KeepFault::NotFlow);
+    }
+    match kept_market(alloc, &mut window, source) {
+        Ok(market) => behind_checkpoint(alloc, window, source, market),
+        Err(StartFault::Read) => Err(KeepFault::Read),
+        Err(StartFault::Memory) => Err(KeepFault::Memory),
+        Err(StartFault::NotFlow) => Err(KeepFault::NotFlow),
+        Err(StartFault::NoCheckpoint) => Err(KeepFault::BadCheckpoint),
+    }
+}
+
+// Opens a source of a new disk, and moves past its beginning.
+pub(crate) fn open_start<S: Source>(
+    alloc: Global,
+    limit: u64,
+    source: &mut S,
+) -> Result<OpenStart, KeepFault>
+    requires few { limit ≤ 2 ^ 32 }
+    ensures opens { IfOk result (λ o. OpensStart limit o.market o.stored.items o.window (S.rest source.old) (S.rest source.new)) }
+    ensures numbers { IfOk result (λ o. o.market.next_order ≤ 2 ^ 63) }
+    ensures of_source { IfErr result (IsOfSource None limit (S.rest source.old) (S.rest source.new)) }
+    ensures taken { IsErr result → TakesAtMost (S.rest source.old) (S.rest source.new) (limit + 1) }
+    ensures cause { Blames (result ≡ Err KeepFault.Read) (S.faults source.old) (S.faults source.new) }
+{
+    let mut window = match Window::new(alloc, MOST_RECORD, limit) {
+        Ok(window) => window,
+        Err(_) => return Err(KeepFault::Memory),
+    };
+    match window.fill(source, MAGIC) {
+        Ok(Filled::Enough) => start_at(alloc, window, source),
+        Ok(Filled::Ended) => Err(KeepFault::NotFlow),
+        Ok(Filled::Limited) => Err(KeepFault::NotFlow),
+        Err(_) => Err(KeepFault::Read),
+    }
+}
