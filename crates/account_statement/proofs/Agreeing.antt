@@ -1,12 +1,10 @@
 -- The lines of an entry, by what the statement holds, are those of what the account sees of it.
-use Rattle.std.proofs.Common.{◌≡◌, ℕ, ◌+◌, Bool, true, false, ◌&&◌, List, [], ◌∷◌, ◌++◌, length, Result, Ok, Err, refl, sym, ap, subst, ◌∙◌, arith}
-use Rattle.std.specs.Prelude.{◌==◌}
+use Rattle.std.proofs.Common.{◌≡◌, ℕ, List, [], ◌∷◌, ◌++◌, length, Result, Ok, Err, refl, sym, ap, subst, ◌∙◌, arith}
 use Rattle.std.proofs.lemmas.List.{append-nil}
 use Rattle.wire_records.specs.Records.{Record}
 use Rattle.wire_records.specs.Versions.{IsReadAs}
-use Rattle.wire_records.specs.Commands.{Command, AddAsset, OpenAccount, RunBatch, Answer, Plain, Batch}
+use Rattle.wire_records.specs.Commands.{Command, Answer, Plain, Batch}
 use Rattle.wire_records.specs.declared.command.BodyFault.{BodyFault}
-use Rattle.wire_records.specs.declared.reply.Reply.{Reply}
 use Rattle.wire_records.proofs.Readings.{reading_unique}
 use Rattle.flow_orders.specs.Outcomes.{Clearing, Outcome, Cleared, Skipped, IsAdmissibleOutcome, IsAdmissibleClearing}
 use Rattle.journal_records.specs.Replies.{SpellsAnswer}
@@ -15,13 +13,13 @@ use Rattle.market_rules.specs.Market.{Market, IsConsistent, start_prices}
 use Rattle.market_rules.specs.Step.{Serves, ServesRead}
 use Rattle.market_rules.proofs.LawProofs.{batch_of}
 use Rattle.batch_audit.specs.Legal.{IsLegalPair}
-use Rattle.statement_rules.specs.Views.{Event, Asks, Clears, Skips, event_if, is_there, seen, seen_plain, own_fills}
-use Rattle.statement_rules.specs.Holdings.{Holding, after_all, IsHeld}
-use Rattle.statement_rules.specs.Statements.{lines_from}
+use Rattle.statement_rules.specs.Views.{Event, Clears, Skips, event_if, is_there, seen, seen_plain, own_fills}
+use Rattle.statement_rules.specs.Holdings.{Holding, after, after_all, IsHeld}
+use Rattle.statement_rules.specs.Statements.{event_lines, lines_from}
 use Rattle.statement_rules.proofs.Told.{told}
 use Rattle.statement_rules.proofs.ViewLaws.{consistent_after}
 use Rattle.account_statement.specs.Telling.{Statement, holding_of, Agrees, IsTold}
-use Rattle.account_statement.specs.Private.{AreAlike, Names, fills_for, seen_by, IsServed, Tells}
+use Rattle.account_statement.specs.Private.{AreAlike, fills_for, seen_by, IsServed, Tells}
 use Rattle.account_statement.proofs.OwnRates.{rates_found, own_found, fills_ascend}
 
 -- a holding that is like one that agrees with a market agrees with it too
@@ -37,13 +35,6 @@ agrees_alike account m h g consistent like held = record {
 -- a holding is like itself
 pub alike_same : (h g : Holding) → g ≡ h → AreAlike g h
 alike_same h g same = subst (λ (x : Holding). AreAlike x h) (sym same) (record { tickers = refl; is_open = refl; money = refl; units = λ asset inside. refl; orders = refl })
-
--- what an account sees of a command that names one
-pub seen_named : (account named : ℕ) (there : Bool) (c : Command) (answer : Reply) → Names named c → seen_plain account there c answer ≡ event_if (there && (named == account)) (Asks c answer)
-seen_named account named there (AddAsset ticker) answer names = absurd names
-seen_named account named there OpenAccount answer names = absurd names
-seen_named account named there (RunBatch budget) answer names = absurd names
-seen_named account named there command answer names = ap (λ k. event_if (there && (k == account)) (Asks command answer)) (sym names)
 
 -- the own fills of a market are those that are found under the numbers of the own orders
 pub own_fills_are : (account : ℕ) (m : Market) (h : Holding) (c : Clearing) → IsConsistent m → IsHeld account m h → IsAdmissibleClearing m.orders (start_prices m) c → own_fills account m c ≡ fills_for c.fills h.orders
@@ -124,14 +115,6 @@ nothing_told events s text none = record {
   text = sym (ap (λ l. text ++ lines_from (holding_of s) l) none ∙ append-nil text);
 }
 
--- a change without lines leaves any text
-pub told_silently : (events : List Event) (old new : Statement) (text : List ℕ) → Tells events old new [] [] → Tells events old new text text
-told_silently events old new text tells = record {
-  account = tells.account;
-  after = tells.after;
-  text = sym (ap (λ l. text ++ l) (sym tells.text) ∙ append-nil text);
-}
-
 -- what is appended to an empty text is appended to any text
 pub told_behind : (m : Market) (pair : Record × Record) (old new : Statement) (before empty text now : List ℕ) (next : Market) (legal : IsLegalPair m pair next)
     → empty ≡ [] → now ≡ before ++ text → IsTold m pair old new empty text next legal → IsTold m pair old new before now next legal
@@ -140,14 +123,15 @@ told_behind m pair old new before empty text now next legal none whole told_so =
   text = whole ∙ ap (λ l. before ++ l) (told_so.text ∙ ap (λ l. l ++ lines_from (holding_of old) (seen old.account m legal.step.read legal.answer)) none);
 }
 
--- what the statement takes of a command of the account's own is what the account sees of it
-pub told_own : (s new : Statement) (c : Command) (answer : Reply) (named : ℕ) (before now : List ℕ) → Names named c → (s.is_open && (named == s.account)) ≡ true
-    → Tells (Asks c answer ∷ []) s new before now → Tells (seen_by s c (Plain answer)) s new before now
-told_own s new c answer named before now names own tells =
-    subst (λ l. Tells l s new before now) (sym (seen_named s.account named s.is_open c answer names ∙ ap (λ b. event_if b (Asks c answer)) own)) tells
+-- what the statement takes of one event is what it takes of a command of which the account sees this event
+pub told_seen : (events : List Event) (event : Event) (s new : Statement) (before now : List ℕ) → events ≡ event ∷ [] → Tells (event ∷ []) s new before now → Tells events s new before now
+told_seen events event s new before now is tells = subst (λ l. Tells l s new before now) (sym is) tells
 
--- an account sees nothing of another account's command
-pub told_others : (s : Statement) (c : Command) (answer : Reply) (named : ℕ) (text : List ℕ) → Names named c → (s.is_open && (named == s.account)) ≡ false
-    → Tells (seen_by s c (Plain answer)) s s text text
-told_others s c answer named text names other =
-    nothing_told (seen_by s c (Plain answer)) s text (seen_named s.account named s.is_open c answer names ∙ ap (λ b. event_if b (Asks c answer)) other)
+-- an event is taken by its line and its change
+pub told_event : (event : Event) (s new : Statement) (before now : List ℕ) → new.account ≡ s.account → AreAlike (holding_of new) (after (holding_of s) event)
+    → now ≡ before ++ event_lines (holding_of s) event → Tells (event ∷ []) s new before now
+told_event event s new before now account alike line = record {
+  account = account;
+  after = alike;
+  text = line ∙ ap (λ l. before ++ l) (sym (append-nil (event_lines (holding_of s) event)));
+}

@@ -1,5 +1,5 @@
 -- Own orders stay own.
-use Rattle.std.proofs.Common.{◌≡◌, ◌≢◌, ◌⊎◌, inl, inr, ℕ, zero, suc, ◌<◌, Bool, true, false, if◌then◌else◌, ℤ, pos, ◌+ℤ◌, List, [], ◌∷◌, ◌++◌, length, map, get_or, refl, sym, ap, subst, ◌∙◌, arith}
+use Rattle.std.proofs.Common.{◌≡◌, ◌≢◌, ◌⊎◌, inl, inr, ℕ, zero, suc, ◌<◌, Bool, true, false, if◌then◌else◌, ℤ, pos, ◌+ℤ◌, List, [], ◌∷◌, ◌++◌, length, map, get_or, Some, refl, sym, ap, subst, ◌∙◌, arith}
 use Rattle.std.specs.Prelude.{All, ◌==◌}
 use Rattle.std.specs.List.{filter, range_with_len, sum_by}
 use Rattle.std.proofs.Common.{set}
@@ -15,9 +15,9 @@ use Rattle.flow_orders.specs.Trades.{trades, after_fill, is_live, staying}
 use Rattle.flow_orders.proofs.TradeFacts.{All-trades}
 use Rattle.order_book.specs.Book.{Book, without}
 use Rattle.statement_rules.specs.Views.{Adds}
-use Rattle.statement_rules.specs.Holdings.{units_changed}
+use Rattle.statement_rules.specs.Holdings.{changed, after}
 use Rattle.account_statement.specs.Telling.{Statement, holding_of}
-use Rattle.account_statement.specs.Private.{AreAlike, Tells}
+use Rattle.account_statement.specs.Private.{AreAlike}
 
 -- all orders are one account's
 abbrev pub AreOwn : ℕ → List Order → Type 0
@@ -57,10 +57,10 @@ units_added units n count asset = by (eqb_tells asset n)
 
 -- the units of one asset are replaced
 pub units_set : (units : List ℤ) (k n : ℕ) (amount v : ℤ) → k ≡ n → n < length units → v ≡ get_or units n (pos 0) +ℤ amount
-    → (asset : ℕ) → get_or (set units k v) asset (pos 0) ≡ units_changed (λ a. get_or units a (pos 0)) n amount asset
+    → (asset : ℕ) → get_or (set units k v) asset (pos 0) ≡ (if asset == n then get_or units asset (pos 0) +ℤ amount else get_or units asset (pos 0))
 units_set units k n amount v place inside is asset = by (eqb_tells asset n)
   where
-    by : (((asset == n) ≡ true) × (asset ≡ n)) ⊎ (((asset == n) ≡ false) × (asset ≢ n)) → get_or (set units k v) asset (pos 0) ≡ units_changed (λ a. get_or units a (pos 0)) n amount asset
+    by : (((asset == n) ≡ true) × (asset ≡ n)) ⊎ (((asset == n) ≡ false) × (asset ≢ n)) → get_or (set units k v) asset (pos 0) ≡ (if asset == n then get_or units asset (pos 0) +ℤ amount else get_or units asset (pos 0))
     by (inl same) =
         rw same.0 (ap (λ i. get_or (set units k v) i (pos 0)) (same.1 ∙ sym place) ∙ get_or-set_same units k v (pos 0) (omega (arith, inside, place)) ∙ is ∙ ap (λ i. get_or units i (pos 0) +ℤ amount) (sym same.1))
     by (inr other) = rw other.0 (get_or-set_other units k asset v (pos 0) (λ e. other.1 (e ∙ place)))
@@ -85,24 +85,20 @@ own_cancel account number true old new stays orders own = own_filter account _ o
 own_cancel account number false old new stays orders own = subst (λ (b : Book). AreOwn account b.orders) (sym (stays refl)) own
 
 -- an asset was added
-pub told_added : (s new : Statement) (ticker : List ℕ) → new.account ≡ s.account → new.tickers ≡ s.tickers ++ ticker ∷ [] → new.is_open ≡ s.is_open → new.money ≡ s.money
-    → new.units ≡ s.units ++ pos 0 ∷ [] → new.orders ≡ s.orders → length s.units ≡ length s.tickers → Tells (Adds ticker ∷ []) s new [] []
-told_added s new ticker account tickers is_open money units orders count = record {
-  account = account;
-  after = record {
-    tickers = tickers;
-    is_open = is_open;
-    money = money;
-    units = λ asset inside. ap (λ l. get_or l asset (pos 0)) units ∙ units_added s.units (length s.tickers) count asset;
-    orders = orders;
-  };
-  text = refl;
+pub alike_added : (s new : Statement) (ticker : List ℕ) → new.tickers ≡ s.tickers ++ ticker ∷ [] → new.is_open ≡ s.is_open → new.money ≡ s.money
+    → new.units ≡ s.units ++ pos 0 ∷ [] → new.orders ≡ s.orders → length s.units ≡ length s.tickers → AreAlike (holding_of new) (after (holding_of s) (Adds ticker))
+alike_added s new ticker tickers is_open money units orders count = record {
+  tickers = tickers;
+  is_open = is_open;
+  money = money;
+  units = λ asset inside. ap (λ l. get_or l asset (pos 0)) units ∙ units_added s.units (length s.tickers) count asset;
+  orders = orders;
 }
 
 -- the units of an asset changed
 pub alike_units : (s new : Statement) (place asset : ℕ) (amount v : ℤ) → new.tickers ≡ s.tickers → new.is_open ≡ s.is_open → new.money ≡ s.money → new.units ≡ set s.units place v → new.orders ≡ s.orders
     → place ≡ asset → asset < length s.units → v ≡ get_or s.units asset (pos 0) +ℤ amount
-    → AreAlike (holding_of new) (record (holding_of s) { units = units_changed (holding_of s).units asset amount })
+    → AreAlike (holding_of new) (changed (holding_of s) (Some asset) amount)
 alike_units s new place asset amount v tickers is_open money units orders same inside is = record {
   tickers = tickers;
   is_open = is_open;

@@ -1,5 +1,5 @@
 -- What may be done to what a statement holds, if a market answers so.
-use Rattle.std.proofs.Common.{◌≡◌, ◌⊎◌, inl, inr, ℕ, zero, suc, ◌<◌, ◌≤◌, ◌+◌, Bool, true, false, not, if◌then◌else◌, ◌&&◌, ℤ, pos, neg_ℤ, ◌+ℤ◌, ◌-ℤ◌, List, [], ◌∷◌, map, length, Option, Some, None, Ok, refl, sym, ap, subst, ◌∙◌, arith}
+use Rattle.std.proofs.Common.{◌≡◌, ◌⊎◌, inl, inr, ℕ, zero, suc, ◌<◌, ◌≤◌, ◌+◌, Bool, true, false, not, if◌then◌else◌, ◌&&◌, ℤ, neg_ℤ, ◌+ℤ◌, ◌-ℤ◌, List, [], ◌∷◌, map, length, Option, Some, None, Ok, refl, sym, ap, subst, ◌∙◌, arith}
 use Rattle.std.specs.Prelude.{All, Contains, ◌==◌, slice_index_or}
 use Rattle.std.specs.List.{filter}
 use Rattle.std.proofs.lemmas.Bool.{cases_Bool, eq-eqb, eqb-true, and_parts}
@@ -9,11 +9,11 @@ use Rattle.std.proofs.lemmas.List.Filters.{length-filter_both}
 use Rattle.list_sums.specs.Sums.{int_sum_by}
 use Rattle.weight_rows.specs.Rows.{IsPricedBy}
 use Rattle.demand_curve.proofs.RoundingLaws.{rounding_is_within_room}
-use Rattle.wire_records.specs.Commands.{Command, AddAsset, DepositMoney, DepositAsset, WithdrawMoney, WithdrawAsset, Place, CancelOrder, Answer, Plain, Batch}
+use Rattle.wire_records.specs.Commands.{Request, Command, AddAsset, OpenAccount, DepositMoney, DepositAsset, WithdrawMoney, WithdrawAsset, Place, CancelOrder, RunBatch, SetMoneyCredit, SetUnitCredit, Answer, Plain, Batch}
 use Rattle.wire_records.specs.declared.reply.Reply.{Reply}
 use Rattle.wire_records.specs.declared.reply.Reply.TheVariants as reply
 use Rattle.wire_records.specs.declared.reply.Refusal.{Refusal}
-use Rattle.flow_accounts.specs.Balances.{IsAccount, IsAsset, asset_count}
+use Rattle.flow_accounts.specs.Balances.{IsAccount, IsAsset, IsKind, account_count, asset_count, value_of}
 use Rattle.flow_accounts.specs.Lawful.{IsMoneyBalance, IsUnitBalance}
 use Rattle.flow_orders.specs.Orders.{Order, most_orders, terms_of}
 use Rattle.flow_orders.specs.Excess.{price_for}
@@ -27,14 +27,14 @@ use Rattle.market_rules.specs.Step.{FirstRefusal, Accepts, Answers, Serves}
 use Rattle.market_rules.proofs.Accepted.{past_unless, past_when, not_least}
 use Rattle.market_rules.proofs.Lawful.{money_of_each, units_of_each}
 use Rattle.market_rules.proofs.LawProofs.{batch_of}
-use Rattle.statement_rules.specs.Views.{Asks, Clears, event_if, is_there, own_trades, own_fills}
-use Rattle.statement_rules.specs.Holdings.{Holding, IsHeld, units_changed, after, after_done, after_all}
+use Rattle.statement_rules.specs.Views.{Event, Adds, Opens, Deposits, Withdraws, Credits, Places, Cancels, Refuses, Clears, event_if, seen_plain, is_there, own_trades, own_fills}
+use Rattle.statement_rules.specs.Holdings.{Holding, IsHeld, changed, after, after_all}
 use Rattle.statement_rules.proofs.Told.{told, is_account}
 use Rattle.statement_rules.proofs.OwnParts.{own_again}
 use Rattle.account_statement.specs.Telling.{Statement, holding_of}
-use Rattle.account_statement.specs.Private.{Names, IsServed, fills_for, trades_for, MayDo, MayOrder, MayMake, MayAdd, HasOwn, MayClear, IsListed}
+use Rattle.account_statement.specs.Private.{IsServed, fills_for, trades_for, MayPlace, MayChange, MayTake, HasOwn, MayClear, IsListed}
 use Rattle.account_statement.proofs.OwnRates.{fills_ascend, all_listed, trades_found}
-use Rattle.account_statement.proofs.Agreeing.{seen_named, own_fills_are}
+use Rattle.account_statement.proofs.Agreeing.{own_fills_are}
 
 -- an element that passes is among those that pass
 contains_filter : {X : Type 0} (p : X → Bool) (xs : List X) (x : X) → Contains xs x → p x ≡ true → Contains (filter p xs) x
@@ -50,39 +50,19 @@ contains_filter p (y ∷ xs) x (suc k, inside, is) pass = by (contains_filter p 
 few_pass : {X : Type 0} (p : X → Bool) (xs : List X) → length (filter p xs) ≤ length xs
 few_pass p xs = let both = length-filter_both p (λ x. not (p x)) (λ x. refl) xs in omega (arith, both)
 
-no_done : (r : Refusal) → ◌≡◌ {A = Answer Outcome} (Plain reply.Done) (Plain (reply.Refused r)) → ⊥
-no_done r e = cc
+-- an event that is seen
+event_is : (b : Bool) (x e : Event) → event_if b x ≡ e ∷ [] → (b ≡ true) × (x ≡ e)
+event_is true x e same = (refl, cc)
+event_is false x e same = absurd cc
 
-no_order : (r : Refusal) (k : ℕ) → ◌≡◌ {A = Answer Outcome} (Plain (reply.Order k)) (Plain (reply.Refused r)) → ⊥
-no_order r k e = cc
+plain_is : (x y : Reply) → ◌≡◌ {A = Answer Outcome} (Plain x) (Plain y) → x ≡ y
+plain_is x y e = cc
 
-no_asset : (r : Refusal) (k : ℕ) → ◌≡◌ {A = Answer Outcome} (Plain (reply.Asset k)) (Plain (reply.Refused r)) → ⊥
-no_asset r k e = cc
+no_events : (e : Event) → ◌≡◌ {A = List Event} [] (e ∷ []) → ⊥
+no_events e same = cc
 
-same_order : (j k : ℕ) → ◌≡◌ {A = Answer Outcome} (Plain (reply.Order j)) (Plain (reply.Order k)) → j ≡ k
-same_order j k e = cc
-
--- a command that is answered by Done was accepted
-done_accepted : (m : Market) (c : Command) (n : Market) → Serves IsAdmissibleOutcome m c (Plain reply.Done) n → FirstRefusal m c None
-done_accepted m c n serves = by serves.first serves.refused serves.answered
-  where
-    by : (first : Option Refusal) → FirstRefusal m c first → Answers IsAdmissibleOutcome m c first (Plain reply.Done) n → FirstRefusal m c None
-    by (Some r) refused answers = absurd (no_done r answers.0)
-    by None refused answers = refused
-
-order_accepted : (m : Market) (c : Command) (k : ℕ) (n : Market) → Serves IsAdmissibleOutcome m c (Plain (reply.Order k)) n → FirstRefusal m c None × Accepts IsAdmissibleOutcome m c (Plain (reply.Order k)) n
-order_accepted m c k n serves = by serves.first serves.refused serves.answered
-  where
-    by : (first : Option Refusal) → FirstRefusal m c first → Answers IsAdmissibleOutcome m c first (Plain (reply.Order k)) n → FirstRefusal m c None × Accepts IsAdmissibleOutcome m c (Plain (reply.Order k)) n
-    by (Some r) refused answers = absurd (no_order r k answers.0)
-    by None refused answers = (refused, answers)
-
-asset_accepted : (m : Market) (c : Command) (k : ℕ) (n : Market) → Serves IsAdmissibleOutcome m c (Plain (reply.Asset k)) n → FirstRefusal m c None
-asset_accepted m c k n serves = by serves.first serves.refused serves.answered
-  where
-    by : (first : Option Refusal) → FirstRefusal m c first → Answers IsAdmissibleOutcome m c first (Plain (reply.Asset k)) n → FirstRefusal m c None
-    by (Some r) refused answers = absurd (no_asset r k answers.0)
-    by None refused answers = refused
+one_event : (x e : Event) → x ∷ [] ≡ e ∷ [] → x ≡ e
+one_event x e same = cc
 
 module _ (account : ℕ) (m n : Market) (h : Holding) (consistent : IsConsistent m) (consistent_next : IsConsistent n) (held : IsHeld account m h) (open_now : h.is_open ≡ true) where
   -- a holding after the step that is open is that of an account
@@ -104,28 +84,15 @@ module _ (account : ℕ) (m n : Market) (h : Holding) (consistent : IsConsistent
   asset_held : (asset : ℕ) → IsAsset m.balances asset → asset < length h.tickers
   asset_held asset is = omega (arith, is, ap length held.tickers, consistent.one_each.tickers)
 
-  one_changed : (asset : ℕ) (amount : ℤ) → units_changed h.units asset amount asset ≡ h.units asset +ℤ amount
+  one_changed : (asset : ℕ) (amount : ℤ) → (changed h (Some asset) amount).units asset ≡ h.units asset +ℤ amount
   one_changed asset amount = ap (λ b. if b then h.units asset +ℤ amount else h.units asset) (eq-eqb asset asset refl)
 
-  may_do : (c : Command) → Names account c → FirstRefusal m c None → IsHeld account n (after_done h c) → MayDo h c
-  may_do (DepositMoney named ticks) names none is = money_fits (after_done h (DepositMoney named ticks)) is open_now
-  may_do (DepositAsset named asset units) names none is =
-      let there = asset_held asset (past_unless (past_unless none).1).0 in
-      (there, subst IsUnitBalance (one_changed asset (pos units)) (units_fit (after_done h (DepositAsset named asset units)) asset is open_now there))
-  may_do (WithdrawMoney named ticks) names none is = money_fits (after_done h (WithdrawMoney named ticks)) is open_now
-  may_do (WithdrawAsset named asset units) names none is =
-      let there = asset_held asset (past_unless (past_unless none).1).0 in
-      (there, subst IsUnitBalance (one_changed asset (neg_ℤ (pos units))) (units_fit (after_done h (WithdrawAsset named asset units)) asset is open_now there))
-  may_do (CancelOrder named number) names none is =
-      let has = (past_unless (past_unless none).1).0 in
-      subst (λ l. HasOrder l named number) (sym held.orders) (record {
-        order = has.order;
-        live = contains_filter (λ (o : Order). o.account == account) m.orders has.order has.live (eq-eqb has.order.account account (has.account_is ∙ sym names));
-        account_is = has.account_is;
-        number_is = has.number_is;
-      })
-  may_do (AddAsset ticker) names none is = tt
-  may_do command names none is = tt
+  -- an amount may be added if the account has it after the step
+  may_change : (kind : Option ℕ) (amount : ℤ) → IsKind m.balances kind → IsHeld account n (changed h kind amount) → MayChange h kind amount
+  may_change None amount there is = money_fits (changed h None amount) is open_now
+  may_change (Some asset) amount there is =
+      let inside = asset_held asset there in
+      (inside, subst IsUnitBalance (one_changed asset amount) (units_fit (changed h (Some asset) amount) asset is open_now inside))
 
   above_all : (number : ℕ) → number ≡ m.next_order → All (λ (o : Order). o.number < number) h.orders
   above_all number is_next =
@@ -136,8 +103,8 @@ module _ (account : ℕ) (m n : Market) (h : Holding) (consistent : IsConsistent
   few_orders : length m.orders < most_orders → length h.orders < most_orders
   few_orders few = omega (arith, few, few_pass (λ (o : Order). o.account == account) m.orders, ap length held.orders)
 
-  may_order : (c : Command) (number : ℕ) → Names account c → FirstRefusal m c None → Accepts IsAdmissibleOutcome m c (Plain (reply.Order number)) n → MayOrder account h number c
-  may_order (Place last r) number names none accepts =
+  may_place : (last : Option ℕ) (r : Request) → r.account ≡ account → FirstRefusal m (Place last r) None → MayPlace account h m.next_order r
+  may_place last r own none =
       let one = past_unless none in
       let two = past_unless one.1 in
       let three = past_unless two.1 in
@@ -146,35 +113,28 @@ module _ (account : ℕ) (m n : Market) (h : Holding) (consistent : IsConsistent
       let six = past_unless five.1 in
       let seven = past_when six.1 in
       record {
-        own = sym names;
+        own = own;
         limits = two.0;
         rate = three.0;
         cap = four.0;
         row = five.0;
         few = few_orders (not_least most_orders (length m.orders) seven.0);
-        above = above_all number (same_order number m.next_order accepts.0);
+        above = above_all m.next_order refl;
       }
-  may_order command number names none accepts = tt
+
+  may_cancel : (number : ℕ) → FirstRefusal m (CancelOrder account number) None → HasOrder h.orders account number
+  may_cancel number none =
+      let has = (past_unless (past_unless none).1).0 in
+      subst (λ l. HasOrder l account number) (sym held.orders) (record {
+        order = has.order;
+        live = contains_filter (λ (o : Order). o.account == account) m.orders has.order has.live (eq-eqb has.order.account account has.account_is);
+        account_is = has.account_is;
+        number_is = has.number_is;
+      })
 
   -- the account is there
   is_open_there : is_there m account ≡ true
   is_open_there = sym held.opened ∙ open_now
-
-  -- what it has after its own command
-  own_after : (c : Command) (answer : Reply) → Names account c → Serves IsAdmissibleOutcome m c (Plain answer) n → IsHeld account n (after h (Asks c answer))
-  own_after c answer names serves =
-      subst (λ l. IsHeld account n (after_all h l)) (seen_named account account (is_there m account) c answer names ∙ ap (λ b. event_if b (Asks c answer)) both)
-      (told account m h consistent held (Ok c) (Plain answer) n serves)
-    where
-      both : (is_there m account && (account == account)) ≡ true
-      both = ap (λ b. b && (account == account)) is_open_there ∙ eq-eqb account account refl
-
-  pub may_make : (c : Command) (answer : Reply) → Names account c → Serves IsAdmissibleOutcome m c (Plain answer) n → MayMake account h c answer
-  may_make c reply.Done names serves = may_do c names (done_accepted m c n serves) (own_after c reply.Done names serves)
-  may_make c (reply.Order number) names serves = let both = order_accepted m c number n serves in may_order c number names both.0 both.1
-  may_make c (reply.Asset asset) names serves = tt
-  may_make c (reply.Account number) names serves = tt
-  may_make c (reply.Refused refusal) names serves = tt
 
   own_part : (c : Clearing) → IsAdmissibleClearing m.orders (start_prices m) c → HasOwn h.orders c
   own_part c right = record {
@@ -229,30 +189,76 @@ module _ (account : ℕ) (m n : Market) (h : Holding) (consistent : IsConsistent
           ∙ ap (λ b. event_if b (Clears batch k.prices (fills_for k.fills h.orders))) is_open_there)
           (told account m h consistent held (Ok c) (Batch batch (Cleared k)) n serves)
 
--- a new ticker can be added
-pub may_add : (account : ℕ) (m n : Market) (h : Holding) (ticker : List ℕ) (answer : Reply) → IsHeld account m h → Serves IsAdmissibleOutcome m (AddAsset ticker) (Plain answer) n → MayAdd h ticker answer
-may_add account m n h ticker (reply.Asset asset) held serves =
-    let none = asset_accepted m (AddAsset ticker) asset n serves in
-    let one = past_unless none in
-    let two = past_when one.1 in
-    let three = past_when two.1 in
-    subst (λ l. IsAddable l ticker) (sym held.tickers) (record { valid = one.0; absent = two.0; place = not_least _ _ three.0 })
-may_add account m n h ticker reply.Done held serves = tt
-may_add account m n h ticker (reply.Account number) held serves = tt
-may_add account m n h ticker (reply.Order number) held serves = tt
-may_add account m n h ticker (reply.Refused refusal) held serves = tt
+-- a refusal may be taken
+refused_may : (account : ℕ) (h : Holding) (c : Command) (r : Refusal) (e : Event) → seen_plain account h.is_open c (reply.Refused r) ≡ e ∷ [] → MayTake account h e
+refused_may account h (AddAsset ticker) r e is = absurd (no_events e is)
+refused_may account h OpenAccount r e is = absurd (no_events e is)
+refused_may account h (RunBatch budget) r e is = absurd (no_events e is)
+refused_may account h command r e is = subst (MayTake account h) (event_is _ (Refuses command r) e is).1 tt
 
--- the change of the account's own command may be made
-pub may_make_own : (s : Statement) (c : Command) (answer : Reply) (named : ℕ) → Names named c → (s.is_open && (named == s.account)) ≡ true → IsServed s c (Plain answer)
-    → MayMake s.account (holding_of s) c answer
-may_make_own s c answer named names own served =
-    let both = and_parts s.is_open (named == s.account) own in
-    may_make s.account served.market served.next (holding_of s) served.consistent served.consistent_next served.agrees both.0 c answer
-    (subst (λ k. Names k c) (eqb-true named s.account both.1) names) served.served
+module _ (account : ℕ) (m n : Market) (h : Holding) (consistent : IsConsistent m) (consistent_next : IsConsistent n) (held : IsHeld account m h) where
+  -- an event that is seen of a command of the account's own
+  own_event : (named : ℕ) (x e : Event) → event_if (h.is_open && (named == account)) x ≡ e ∷ [] → (h.is_open ≡ true) × (named ≡ account) × (x ≡ e)
+  own_event named x e is =
+      let both = event_is (h.is_open && (named == account)) x e is in
+      let parts = and_parts h.is_open (named == account) both.0 in
+      (parts.0, eqb-true named account parts.1, both.1)
+
+  -- what is seen of a command that was answered so
+  seen_as : (c : Command) (answer given : Reply) (e : Event) → seen_plain account h.is_open c answer ≡ e ∷ [] → ◌≡◌ {A = Answer Outcome} (Plain answer) (Plain given) → seen_plain account h.is_open c given ≡ e ∷ []
+  seen_as c answer given e is same = subst (λ x. seen_plain account h.is_open c x ≡ e ∷ []) (plain_is answer given same) is
+
+  -- the change of an amount may be made
+  amount_may : (named : ℕ) (x e : Event) (kind : Option ℕ) (amount : ℤ) → IsKind m.balances kind → (MayChange h kind amount → MayTake account h x) → after h x ≡ changed h kind amount
+      → event_if (h.is_open && (named == account)) x ≡ e ∷ [] → IsHeld account n (after h e) → MayTake account h e
+  amount_may named x e kind amount there may made is next =
+      let own = own_event named x e is in
+      subst (MayTake account h) own.2
+      (may (may_change account m n h consistent consistent_next held own.0 kind amount there (subst (IsHeld account n) (ap (after h) (sym own.2) ∙ made) next)))
+
+  accepted_may : (c : Command) (answer : Reply) (e : Event) → FirstRefusal m c None → Accepts IsAdmissibleOutcome m c (Plain answer) n → seen_plain account h.is_open c answer ≡ e ∷ [] → IsHeld account n (after h e) → MayTake account h e
+  accepted_may (AddAsset ticker) answer e none accepts is next =
+      let one = past_unless none in
+      let two = past_when one.1 in
+      let three = past_when two.1 in
+      subst (MayTake account h) (one_event (Adds ticker) e (seen_as (AddAsset ticker) answer (reply.Asset (length m.tickers)) e is accepts.0))
+      (subst (λ l. IsAddable l ticker) (sym held.tickers) (record { valid = one.0; absent = two.0; place = not_least _ _ three.0 }))
+  accepted_may OpenAccount answer e none accepts is next =
+      subst (MayTake account h) (event_is _ (Opens account) e (seen_as OpenAccount answer (reply.Account (account_count m.balances + 1)) e is accepts.0)).1 tt
+  accepted_may (DepositMoney named ticks) answer e none accepts is next =
+      amount_may named (Deposits None ticks) e None (value_of None ticks) tt (λ may. may) refl (seen_as (DepositMoney named ticks) answer reply.Done e is accepts.0) next
+  accepted_may (DepositAsset named asset units) answer e none accepts is next =
+      amount_may named (Deposits (Some asset) units) e (Some asset) (value_of (Some asset) units) (past_unless (past_unless none).1).0 (λ may. may) refl (seen_as (DepositAsset named asset units) answer reply.Done e is accepts.0) next
+  accepted_may (WithdrawMoney named ticks) answer e none accepts is next =
+      amount_may named (Withdraws None ticks) e None (neg_ℤ (value_of None ticks)) tt (λ may. may) refl (seen_as (WithdrawMoney named ticks) answer reply.Done e is accepts.0) next
+  accepted_may (WithdrawAsset named asset units) answer e none accepts is next =
+      amount_may named (Withdraws (Some asset) units) e (Some asset) (neg_ℤ (value_of (Some asset) units)) (past_unless (past_unless none).1).0 (λ may. may) refl (seen_as (WithdrawAsset named asset units) answer reply.Done e is accepts.0) next
+  accepted_may (Place last r) answer e none accepts is next =
+      let own = own_event r.account (Places m.next_order last r) e (seen_as (Place last r) answer (reply.Order m.next_order) e is accepts.0) in
+      subst (MayTake account h) own.2 (may_place account m n h consistent consistent_next held own.0 last r own.1 none)
+  accepted_may (CancelOrder named number) answer e none accepts is next =
+      let own = own_event named (Cancels number) e (seen_as (CancelOrder named number) answer reply.Done e is accepts.0) in
+      subst (MayTake account h) own.2 (may_cancel account m n h consistent consistent_next held own.0 number (subst (λ k. FirstRefusal m (CancelOrder k number) None) own.1 none))
+  accepted_may (RunBatch budget) answer e none accepts is next = absurd (no_events e is)
+  accepted_may (SetMoneyCredit named ticks) answer e none accepts is next =
+      subst (MayTake account h) (own_event named (Credits None ticks) e (seen_as (SetMoneyCredit named ticks) answer reply.Done e is accepts.0)).2 tt
+  accepted_may (SetUnitCredit named asset units) answer e none accepts is next =
+      subst (MayTake account h) (own_event named (Credits (Some asset) units) e (seen_as (SetUnitCredit named asset units) answer reply.Done e is accepts.0)).2 tt
+
+  pub may_take : (c : Command) (answer : Reply) (e : Event) → Serves IsAdmissibleOutcome m c (Plain answer) n → seen_plain account h.is_open c answer ≡ e ∷ [] → MayTake account h e
+  may_take c answer e serves is = by serves.first serves.refused serves.answered
+    where
+      next : IsHeld account n (after h e)
+      next = subst (λ l. IsHeld account n (after_all h l)) (ap (λ b. seen_plain account b c answer) (sym held.opened) ∙ is) (told account m h consistent held (Ok c) (Plain answer) n serves)
+
+      by : (first : Option Refusal) → FirstRefusal m c first → Answers IsAdmissibleOutcome m c first (Plain answer) n → MayTake account h e
+      by (Some r) refused answered = refused_may account h c r e (seen_as c answer (reply.Refused r) e is answered.0)
+      by None refused answered = accepted_may c answer e refused answered is next
+
+-- what an account sees of a command may be taken
+pub may_take_own : (s : Statement) (c : Command) (answer : Reply) (e : Event) → IsServed s c (Plain answer) → seen_plain s.account s.is_open c answer ≡ e ∷ [] → MayTake s.account (holding_of s) e
+may_take_own s c answer e served is = may_take s.account served.market served.next (holding_of s) served.consistent served.consistent_next served.agrees c answer e served.served is
 
 pub may_clear_own : (s : Statement) (c : Command) (batch : ℕ) (k : Clearing) → IsServed s c (Batch batch (Cleared k)) → s.is_open ≡ true → MayClear (holding_of s) k
 may_clear_own s c batch k served open_now =
     may_clear s.account served.market served.next (holding_of s) served.consistent served.consistent_next served.agrees open_now c batch k served.served
-
-pub may_add_own : (s : Statement) (ticker : List ℕ) (answer : Reply) → IsServed s (AddAsset ticker) (Plain answer) → MayAdd (holding_of s) ticker answer
-may_add_own s ticker answer served = may_add s.account served.market served.next (holding_of s) ticker answer served.agrees served.served

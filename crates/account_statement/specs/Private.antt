@@ -1,13 +1,12 @@
 -- Definitions that only private functions use.
-use Rattle.std.specs.Prelude.{◌≡◌, ℕ, ◌<◌, ◌≤◌, ◌==◌, if◌then◌else◌, ℤ, pos, neg_ℤ, ◌+ℤ◌, ◌-ℤ◌, List, [], ◌∷◌, ◌++◌, map, length, All, AllPairs, slice_index_or, ⊤}
+use Rattle.std.specs.Prelude.{◌≡◌, ℕ, ◌<◌, ◌≤◌, ◌==◌, if◌then◌else◌, ℤ, neg_ℤ, ◌+ℤ◌, ◌-ℤ◌, List, [], ◌∷◌, ◌++◌, map, length, All, AllPairs, slice_index_or, ⊤, Option, Some, None}
 use Rattle.list_sums.specs.Sums.{int_sum_by}
 use Rattle.weight_rows.specs.Rows.{IsWeightVector, IsPrice, IsPricedBy}
 use Rattle.demand_curve.specs.Demand.{most_rate}
 use Rattle.ticker_table.specs.Adding.{IsAddable}
-use Rattle.wire_records.specs.Commands.{Request, Command, AddAsset, OpenAccount, DepositMoney, DepositAsset, WithdrawMoney, WithdrawAsset, Place, CancelOrder, RunBatch, SetMoneyCredit, SetUnitCredit, Answer, Plain, Batch}
-use Rattle.wire_records.specs.declared.reply.Reply.{Reply}
-use Rattle.wire_records.specs.declared.reply.Reply.TheVariants as reply
-use Rattle.flow_accounts.specs.Balances.{grains}
+use Rattle.wire_records.specs.Commands.{Request, Command, Answer, Plain, Batch}
+use Rattle.wire_records.specs.Views.{command_of}
+use Rattle.flow_accounts.specs.Balances.{value_of}
 use Rattle.flow_accounts.specs.Lawful.{IsMoneyBalance, IsUnitBalance}
 use Rattle.flow_orders.specs.Orders.{Order, AreLimits, IsFrom1To, most_cap, most_orders, terms_of}
 use Rattle.flow_orders.specs.Outcomes.{Fill, Clearing, Outcome, Cleared, Skipped, IsAdmissibleOutcome}
@@ -15,9 +14,11 @@ use Rattle.flow_orders.specs.Trades.{Trade, trades, paid, received}
 use Rattle.order_book.specs.Book.{HasOrder}
 use Rattle.market_rules.specs.Market.{Market, IsConsistent}
 use Rattle.market_rules.specs.Step.{Serves}
-use Rattle.statement_rules.specs.Views.{Event, Clears, Skips, event_if, seen_plain}
+use Rattle.statement_rules.specs.Views.{Event, Adds, Opens, Deposits, Withdraws, Credits, Places, Cancels, Refuses, Clears, Skips, event_if, seen_plain}
 use Rattle.statement_rules.specs.Holdings.{Holding, after_all}
 use Rattle.statement_rules.specs.Statements.{lines_from}
+use Rattle.account_statement.specs.declared.event.Event as seen
+use Rattle.account_statement.specs.declared.event.Event.TheVariants as event
 use Rattle.account_statement.specs.Telling.{Statement, holding_of, Agrees}
 
 -- two holdings are alike: equal, and in the units of each asset equal as far as there are tickers
@@ -34,35 +35,18 @@ pub record AreAlike (one other : Holding) : Type 0 where
 abbrev pub HasOwnOrder : ℕ → List Order → Type 0
 HasOwnOrder account orders = (place : ℕ) × (place < length orders) × ((default : Order) → (slice_index_or orders place default).account ≡ account)
 
--- ---- which account a command names
+-- ---- what an account sees of a command
 
--- a command names this account
-abbrev pub Names : ℕ → Command → Type 0
-Names named (AddAsset ticker) = ⊥
-Names named OpenAccount = ⊥
-Names named (DepositMoney account ticks) = named ≡ account
-Names named (DepositAsset account asset units) = named ≡ account
-Names named (WithdrawMoney account ticks) = named ≡ account
-Names named (WithdrawAsset account asset units) = named ≡ account
-Names named (Place last request) = named ≡ request.account
-Names named (CancelOrder account number) = named ≡ account
-Names named (RunBatch budget) = ⊥
-Names named (SetMoneyCredit account ticks) = named ≡ account
-Names named (SetUnitCredit account asset units) = named ≡ account
-
--- the command names no account
-abbrev pub NamesNone : Command → Type 0
-NamesNone (AddAsset ticker) = ⊤
-NamesNone OpenAccount = ⊤
-NamesNone (DepositMoney account ticks) = ⊥
-NamesNone (DepositAsset account asset units) = ⊥
-NamesNone (WithdrawMoney account ticks) = ⊥
-NamesNone (WithdrawAsset account asset units) = ⊥
-NamesNone (Place last request) = ⊥
-NamesNone (CancelOrder account number) = ⊥
-NamesNone (RunBatch budget) = ⊤
-NamesNone (SetMoneyCredit account ticks) = ⊥
-NamesNone (SetUnitCredit account asset units) = ⊥
+-- the event that a value of the code is
+abbrev pub event_of : seen.Event → Event
+event_of (event.Adds ticker) = Adds ticker.now
+event_of (event.Opens account) = Opens account
+event_of (event.Deposits asset count) = Deposits asset count
+event_of (event.Withdraws asset count) = Withdraws asset count
+event_of (event.Credits asset count) = Credits asset count
+event_of (event.Places number last place) = Places number last place.now
+event_of (event.Cancels number) = Cancels number
+event_of (event.Refuses command refusal) = Refuses (command_of command.now) refusal
 
 -- ---- the rates of own orders
 
@@ -134,49 +118,23 @@ pub record MayPlace (account : ℕ) (h : Holding) (number : ℕ) (r : Request) :
   pub few : length h.orders < most_orders
   pub above : All (λ (o : Order). o.number < number) h.orders
 
--- a command that may be done: its amount fits, its asset is there, and so is the order that it cancels
-abbrev pub MayDo : Holding → Command → Type 0
-MayDo h (DepositMoney account ticks) = IsMoneyBalance (h.money +ℤ grains ticks)
-MayDo h (DepositAsset account asset units) = (asset < length h.tickers) × IsUnitBalance (h.units asset +ℤ pos units)
-MayDo h (WithdrawMoney account ticks) = IsMoneyBalance (h.money +ℤ neg_ℤ (grains ticks))
-MayDo h (WithdrawAsset account asset units) = (asset < length h.tickers) × IsUnitBalance (h.units asset +ℤ neg_ℤ (pos units))
-MayDo h (CancelOrder account number) = HasOrder h.orders account number
-MayDo h (AddAsset ticker) = ⊤
-MayDo h OpenAccount = ⊤
-MayDo h (Place last request) = ⊤
-MayDo h (RunBatch budget) = ⊤
-MayDo h (SetMoneyCredit account ticks) = ⊤
-MayDo h (SetUnitCredit account asset units) = ⊤
+-- a change of what the account has of a kind that may be made: the asset is there, and the balance after it fits
+abbrev pub MayChange : Holding → Option ℕ → ℤ → Type 0
+MayChange h None amount = IsMoneyBalance (h.money +ℤ amount)
+MayChange h (Some asset) amount = (asset < length h.tickers) × IsUnitBalance (h.units asset +ℤ amount)
 
--- the order that a command places may be added
-abbrev pub MayOrder : ℕ → Holding → ℕ → Command → Type 0
-MayOrder account h number (Place last r) = MayPlace account h number r
-MayOrder account h number (AddAsset ticker) = ⊤
-MayOrder account h number OpenAccount = ⊤
-MayOrder account h number (DepositMoney named ticks) = ⊤
-MayOrder account h number (DepositAsset named asset units) = ⊤
-MayOrder account h number (WithdrawMoney named ticks) = ⊤
-MayOrder account h number (WithdrawAsset named asset units) = ⊤
-MayOrder account h number (CancelOrder named order) = ⊤
-MayOrder account h number (RunBatch budget) = ⊤
-MayOrder account h number (SetMoneyCredit named ticks) = ⊤
-MayOrder account h number (SetUnitCredit named asset units) = ⊤
-
--- the change of an answered command may be made
-abbrev pub MayMake : ℕ → Holding → Command → Reply → Type 0
-MayMake account h command reply.Done = MayDo h command
-MayMake account h command (reply.Order number) = MayOrder account h number command
-MayMake account h command (reply.Asset asset) = ⊤
-MayMake account h command (reply.Account number) = ⊤
-MayMake account h command (reply.Refused refusal) = ⊤
-
--- the ticker of an asset that is added is valid and isn't there yet
-abbrev pub MayAdd : Holding → List ℕ → Reply → Type 0
-MayAdd h ticker (reply.Asset asset) = IsAddable h.tickers ticker
-MayAdd h ticker reply.Done = ⊤
-MayAdd h ticker (reply.Account number) = ⊤
-MayAdd h ticker (reply.Order number) = ⊤
-MayAdd h ticker (reply.Refused refusal) = ⊤
+-- an event that may be taken: its ticker can be added, its amount fits, its order may be added or is there; of a batch see `MayClear`
+abbrev pub MayTake : ℕ → Holding → Event → Type 0
+MayTake account h (Adds ticker) = IsAddable h.tickers ticker
+MayTake account h (Opens number) = ⊤
+MayTake account h (Deposits kind count) = MayChange h kind (value_of kind count)
+MayTake account h (Withdraws kind count) = MayChange h kind (neg_ℤ (value_of kind count))
+MayTake account h (Credits kind count) = ⊤
+MayTake account h (Places number last r) = MayPlace account h number r
+MayTake account h (Cancels number) = HasOrder h.orders account number
+MayTake account h (Refuses command refusal) = ⊤
+MayTake account h (Clears batch prices fills) = ⊤
+MayTake account h (Skips batch) = ⊤
 
 -- a clearing has a rate of each own order, which is within its batch maximum, and a price of each asset
 pub record HasOwn (orders : List Order) (c : Clearing) : Type 0 where

@@ -1,25 +1,27 @@
 //! What entries change in what a statement holds.
-ghost use Rattle.std.specs.Prelude.{◌≡◌, ℕ, ◌<◌, ◌≤◌, ◌++◌, ◌+ℤ◌, ◌-ℤ◌, [], ◌∷◌, length, All, OnOk, OnErr};
+ghost use Rattle.std.specs.Prelude.{◌≡◌, ℕ, ◌<◌, ◌≤◌, ◌++◌, ◌^◌, ◌+ℤ◌, ◌-ℤ◌, [], ◌∷◌, length, unsigned_abs, Some, All, OnOk, OnErr};
 ghost use Rattle.list_sums.specs.Sums.{int_sum_by};
 ghost use Rattle.ticker_table.specs.Adding.{IsAddable};
-ghost use Rattle.wire_records.specs.Views.{command_of};
+ghost use Rattle.flow_accounts.specs.Balances.{value_of as amount_of};
 ghost use Rattle.flow_accounts.specs.Lawful.{IsMoneyBalance, IsUnitBalance};
 ghost use Rattle.flow_orders.specs.Orders.{terms_of};
 ghost use Rattle.flow_orders.specs.Outcomes.{residuals_of};
 ghost use Rattle.flow_orders.specs.Residuals.{residual_in};
 ghost use Rattle.flow_orders.specs.Trades.{Trade, trades, staying, going_on, paid};
+ghost use Rattle.order_book.specs.Book.{HasOrder, without};
 ghost use Rattle.statement_rules.specs.Views.{Adds, Clears};
-ghost use Rattle.statement_rules.specs.Holdings.{units_changed, ordered, after, after_done, after_placing, after_asked};
+ghost use Rattle.statement_rules.specs.Holdings.{changed, ordered, after};
 ghost use Rattle.account_statement.specs.Telling.{holding_of};
-ghost use Rattle.account_statement.specs.Private.{AreAlike, Tells, MayPlace, MayDo, MayOrder, MayMake, MayClear, rates_for, fills_for, trades_for};
+ghost use Rattle.account_statement.specs.Private.{event_of, AreAlike, MayPlace, MayChange, MayTake, MayClear, rates_for, fills_for, trades_for};
 
 use crate::Statement;
 use crate::batch::{OwnPart, add_brought};
+use crate::event::Event;
 use flow_accounts::grains_of;
 use flow_orders::Order;
 use journal_records::ClearedView;
 use weight_rows::WeightRow;
-use wire_records::{CommandView, Memory, PlaceView, Reply};
+use wire_records::{Memory, PlaceView};
 
 // Returns the 8 bytes of a ticker.
 fn ticker_of(bytes: &[u8]) -> [u8; 8]
@@ -39,51 +41,51 @@ fn sum_of(units: i64, amount: i128) -> i64
     (i128::from(units) + amount) as i64
 }
 
+// Returns a count of ticks in grains if no asset is given, and else a count of units.
+fn value_of(asset: Option<u16>, count: u64) -> i128
+    ensures value { result ≡ amount_of asset count }
+    ensures small { unsigned_abs result < 2 ^ 96 }
+{
+    match asset {
+        None => grains_of(count),
+        Some(_) => i128::from(count),
+    }
+}
+
 impl Statement {
-    // Makes the change of an answered command of the account's own.
-    pub(crate) fn make(&mut self, command: &CommandView<'_>, answer: Reply) -> Result<(), Memory>
-        requires { MayMake self.old.account (holding_of self.old) (command_of command.now) answer }
+    // Makes the change of what is seen of a command.
+    pub(crate) fn make(&mut self, event: &Event<'_>) -> Result<(), Memory>
+        requires { MayTake self.old.account (holding_of self.old) (event_of event.now) }
         ensures account { self.new.account ≡ self.old.account }
-        ensures after { OnOk result (AreAlike (holding_of self.new) (after_asked (holding_of self.old) (command_of command.now) answer)) }
+        ensures after { OnOk result (AreAlike (holding_of self.new) (after (holding_of self.old) (event_of event.now))) }
         ensures stays { OnErr result (self.new ≡ self.old) }
     {
-        match answer {
-            Reply::Done => {
-                self.make_done(command);
-                Ok(())
-            }
-            Reply::Order(number) => self.make_order(number, command),
-            Reply::Asset(_) => Ok(()),
-            Reply::Account(_) => Ok(()),
-            Reply::Refused(_) => Ok(()),
+        match *event {
+            Event::Adds(ticker) => self.add_asset(ticker)?,
+            Event::Opens(_) => self.is_open = true,
+            Event::Deposits { asset, count } => self.change(asset, value_of(asset, count)),
+            Event::Withdraws { asset, count } => self.change(asset, -value_of(asset, count)),
+            Event::Credits { .. } => {}
+            Event::Places {
+                number,
+                last,
+                place,
+            } => self.place(number, last, place)?,
+            Event::Cancels(number) => self.cancel(number),
+            Event::Refuses { .. } => {}
         }
+        Ok(())
     }
 
-    // Makes the change of a command that was done.
-    fn make_done(&mut self, command: &CommandView<'_>)
-        requires { MayDo (holding_of self.old) (command_of command.now) }
+    // Changes what the account has of money, in grains, if no asset is given, and else its units of this asset.
+    fn change(&mut self, asset: Option<u16>, amount: i128)
+        requires { MayChange (holding_of self.old) asset amount }
         ensures account { self.new.account ≡ self.old.account }
-        ensures after { AreAlike (holding_of self.new) (after_done (holding_of self.old) (command_of command.now)) }
+        ensures after { AreAlike (holding_of self.new) (changed (holding_of self.old) asset amount) }
     {
-        match *command {
-            CommandView::DepositMoney { ticks, .. } => self.add_money(grains_of(ticks)),
-            CommandView::WithdrawMoney { ticks, .. } => self.add_money(-grains_of(ticks)),
-            CommandView::DepositAsset { asset, units, .. } => {
-                self.add_units(asset, i128::from(units))
-            }
-            CommandView::WithdrawAsset { asset, units, .. } => {
-                self.add_units(asset, -i128::from(units))
-            }
-            CommandView::CancelOrder { account, order } => {
-                let _there = self.book.cancel(account, order);
-            }
-            CommandView::AddAsset(_) => {}
-            CommandView::OpenAccount => {}
-            CommandView::PlaceOrder(_) => {}
-            CommandView::RunBatch { .. } => {}
-            CommandView::PlaceUntil { .. } => {}
-            CommandView::SetMoneyCredit { .. } => {}
-            CommandView::SetUnitCredit { .. } => {}
+        match asset {
+            None => self.add_money(amount),
+            Some(asset) => self.add_units(asset, amount),
         }
     }
 
@@ -100,34 +102,11 @@ impl Statement {
         requires there { asset < length self.old.tickers }
         requires fits { IsUnitBalance ((holding_of self.old).units asset +ℤ amount) }
         ensures account { self.new.account ≡ self.old.account }
-        ensures after { AreAlike (holding_of self.new) (record (holding_of self.old) { units = units_changed (holding_of self.old).units asset amount }) }
+        ensures after { AreAlike (holding_of self.new) (changed (holding_of self.old) (Some asset) amount) }
     {
         let place = usize::from(asset);
         let units = sum_of(self.units_held(asset), amount);
         self.units[place] = units;
-    }
-
-    // Makes the change of a command that placed the order of a number.
-    fn make_order(&mut self, number: u64, command: &CommandView<'_>) -> Result<(), Memory>
-        requires { MayOrder self.old.account (holding_of self.old) number (command_of command.now) }
-        ensures account { self.new.account ≡ self.old.account }
-        ensures after { OnOk result (AreAlike (holding_of self.new) (after_placing (holding_of self.old) number (command_of command.now))) }
-        ensures stays { OnErr result (self.new ≡ self.old) }
-    {
-        match *command {
-            CommandView::PlaceOrder(ref place) => self.place(number, None, place),
-            CommandView::PlaceUntil { last, ref place } => self.place(number, Some(last), place),
-            CommandView::AddAsset(_) => Ok(()),
-            CommandView::OpenAccount => Ok(()),
-            CommandView::DepositMoney { .. } => Ok(()),
-            CommandView::DepositAsset { .. } => Ok(()),
-            CommandView::WithdrawMoney { .. } => Ok(()),
-            CommandView::WithdrawAsset { .. } => Ok(()),
-            CommandView::CancelOrder { .. } => Ok(()),
-            CommandView::RunBatch { .. } => Ok(()),
-            CommandView::SetMoneyCredit { .. } => Ok(()),
-            CommandView::SetUnitCredit { .. } => Ok(()),
-        }
     }
 
     // Adds the order that was placed under a number.
@@ -152,10 +131,19 @@ impl Statement {
         Ok(())
     }
 
+    // Cancels a live order.
+    fn cancel(&mut self, number: u64)
+        requires { HasOrder self.old.orders self.old.account number }
+        ensures { self.new ≡ record (self.old) { orders = without self.old.orders number } }
+    {
+        let _there = self.book.cancel(self.account, number);
+    }
+
     // Adds an asset, of which the account has nothing.
     pub(crate) fn add_asset(&mut self, ticker: &[u8]) -> Result<(), Memory>
         requires { IsAddable self.old.tickers ticker.now }
-        ensures told { OnOk result (Tells (Adds ticker.now ∷ []) self.old self.new [] []) }
+        ensures account { self.new.account ≡ self.old.account }
+        ensures after { OnOk result (AreAlike (holding_of self.new) (after (holding_of self.old) (Adds ticker.now))) }
         ensures stays { OnErr result (self.new ≡ self.old) }
     {
         self.units.reserve(1)?;

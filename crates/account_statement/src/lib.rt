@@ -17,7 +17,7 @@
 mod batch;
 mod carried;
 mod changes;
-mod named;
+mod event;
 mod rates;
 mod statement;
 mod telling;

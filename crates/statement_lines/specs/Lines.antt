@@ -7,6 +7,10 @@ use Rattle.pair_text.specs.Texts.{◌then◌, asset_name}
 abbrev pub opening_line : ℕ → List ℕ
 opening_line account = codes "account " then decimal account then codes "\n"
 
+-- the line of a cancel
+abbrev pub cancel_line : ℕ → List ℕ
+cancel_line number = codes "cancel " then decimal number then codes "\n"
+
 -- the line of a refusal
 abbrev pub refused_line : ℕ → List ℕ
 refused_line code = codes "refused " then decimal code then codes "\n"

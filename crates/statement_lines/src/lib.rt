@@ -16,5 +16,6 @@ mod last;
 mod orders;
 
 pub use batches::{put_cleared, put_cost, put_skipped};
-pub use commands::{put_asked, put_opening};
+pub use commands::{put_amount, put_cancel, put_opening, put_refused};
 pub use last::{put_asset, put_money};
+pub use orders::put_order;

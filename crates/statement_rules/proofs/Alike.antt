@@ -1,21 +1,18 @@
 -- Holdings that agree with one market give the same text.
-use Rattle.std.proofs.Common.{◌≡◌, ℕ, zero, suc, ◌+◌, ◌<◌, List, [], ◌∷◌, ◌++◌, length, refl, sym, ap, ◌∙◌, arith, Some, None}
+use Rattle.std.proofs.Common.{◌≡◌, ℕ, zero, suc, ◌+◌, ◌<◌, List, [], ◌∷◌, ◌++◌, length, refl, sym, ap, ◌∙◌, arith, Option, Some, None, ℤ, neg_ℤ}
 use Rattle.std.specs.List.{flat_map, range_with_len, sum_by}
 use Rattle.std.specs.Prelude.{codes, decimal}
 use Rattle.std.specs.Fmt.{signed_decimal}
-use Rattle.wire_records.specs.Commands.{Command, Place, CancelOrder}
-use Rattle.wire_records.specs.declared.reply.Reply.{Reply}
-use Rattle.wire_records.specs.declared.reply.Reply.TheVariants.{Done, Asset, Account, Order, Refused}
 use Rattle.flow_orders.specs.Orders.{money_need, unit_need}
 use Rattle.order_book.specs.Book.{without}
 use Rattle.flow_orders.specs.Outcomes.{trades_of}
 use Rattle.flow_orders.specs.Trades.{staying, going_on}
-use Rattle.flow_accounts.specs.Balances.{IsAsset}
+use Rattle.flow_accounts.specs.Balances.{IsAsset, value_of}
 use Rattle.market_rules.specs.Market.{Market}
 use Rattle.pair_text.specs.Texts.{◌then◌, asset_name}
-use Rattle.statement_rules.specs.Views.{Event, Adds, Opens, Asks, Clears, Skips}
-use Rattle.statement_rules.specs.Holdings.{Holding, ordered, after, after_done, after_placing, after_asked, IsHeld}
-use Rattle.statement_rules.specs.Statements.{event_lines, lines_from, asset_line, asked_line, cost_line, end_lines, reserved_balance}
+use Rattle.statement_rules.specs.Views.{Event, Adds, Opens, Deposits, Withdraws, Credits, Places, Cancels, Refuses, Clears, Skips}
+use Rattle.statement_rules.specs.Holdings.{Holding, changed, ordered, after, IsHeld}
+use Rattle.statement_rules.specs.Statements.{event_lines, lines_from, asset_line, amount_line, placed_line, cost_line, end_lines, reserved_balance}
 use Rattle.statement_rules.specs.Laws.{HoldingsTellAlike}
 
 -- the holdings have the same assets and the same orders
@@ -23,32 +20,31 @@ record IsLike (h g : Holding) : Type 0 where
   tickers : h.tickers ≡ g.tickers
   orders : h.orders ≡ g.orders
 
-like_done : (h g : Holding) (c : Command) → IsLike h g → IsLike (after_done h c) (after_done g c)
-like_done h g (CancelOrder named number) like = record { tickers = like.tickers; orders = ap (λ l. without l number) like.orders }
-like_done h g command like = record { tickers = like.tickers; orders = like.orders }
-
-like_placing : (h g : Holding) (n : ℕ) (c : Command) → IsLike h g → IsLike (after_placing h n c) (after_placing g n c)
-like_placing h g n (Place last r) like = record { tickers = like.tickers; orders = ap (λ l. l ++ ordered n last r ∷ []) like.orders }
-like_placing h g n command like = record { tickers = like.tickers; orders = like.orders }
-
-like_asked : (h g : Holding) (c : Command) (answer : Reply) → IsLike h g → IsLike (after_asked h c answer) (after_asked g c answer)
-like_asked h g c Done like = like_done h g c like
-like_asked h g c (Asset n) like = like
-like_asked h g c (Account n) like = like
-like_asked h g c (Order n) like = like_placing h g n c like
-like_asked h g c (Refused refusal) like = like
+like_changed : (h g : Holding) (kind : Option ℕ) (amount : ℤ) → IsLike h g → IsLike (changed h kind amount) (changed g kind amount)
+like_changed h g None amount like = record { tickers = like.tickers; orders = like.orders }
+like_changed h g (Some asset) amount like = record { tickers = like.tickers; orders = like.orders }
 
 like_after : (h g : Holding) (event : Event) → IsLike h g → IsLike (after h event) (after g event)
 like_after h g (Adds ticker) like = record { tickers = ap (λ l. l ++ ticker ∷ []) like.tickers; orders = like.orders }
 like_after h g (Opens account) like = record { tickers = like.tickers; orders = like.orders }
-like_after h g (Asks c answer) like = like_asked h g c answer like
+like_after h g (Deposits kind count) like = like_changed h g kind (value_of kind count) like
+like_after h g (Withdraws kind count) like = like_changed h g kind (neg_ℤ (value_of kind count)) like
+like_after h g (Credits kind count) like = like
+like_after h g (Places number last r) like = record { tickers = like.tickers; orders = ap (λ l. l ++ ordered number last r ∷ []) like.orders }
+like_after h g (Cancels number) like = record { tickers = like.tickers; orders = ap (λ l. without l number) like.orders }
+like_after h g (Refuses command refusal) like = like
 like_after h g (Clears batch prices fills) like = record { tickers = like.tickers; orders = ap (λ l. going_on batch (staying (trades_of l fills))) like.orders }
 like_after h g (Skips batch) like = record { tickers = like.tickers; orders = ap (going_on batch) like.orders }
 
 like_event : (h g : Holding) (event : Event) → IsLike h g → event_lines h event ≡ event_lines g event
 like_event h g (Adds ticker) like = refl
 like_event h g (Opens account) like = refl
-like_event h g (Asks c answer) like = ap (λ tickers. asked_line tickers c answer) like.tickers
+like_event h g (Deposits kind count) like = ap (λ tickers. amount_line (codes "deposit") tickers kind count) like.tickers
+like_event h g (Withdraws kind count) like = ap (λ tickers. amount_line (codes "withdraw") tickers kind count) like.tickers
+like_event h g (Credits kind count) like = ap (λ tickers. amount_line (codes "credit") tickers kind count) like.tickers
+like_event h g (Places number last r) like = ap (λ tickers. placed_line tickers number last r) like.tickers
+like_event h g (Cancels number) like = refl
+like_event h g (Refuses command refusal) like = refl
 like_event h g (Clears batch prices fills) like = ap (λ l. codes "batch " then decimal batch then codes " cleared\n" then flat_map (cost_line prices) (trades_of l fills)) like.orders
 like_event h g (Skips batch) like = refl
 

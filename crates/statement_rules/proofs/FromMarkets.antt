@@ -11,7 +11,7 @@ use Rattle.flow_orders.specs.Outcomes.{Outcome}
 use Rattle.market_rules.specs.Market.{Market, IsConsistent, empty_market}
 use Rattle.statement_rules.specs.Views.{Event, Sees, is_there}
 use Rattle.statement_rules.specs.Holdings.{Holding, nothing, after_all, held_in, IsHeld}
-use Rattle.statement_rules.specs.Statements.{lines_from, end_lines, view_text, statement, carried_lines, text_from, statement_from, IsStatementFrom}
+use Rattle.statement_rules.specs.Statements.{lines_from, end_lines, view_text, carried_lines, text_from, statement_from}
 use Rattle.statement_rules.specs.Laws.{JournalsCarryNothing, OneStatementFrom, EqualStartsEqualStatements, StatementsJoin}
 use Rattle.statement_rules.proofs.Told.{there_is, is_account}
 use Rattle.statement_rules.proofs.Alike.{holdings_tell_alike}

@@ -1,5 +1,5 @@
 -- Texts that are continued, accounts that aren't there, and the rates of own orders.
-use Rattle.std.proofs.Common.{◌≡◌, ℕ, Bool, true, false, ◌&&◌, List, [], ◌∷◌, ◌++◌, Result, Ok, Err, refl, sym, ap, ◌∙◌}
+use Rattle.std.proofs.Common.{◌≡◌, ℕ, Bool, true, false, ◌&&◌, ℤ, neg_ℤ, List, [], ◌∷◌, ◌++◌, Option, Some, None, Result, Ok, Err, refl, sym, ap, ◌∙◌}
 use Rattle.std.specs.Prelude.{◌==◌}
 use Rattle.std.proofs.lemmas.Bool.{true≢false, false_from_ne_true}
 use Rattle.std.proofs.lemmas.List.{append_assoc}
@@ -8,11 +8,12 @@ use Rattle.wire_records.specs.Commands.{Command, AddAsset, OpenAccount, RunBatch
 use Rattle.wire_records.specs.declared.command.BodyFault.{BodyFault}
 use Rattle.wire_records.specs.declared.reply.Reply.{Reply}
 use Rattle.wire_records.specs.declared.reply.Reply.TheVariants.{Done, Asset, Account, Order, Refused}
+use Rattle.flow_accounts.specs.Balances.{value_of}
 use Rattle.flow_orders.specs.Outcomes.{Outcome, Cleared, Skipped}
 use Rattle.market_rules.specs.Market.{Market, IsConsistent, empty_market}
 use Rattle.market_rules.proofs.Consistency.{consistent-empty}
-use Rattle.statement_rules.specs.Views.{Sees, Event, Adds, Opens, Asks, Clears, Skips, is_there, event_if, seen, seen_plain}
-use Rattle.statement_rules.specs.Holdings.{Holding, nothing, after, after_done, after_placing, after_all, IsHeld}
+use Rattle.statement_rules.specs.Views.{Sees, Event, Opens, Deposits, Withdraws, is_there, event_if, seen, seen_plain}
+use Rattle.statement_rules.specs.Holdings.{Holding, nothing, changed, after, after_all, IsHeld}
 use Rattle.statement_rules.specs.Statements.{event_lines, lines_from}
 use Rattle.statement_rules.specs.Laws.{TextsGoOn, AbsentAccountsHaveNoText}
 use Rattle.statement_rules.proofs.Told.{told, is_account}
@@ -27,24 +28,15 @@ texts_go_on v w = lines_both v nothing w
 
 -- ---- an account that was opened stays there
 
-done_stays : (h : Holding) (c : Command) → (after_done h c).is_open ≡ h.is_open
-done_stays h (AddAsset ticker) = refl
-done_stays h command = refl
-
-placing_stays : (h : Holding) (n : ℕ) (c : Command) → (after_placing h n c).is_open ≡ h.is_open
-placing_stays h n (AddAsset ticker) = refl
-placing_stays h n command = refl
+changed_stays : (h : Holding) (kind : Option ℕ) (amount : ℤ) → (changed h kind amount).is_open ≡ h.is_open
+changed_stays h None amount = refl
+changed_stays h (Some asset) amount = refl
 
 stays : (h : Holding) (event : Event) → (after h event).is_open ≡ false → h.is_open ≡ false
-stays h (Adds ticker) closed = closed
 stays h (Opens account) closed = absurd (true≢false closed)
-stays h (Asks c Done) closed = sym (done_stays h c) ∙ closed
-stays h (Asks c (Order n)) closed = sym (placing_stays h n c) ∙ closed
-stays h (Asks c (Asset n)) closed = closed
-stays h (Asks c (Account n)) closed = closed
-stays h (Asks c (Refused r)) closed = closed
-stays h (Clears batch prices fills) closed = closed
-stays h (Skips batch) closed = closed
+stays h (Deposits kind count) closed = sym (changed_stays h kind (value_of kind count)) ∙ closed
+stays h (Withdraws kind count) closed = sym (changed_stays h kind (neg_ℤ (value_of kind count))) ∙ closed
+stays h event closed = closed
 
 pub all_stay : (v : List Event) (h : Holding) → (after_all h v).is_open ≡ false → h.is_open ≡ false
 all_stay [] h closed = closed
@@ -63,19 +55,25 @@ no_opening : (h : Holding) (b : Bool) (account : ℕ) → (after_all h (event_if
 no_opening h true account closed = absurd (true≢false closed)
 no_opening h false account closed = refl
 
+no_asset : (account : ℕ) (h : Holding) (there : Bool) (ticker : List ℕ) (reply : Reply) → lines_from h (seen_plain account there (AddAsset ticker) reply) ≡ []
+no_asset account h there ticker Done = refl
+no_asset account h there ticker (Asset n) = refl
+no_asset account h there ticker (Account n) = refl
+no_asset account h there ticker (Order n) = refl
+no_asset account h there ticker (Refused refusal) = refl
+
+not_opened : (account : ℕ) (h : Holding) (there : Bool) (reply : Reply) → (after_all h (seen_plain account there OpenAccount reply)).is_open ≡ false → lines_from h (seen_plain account there OpenAccount reply) ≡ []
+not_opened account h there Done closed = no_opening h (0 == account) account closed
+not_opened account h there (Asset n) closed = no_opening h (n == account) account closed
+not_opened account h there (Account n) closed = no_opening h (n == account) account closed
+not_opened account h there (Order n) closed = no_opening h (n == account) account closed
+not_opened account h there (Refused refusal) closed = refl
+
 no_lines : (account : ℕ) (h : Holding) (there : Bool) (c : Command) (reply : Reply) → there ≡ false → (after_all h (seen_plain account there c reply)).is_open ≡ false → lines_from h (seen_plain account there c reply) ≡ []
-no_lines account h there (AddAsset ticker) Done not_there closed = refl
-no_lines account h there (AddAsset ticker) (Asset n) not_there closed = refl
-no_lines account h there (AddAsset ticker) (Account n) not_there closed = refl
-no_lines account h there (AddAsset ticker) (Order n) not_there closed = refl
-no_lines account h there (AddAsset ticker) (Refused refusal) not_there closed = refl
-no_lines account h there OpenAccount Done not_there closed = refl
-no_lines account h there OpenAccount (Asset n) not_there closed = refl
-no_lines account h there OpenAccount (Account n) not_there closed = no_opening h (n == account) account closed
-no_lines account h there OpenAccount (Order n) not_there closed = refl
-no_lines account h there OpenAccount (Refused refusal) not_there closed = refl
+no_lines account h there (AddAsset ticker) reply not_there closed = no_asset account h there ticker reply
+no_lines account h there OpenAccount reply not_there closed = not_opened account h there reply closed
 no_lines account h there (RunBatch budget) reply not_there closed = refl
-no_lines account h there command reply not_there closed = not_seen h _ (Asks command reply) (not_own there _ not_there)
+no_lines account h there command reply not_there closed = not_seen h _ _ (not_own there _ not_there)
 
 pub quiet : (account : ℕ) (m : Market) (h : Holding) (read : Result Command BodyFault) (a : Answer Outcome) → is_there m account ≡ false → (after_all h (seen account m read a)).is_open ≡ false → lines_from h (seen account m read a) ≡ []
 quiet account m h (Ok c) (Plain reply) not_there closed = no_lines account h (is_there m account) c reply not_there closed

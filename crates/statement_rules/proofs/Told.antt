@@ -23,8 +23,8 @@ use Rattle.market_rules.specs.Market.{Market, IsConsistent}
 use Rattle.market_rules.specs.Step.{FirstRefusal, Accepts, Answers, ServesRead, placed, after_batch}
 use Rattle.market_rules.proofs.Accepted.{past_unless}
 use Rattle.market_rules.proofs.Lawful.{consistent_is_lawful}
-use Rattle.statement_rules.specs.Views.{Event, Adds, Opens, Asks, Clears, Skips, is_there, event_if, seen, own_trades, own_fills}
-use Rattle.statement_rules.specs.Holdings.{Holding, IsHeld, after, after_all, own_orders, units_changed}
+use Rattle.statement_rules.specs.Views.{Event, Adds, Opens, Deposits, Withdraws, Credits, Places, Cancels, Refuses, Clears, Skips, is_there, event_if, seen, own_trades, own_fills}
+use Rattle.statement_rules.specs.Holdings.{Holding, IsHeld, after, after_all, own_orders, changed}
 use Rattle.statement_rules.proofs.Lists.{filters_swap, own_sum_is}
 use Rattle.statement_rules.proofs.OwnParts.{own_again, own_going_on, none_own, others_cancel, no_money, no_units}
 
@@ -87,7 +87,7 @@ module _ (account : ℕ) (m : Market) (h : Holding) (consistent : IsConsistent m
       by_units some asset (inr not_so) = no_units b account asset some (absent not_so) ∙ sym (no_units m.balances account asset some (isn't_account m account not_so))
 
   -- money of an account changes
-  told_money : (named : ℕ) (amount : ℤ) (event : Event) → IsAccount m.balances named → after h event ≡ record h { money = h.money +ℤ amount }
+  told_money : (named : ℕ) (amount : ℤ) (event : Event) → IsAccount m.balances named → after h event ≡ changed h None amount
       → IsHeld account (record m { balances = change_balance m.balances named None amount }) (after_all h (event_if (is_there m account && (named == account)) event))
   told_money named amount event there is =
       let changes = money_changes m.balances named amount there in
@@ -103,27 +103,27 @@ module _ (account : ℕ) (m : Market) (h : Holding) (consistent : IsConsistent m
       (λ not_so. same_balances n.balances changes.accounts refl (λ here. changes.others account here (λ same. unseen named there not_so (sym same))) (λ asset here. changes.units account asset))
 
   -- units of an account change
-  told_units : (named changed : ℕ) (amount : ℤ) (event : Event) → IsAccount m.balances named → IsAsset m.balances changed → after h event ≡ record h { units = units_changed h.units changed amount }
-      → IsHeld account (record m { balances = change_balance m.balances named (Some changed) amount }) (after_all h (event_if (is_there m account && (named == account)) event))
-  told_units named changed amount event there is_changed is =
+  told_units : (named moved : ℕ) (amount : ℤ) (event : Event) → IsAccount m.balances named → IsAsset m.balances moved → after h event ≡ changed h (Some moved) amount
+      → IsHeld account (record m { balances = change_balance m.balances named (Some moved) amount }) (after_all h (event_if (is_there m account && (named == account)) event))
+  told_units named moved amount event there is_changed is =
       told_if account n h (is_there m account && (named == account)) event
       (λ is_so. subst (IsHeld account n) (sym is) (record {
         tickers = held.tickers;
         opened = held.opened ∙ same_there m n account changes.accounts;
         money = λ some. held.money some ∙ sym (changes.money account);
-        units = λ some asset is_asset. at some asset (subst (λ k. asset < k) changes.assets is_asset) (seen_names named is_so) (eqb_tells asset changed);
+        units = λ some asset is_asset. at some asset (subst (λ k. asset < k) changes.assets is_asset) (seen_names named is_so) (eqb_tells asset moved);
         orders = held.orders;
       }))
       (λ not_so. same_balances n.balances changes.accounts changes.assets (λ here. changes.money account) (λ asset here. changes.others account asset here (λ same. unseen named there not_so (sym same))))
     where
       n : Market
-      n = record m { balances = change_balance m.balances named (Some changed) amount }
+      n = record m { balances = change_balance m.balances named (Some moved) amount }
 
-      changes : ChangesUnitsOf named changed amount m.balances n.balances
-      changes = (units_change m.balances named changed amount (consistent_is_lawful m consistent) there is_changed).0
+      changes : ChangesUnitsOf named moved amount m.balances n.balances
+      changes = (units_change m.balances named moved amount (consistent_is_lawful m consistent) there is_changed).0
 
-      at : 0 < account → (asset : ℕ) → IsAsset m.balances asset → named ≡ account → (((asset == changed) ≡ true) × (asset ≡ changed)) ⊎ (((asset == changed) ≡ false) × (asset ≢ changed))
-          → units_changed h.units changed amount asset ≡ units_of n.balances account asset
+      at : 0 < account → (asset : ℕ) → IsAsset m.balances asset → named ≡ account → (((asset == moved) ≡ true) × (asset ≡ moved)) ⊎ (((asset == moved) ≡ false) × (asset ≢ moved))
+          → (changed h (Some moved) amount).units asset ≡ units_of n.balances account asset
       at some asset is_asset same (inl here) =
           rw here.0 (ap (λ x. x +ℤ amount) (held.units some asset is_asset)
           ∙ subst (λ a. units_of m.balances a asset +ℤ amount ≡ units_of n.balances a asset) same (subst (λ s. units_of m.balances named s +ℤ amount ≡ units_of n.balances named s) (sym here.1) (sym changes.units)))
@@ -333,7 +333,7 @@ module _ (account : ℕ) (m : Market) (h : Holding) (consistent : IsConsistent m
   refused_keeps (AddAsset ticker) r = held
   refused_keeps OpenAccount r = held
   refused_keeps (RunBatch budget) r = held
-  refused_keeps command r = told_if account m h _ (Asks command (reply.Refused r)) (λ is_so. held) (λ not_so. held)
+  refused_keeps command r = told_if account m h _ (Refuses command r) (λ is_so. held) (λ not_so. held)
 
   -- what is seen of an accepted command, by an equal answer and market
   answered_so : (c : Command) (a b : Answer Outcome) (n k : Market) → a ≡ b → n ≡ k → IsHeld account k (after_all h (seen account m (Ok c) b)) → IsHeld account n (after_all h (seen account m (Ok c) a))
@@ -349,26 +349,26 @@ module _ (account : ℕ) (m : Market) (h : Holding) (consistent : IsConsistent m
   told_accepted : (c : Command) (a : Answer Outcome) (n : Market) → FirstRefusal m c None → Accepts IsAdmissibleOutcome m c a n → IsHeld account n (after_all h (seen account m (Ok c) a))
   told_accepted (AddAsset ticker) a n none accepts = answered_so (AddAsset ticker) a _ n _ accepts.0 accepts.1 (told_asset ticker _ refl refl refl)
   told_accepted OpenAccount a n none accepts = answered_so OpenAccount a _ n _ accepts.0 accepts.1 (told_opening (Opens account) refl)
-  told_accepted (DepositMoney named ticks) a n none accepts = answered_so (DepositMoney named ticks) a _ n _ accepts.0 accepts.1 (told_money named (grains ticks) (Asks (DepositMoney named ticks) reply.Done) (past_unless none).0 refl)
+  told_accepted (DepositMoney named ticks) a n none accepts = answered_so (DepositMoney named ticks) a _ n _ accepts.0 accepts.1 (told_money named (grains ticks) (Deposits None ticks) (past_unless none).0 refl)
   told_accepted (DepositAsset named asset units) a n none accepts =
       let one = past_unless none in
-      answered_so (DepositAsset named asset units) a _ n _ accepts.0 accepts.1 (told_units named asset (pos units) (Asks (DepositAsset named asset units) reply.Done) one.0 (past_unless one.1).0 refl)
-  told_accepted (WithdrawMoney named ticks) a n none accepts = answered_so (WithdrawMoney named ticks) a _ n _ accepts.0 accepts.1 (told_money named (neg_ℤ (grains ticks)) (Asks (WithdrawMoney named ticks) reply.Done) (past_unless none).0 refl)
+      answered_so (DepositAsset named asset units) a _ n _ accepts.0 accepts.1 (told_units named asset (pos units) (Deposits (Some asset) units) one.0 (past_unless one.1).0 refl)
+  told_accepted (WithdrawMoney named ticks) a n none accepts = answered_so (WithdrawMoney named ticks) a _ n _ accepts.0 accepts.1 (told_money named (neg_ℤ (grains ticks)) (Withdraws None ticks) (past_unless none).0 refl)
   told_accepted (WithdrawAsset named asset units) a n none accepts =
       let one = past_unless none in
-      answered_so (WithdrawAsset named asset units) a _ n _ accepts.0 accepts.1 (told_units named asset (neg_ℤ (pos units)) (Asks (WithdrawAsset named asset units) reply.Done) one.0 (past_unless one.1).0 refl)
+      answered_so (WithdrawAsset named asset units) a _ n _ accepts.0 accepts.1 (told_units named asset (neg_ℤ (pos units)) (Withdraws (Some asset) units) one.0 (past_unless one.1).0 refl)
   told_accepted (Place last r) a n none accepts =
-      answered_so (Place last r) a _ n _ accepts.0 accepts.1 (told_order (placed m last r) (Asks (Place last r) (reply.Order m.next_order)) (past_unless none).0 refl)
+      answered_so (Place last r) a _ n _ accepts.0 accepts.1 (told_order (placed m last r) (Places m.next_order last r) (past_unless none).0 refl)
   told_accepted (CancelOrder named number) a n none accepts =
-      answered_so (CancelOrder named number) a _ n _ accepts.0 accepts.1 (told_cancel named number (Asks (CancelOrder named number) reply.Done) none refl)
+      answered_so (CancelOrder named number) a _ n _ accepts.0 accepts.1 (told_cancel named number (Cancels number) none refl)
   told_accepted (RunBatch budget) a n none accepts = answered_so (RunBatch budget) a _ n _ accepts.2.0 accepts.2.1 (told_batch accepts.0)
   told_accepted (SetMoneyCredit named ticks) a n none accepts =
       answered_so (SetMoneyCredit named ticks) a _ n _ accepts.0 accepts.1
-      (same_credit _ (is_there m account && (named == account)) (Asks (SetMoneyCredit named ticks) reply.Done) refl
+      (same_credit _ (is_there m account && (named == account)) (Credits None ticks) refl
       (record { tickers = held.tickers; opened = held.opened; money = held.money; units = held.units; orders = held.orders }))
   told_accepted (SetUnitCredit named asset units) a n none accepts =
       answered_so (SetUnitCredit named asset units) a _ n _ accepts.0 accepts.1
-      (same_credit _ (is_there m account && (named == account)) (Asks (SetUnitCredit named asset units) reply.Done) refl
+      (same_credit _ (is_there m account && (named == account)) (Credits (Some asset) units) refl
       (record { tickers = held.tickers; opened = held.opened; money = held.money; units = held.units; orders = held.orders }))
 
   -- a step of a market

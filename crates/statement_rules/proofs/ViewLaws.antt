@@ -20,7 +20,7 @@ use Rattle.market_rules.proofs.LawProofs.{market_is_determined}
 use Rattle.market_rules.proofs.Consistency.{consistent_step, consistent-empty}
 use Rattle.statement_rules.specs.Views.{Sees, Event, seen, is_there}
 use Rattle.statement_rules.specs.Holdings.{Holding, nothing, IsHeld, after, after_all}
-use Rattle.statement_rules.specs.Statements.{IsStatement, statement}
+use Rattle.statement_rules.specs.Statements.{statement}
 use Rattle.statement_rules.specs.Laws.{OneView, ViewsCompose, EqualViewsEqualStatements, ViewsTellHoldings, StatementsEndWithBalances, OneStatement}
 use Rattle.statement_rules.proofs.Lists.{own_sum_is}
 use Rattle.std.proofs.lemmas.Bool.{le-ltb, and_right}

@@ -1,13 +1,12 @@
 -- The statements of two accounts that trade with each other, computed: one buys up to 10000 shares at a price from 90 to 110 ticks, at
 -- most 1000 a batch, and the other one sells them.
-use Rattle.std.proofs.Common.{◌≡◌, ℤ, pos, negsuc, List, [], ◌∷◌, codes, refl, None}
+use Rattle.std.proofs.Common.{◌≡◌, ℤ, pos, negsuc, List, [], ◌∷◌, codes, refl, Some, None}
 use Rattle.std.specs.Fmt.{digits}
 use Rattle.weight_rows.specs.declared.entries.Entry.{Entry}
 use Rattle.weight_rows.specs.Rows.{weight_in, portfolio_price}
-use Rattle.wire_records.specs.Commands.{Request, DepositMoney, DepositAsset, Place}
-use Rattle.wire_records.specs.declared.reply.Reply.TheVariants.{Done, Order}
+use Rattle.wire_records.specs.Commands.{Request}
 use Rattle.pair_text.specs.Texts.{name_of}
-use Rattle.statement_rules.specs.Views.{Event, Adds, Opens, Asks, Clears}
+use Rattle.statement_rules.specs.Views.{Event, Adds, Opens, Deposits, Places, Clears}
 use Rattle.statement_rules.specs.Holdings.{Holding, nothing, after, after_all}
 use Rattle.statement_rules.specs.Statements.{event_lines, end_lines}
 
@@ -22,13 +21,13 @@ sells = record { account = 2; low = negsuc 109; high = negsuc 89; rate = 1000; c
 
 -- before the batch
 abbrev buyer : Holding
-buyer = after_all nothing (Adds (codes "AAPL    ") ∷ Opens 1 ∷ Asks (DepositMoney 1 1100000) Done ∷ Asks (Place None buys) (Order 1) ∷ [])
+buyer = after_all nothing (Adds (codes "AAPL    ") ∷ Opens 1 ∷ Deposits None 1100000 ∷ Places 1 None buys ∷ [])
 
 abbrev bought : Event
 bought = Clears 1 (pos 429410830255 ∷ []) (record { order = 1; rate = 500 } ∷ [])
 
 abbrev seller : Holding
-seller = after_all nothing (Adds (codes "AAPL    ") ∷ Opens 2 ∷ Asks (DepositAsset 2 0 10000) Done ∷ Asks (Place None sells) (Order 2) ∷ [])
+seller = after_all nothing (Adds (codes "AAPL    ") ∷ Opens 2 ∷ Deposits (Some 0) 10000 ∷ Places 2 None sells ∷ [])
 
 abbrev sold : Event
 sold = Clears 1 (pos 429410830255 ∷ []) (record { order = 2; rate = 500 } ∷ [])
@@ -37,19 +36,19 @@ opened : event_lines nothing (Opens 1) ≡ codes "account 1\n"
 unfolding name_of weight_in portfolio_price digits
 opened = refl
 
-money_deposited : event_lines nothing (Asks (DepositMoney 1 1100000) Done) ≡ codes "deposit ticks 1100000\n"
+money_deposited : event_lines nothing (Deposits None 1100000) ≡ codes "deposit ticks 1100000\n"
 unfolding name_of weight_in portfolio_price digits
 money_deposited = refl
 
-units_deposited : event_lines seller (Asks (DepositAsset 2 0 10000) Done) ≡ codes "deposit AAPL units 10000\n"
+units_deposited : event_lines seller (Deposits (Some 0) 10000) ≡ codes "deposit AAPL units 10000\n"
 unfolding name_of weight_in portfolio_price digits
 units_deposited = refl
 
-buys_placed : event_lines buyer (Asks (Place None buys) (Order 1)) ≡ codes "order 1 low 90 high 110 rate 1000 cap 10000 AAPL:1\n"
+buys_placed : event_lines buyer (Places 1 None buys) ≡ codes "order 1 low 90 high 110 rate 1000 cap 10000 AAPL:1\n"
 unfolding name_of weight_in portfolio_price digits
 buys_placed = refl
 
-sells_placed : event_lines seller (Asks (Place None sells) (Order 2)) ≡ codes "order 2 low -110 high -90 rate 1000 cap 10000 AAPL:-1\n"
+sells_placed : event_lines seller (Places 2 None sells) ≡ codes "order 2 low -110 high -90 rate 1000 cap 10000 AAPL:-1\n"
 unfolding name_of weight_in portfolio_price digits
 sells_placed = refl
 

@@ -2,16 +2,14 @@
 use Rattle.std.specs.Prelude.{◌≡◌, ℕ, ◌<◌, ◌==◌, Bool, true, false, if◌then◌else◌, ℤ, pos, neg_ℤ, ◌+ℤ◌, ◌-ℤ◌, List, [], ◌∷◌, ◌++◌, length, Option, Some, None, unwrap_or}
 use Rattle.std.specs.List.{filter}
 use Rattle.list_sums.specs.Sums.{int_sum_by}
-use Rattle.wire_records.specs.Commands.{Request, Command, AddAsset, OpenAccount, DepositMoney, DepositAsset, WithdrawMoney, WithdrawAsset, Place, CancelOrder, RunBatch, SetMoneyCredit, SetUnitCredit}
-use Rattle.wire_records.specs.declared.reply.Reply.{Reply}
-use Rattle.wire_records.specs.declared.reply.Reply.TheVariants as reply
+use Rattle.wire_records.specs.Commands.{Request}
 use Rattle.flow_accounts.specs.Balances.{IsAsset, value_of, balance_of}
 use Rattle.flow_orders.specs.Orders.{Order, price_of_ticks}
 use Rattle.flow_orders.specs.Outcomes.{trades_of}
 use Rattle.flow_orders.specs.Trades.{paid, received, staying, going_on}
 use Rattle.order_book.specs.Book.{without}
 use Rattle.market_rules.specs.Market.{Market}
-use Rattle.statement_rules.specs.Views.{Event, Adds, Opens, Asks, Clears, Skips, is_there}
+use Rattle.statement_rules.specs.Views.{Event, Adds, Opens, Deposits, Withdraws, Credits, Places, Cancels, Refuses, Clears, Skips, is_there}
 
 -- the tickers that were added, whether the account was opened, its money in grains, its units of each asset, and its live orders
 pub record Holding : Type 0 where
@@ -25,9 +23,10 @@ pub record Holding : Type 0 where
 abbrev pub nothing : Holding
 nothing = record { tickers = []; is_open = false; money = pos 0; units = λ asset. pos 0; orders = [] }
 
--- the units of each asset after those of one asset changed by the amount
-abbrev pub units_changed : (ℕ → ℤ) → ℕ → ℤ → ℕ → ℤ
-units_changed units changed amount asset = if asset == changed then units asset +ℤ amount else units asset
+-- what the account has after what it has of a kind changed by the amount, in grains or in units
+abbrev pub changed : Holding → Option ℕ → ℤ → Holding
+changed h None amount = record h { money = h.money +ℤ amount }
+changed h (Some named) amount = record h { units = λ asset. if asset == named then h.units asset +ℤ amount else h.units asset }
 
 -- the order that was placed on a request under a number, with its last batch, or 0 if it has none
 abbrev pub ordered : ℕ → Option ℕ → Request → Order
@@ -43,48 +42,17 @@ ordered number last r = record {
   last = unwrap_or last 0;
 }
 
--- what the account has after a command of its own that was done
-abbrev pub after_done : Holding → Command → Holding
-after_done h (DepositMoney account ticks) = record h { money = h.money +ℤ value_of None ticks }
-after_done h (DepositAsset account asset units) = record h { units = units_changed h.units asset (value_of (Some asset) units) }
-after_done h (WithdrawMoney account ticks) = record h { money = h.money +ℤ neg_ℤ (value_of None ticks) }
-after_done h (WithdrawAsset account asset units) = record h { units = units_changed h.units asset (neg_ℤ (value_of (Some asset) units)) }
-after_done h (CancelOrder account number) = record h { orders = without h.orders number }
-after_done h (AddAsset ticker) = h
-after_done h OpenAccount = h
-after_done h (Place last request) = h
-after_done h (RunBatch budget) = h
-after_done h (SetMoneyCredit account ticks) = h
-after_done h (SetUnitCredit account asset units) = h
-
--- what the account has after a command of its own that placed the order of a number
-abbrev pub after_placing : Holding → ℕ → Command → Holding
-after_placing h number (Place last r) = record h { orders = h.orders ++ ordered number last r ∷ [] }
-after_placing h number (AddAsset ticker) = h
-after_placing h number OpenAccount = h
-after_placing h number (DepositMoney account ticks) = h
-after_placing h number (DepositAsset account asset units) = h
-after_placing h number (WithdrawMoney account ticks) = h
-after_placing h number (WithdrawAsset account asset units) = h
-after_placing h number (CancelOrder account order) = h
-after_placing h number (RunBatch budget) = h
-after_placing h number (SetMoneyCredit account ticks) = h
-after_placing h number (SetUnitCredit account asset units) = h
-
--- what the account has after a command of its own with this answer; a refusal changes nothing
-abbrev pub after_asked : Holding → Command → Reply → Holding
-after_asked h command reply.Done = after_done h command
-after_asked h command (reply.Order number) = after_placing h number command
-after_asked h command (reply.Asset asset) = h
-after_asked h command (reply.Account number) = h
-after_asked h command (reply.Refused refusal) = h
-
--- what the account has after an event: nothing of an asset that is added; a batch that clears takes what its trades
--- cost and brings their units, and any batch removes the orders whose last batch it was
+-- what the account has after an event: nothing of an asset that is added; credits and refusals change nothing; a batch that clears takes
+-- what its trades cost and brings their units, and any batch removes the orders whose last batch it was
 abbrev pub after : Holding → Event → Holding
 after h (Adds ticker) = record h { tickers = h.tickers ++ ticker ∷ []; units = λ asset. if asset == length h.tickers then pos 0 else h.units asset }
 after h (Opens account) = record h { is_open = true }
-after h (Asks command answered) = after_asked h command answered
+after h (Deposits kind count) = changed h kind (value_of kind count)
+after h (Withdraws kind count) = changed h kind (neg_ℤ (value_of kind count))
+after h (Credits kind count) = h
+after h (Places number last r) = record h { orders = h.orders ++ ordered number last r ∷ [] }
+after h (Cancels number) = record h { orders = without h.orders number }
+after h (Refuses command refusal) = h
 after h (Clears batch prices fills) = record h {
   money = h.money -ℤ int_sum_by (paid prices) (trades_of h.orders fills);
   units = λ asset. h.units asset +ℤ int_sum_by (received asset) (trades_of h.orders fills);

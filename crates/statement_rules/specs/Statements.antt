@@ -3,42 +3,23 @@
 use Rattle.std.specs.Prelude.{◌≡◌, ℕ, ℤ, List, [], ◌∷◌, ◌++◌, length, codes, decimal, if◌then◌else◌, Some, None, Option}
 use Rattle.std.specs.Fmt.{signed_decimal}
 use Rattle.std.specs.List.{flat_map, range_with_len, sum_by}
-use Rattle.wire_records.specs.Commands.{Request, Command, AddAsset, OpenAccount, DepositMoney, DepositAsset, WithdrawMoney, WithdrawAsset, Place, CancelOrder, RunBatch, SetMoneyCredit, SetUnitCredit, Pair}
+use Rattle.wire_records.specs.Commands.{Request, Pair}
 use Rattle.wire_records.specs.Records.{Record}
 use Rattle.wire_records.specs.declared.version.Version.{Version}
 use Rattle.wire_records.specs.Refusals.{code_of}
-use Rattle.wire_records.specs.declared.reply.Reply.{Reply}
-use Rattle.wire_records.specs.declared.reply.Reply.TheVariants as reply
 use Rattle.flow_orders.specs.Orders.{need_of}
 use Rattle.flow_accounts.specs.Balances.{IsAccount}
 use Rattle.flow_orders.specs.Outcomes.{Outcome, trades_of}
 use Rattle.flow_orders.specs.Trades.{Trade, paid}
 use Rattle.market_rules.specs.Market.{Market, empty_market}
 use Rattle.pair_text.specs.Texts.{◌then◌, asset_name, entry_text, last_text}
-use Rattle.statement_rules.specs.Views.{Event, Adds, Opens, Asks, Clears, Skips, Sees, is_there}
+use Rattle.statement_rules.specs.Views.{Event, Adds, Opens, Deposits, Withdraws, Credits, Places, Cancels, Refuses, Clears, Skips, Sees, is_there}
 use Rattle.statement_rules.specs.Holdings.{Holding, nothing, after, after_all, held_in}
 
--- the line of a deposit, a withdrawal or a credit in money, in ticks
-abbrev pub money_line : List ℕ → ℕ → List ℕ
-money_line word ticks = word then codes " ticks " then decimal ticks then codes "\n"
-
--- the line of a deposit, a withdrawal or a credit in units of an asset
-abbrev pub units_line : List ℕ → List (List ℕ) → ℕ → ℕ → List ℕ
-units_line word tickers asset units = word then codes " " then asset_name tickers asset then codes " units " then decimal units then codes "\n"
-
--- the line of a command that was done; no other command has one
-abbrev pub done_line : List (List ℕ) → Command → List ℕ
-done_line tickers (DepositMoney account ticks) = money_line (codes "deposit") ticks
-done_line tickers (DepositAsset account asset units) = units_line (codes "deposit") tickers asset units
-done_line tickers (WithdrawMoney account ticks) = money_line (codes "withdraw") ticks
-done_line tickers (WithdrawAsset account asset units) = units_line (codes "withdraw") tickers asset units
-done_line tickers (CancelOrder account number) = codes "cancel " then decimal number then codes "\n"
-done_line tickers (SetMoneyCredit account ticks) = money_line (codes "credit") ticks
-done_line tickers (SetUnitCredit account asset units) = units_line (codes "credit") tickers asset units
-done_line tickers (AddAsset ticker) = []
-done_line tickers OpenAccount = []
-done_line tickers (Place last request) = []
-done_line tickers (RunBatch budget) = []
+-- the line of a deposit, a withdrawal or a credit: of money in ticks, and of an asset in units
+abbrev pub amount_line : List ℕ → List (List ℕ) → Option ℕ → ℕ → List ℕ
+amount_line word tickers None ticks = word then codes " ticks " then decimal ticks then codes "\n"
+amount_line word tickers (Some asset) units = word then codes " " then asset_name tickers asset then codes " units " then decimal units then codes "\n"
 
 -- the text of an order's number and the numbers of its request, limits in ticks
 abbrev pub order_numbers : ℕ → Request → List ℕ
@@ -46,27 +27,9 @@ order_numbers number r =
     codes "order " then decimal number then codes " low " then signed_decimal r.low then codes " high " then signed_decimal r.high
     then codes " rate " then decimal r.rate then codes " cap " then decimal r.cap
 
--- the line of a command that placed the order of a number; no other command has one
-abbrev pub placing_line : List (List ℕ) → ℕ → Command → List ℕ
-placing_line tickers number (Place last r) = order_numbers number r then last_text last then flat_map (entry_text tickers) r.row then codes "\n"
-placing_line tickers number (AddAsset ticker) = []
-placing_line tickers number OpenAccount = []
-placing_line tickers number (DepositMoney account ticks) = []
-placing_line tickers number (DepositAsset account asset units) = []
-placing_line tickers number (WithdrawMoney account ticks) = []
-placing_line tickers number (WithdrawAsset account asset units) = []
-placing_line tickers number (CancelOrder account order) = []
-placing_line tickers number (RunBatch budget) = []
-placing_line tickers number (SetMoneyCredit account ticks) = []
-placing_line tickers number (SetUnitCredit account asset units) = []
-
--- the line of a command of the account's own, with its answer
-abbrev pub asked_line : List (List ℕ) → Command → Reply → List ℕ
-asked_line tickers command reply.Done = done_line tickers command
-asked_line tickers command (reply.Order number) = placing_line tickers number command
-asked_line tickers command (reply.Refused refusal) = codes "refused " then decimal (code_of refusal) then codes "\n"
-asked_line tickers command (reply.Asset asset) = []
-asked_line tickers command (reply.Account number) = []
+-- the line of an order that was placed
+abbrev pub placed_line : List (List ℕ) → ℕ → Option ℕ → Request → List ℕ
+placed_line tickers number last r = order_numbers number r then last_text last then flat_map (entry_text tickers) r.row then codes "\n"
 
 -- the line of an account's own order in a batch that cleared: its rate, and what that costs at the prices, in grains
 abbrev pub cost_line : List ℤ → Trade → List ℕ
@@ -78,7 +41,12 @@ cost_line prices t =
 abbrev pub event_lines : Holding → Event → List ℕ
 event_lines h (Adds ticker) = []
 event_lines h (Opens account) = codes "account " then decimal account then codes "\n"
-event_lines h (Asks command answered) = asked_line h.tickers command answered
+event_lines h (Deposits kind count) = amount_line (codes "deposit") h.tickers kind count
+event_lines h (Withdraws kind count) = amount_line (codes "withdraw") h.tickers kind count
+event_lines h (Credits kind count) = amount_line (codes "credit") h.tickers kind count
+event_lines h (Places number last r) = placed_line h.tickers number last r
+event_lines h (Cancels number) = codes "cancel " then decimal number then codes "\n"
+event_lines h (Refuses command refusal) = codes "refused " then decimal (code_of refusal) then codes "\n"
 event_lines h (Clears batch prices fills) = codes "batch " then decimal batch then codes " cleared\n" then flat_map (cost_line prices) (trades_of h.orders fills)
 event_lines h (Skips batch) = codes "batch " then decimal batch then codes " skipped\n"
 
