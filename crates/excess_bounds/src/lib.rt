@@ -17,7 +17,7 @@
 //!
 //! The excess at the prices costs one pass over the asset's column, without a division. The excess at another price of
 //! the asset costs such a pass, and for each order of the column a multiplication and at most one division. Setting a
-//! price costs the same. Narrowing a move down costs two such passes, and then ever shorter ones. Rounding bound and slope
+//! price costs the same. Narrowing a move down costs a few such passes, and then ever shorter ones. Rounding bound and slope
 //! bound take constant time. The number of parts changes none of it: a demand in parts takes the same one division.
 #![tactic(auto)]
 

@@ -31,8 +31,14 @@ struct Seen {
     slope: u64,
 }
 
-// How many amounts narrowing looks at, at most. If one doesn't halve the bracket, the next one does.
-const MOST_TURNS: u32 = 160;
+// How many amounts narrowing looks at, at most. Of four in a row, one at least halves the bracket.
+const MOST_TURNS: u32 = 250;
+
+// How many amounts in a row may leave more than half of the bracket.
+const MOST_SLOW: u32 = 3;
+
+// With so few steps left, amounts are looked at at which one of them asks for less.
+const FEW: usize = 2;
 
 // Narrows down after which amount, of at most `reach`, the orders of a column ask for no more than the bound, both in parts
 // of a unit.
@@ -62,24 +68,31 @@ pub(crate) fn narrow(
         low: 0,
         high: reach,
     };
-    let mut guess = Guess::from_low(missing(seen.sum, bound), seen.slope);
+    let mut guess = Guess::first(missing(seen.sum, bound), seen.slope);
     for _turn in 0..MOST_TURNS {
         if bracket.high - bracket.low <= 1 {
             return bracket;
         }
-        let amount = guess.amount(bracket, reach);
+        let amount = guess.amount(steps, bracket);
         let seen = ask(steps, amount);
         let asked = rest + seen.sum;
         let is_low = is_above(asked, bound);
         rest += close(steps, is_low);
         let next = bracket.with(amount, is_low);
-        guess = Guess::next(bracket, next, is_low, missing(asked, bound), seen.slope);
+        guess = guess.next(bracket, next, is_low, missing(asked, bound), seen.slope);
         bracket = next;
     }
     bracket
 }
 
 impl Bracket {
+    // Returns the amount in the middle of both.
+    fn middle(self) -> u64
+        requires { self.low ≤ self.high }
+    {
+        self.low + (self.high - self.low) / 2
+    }
+
     fn with(self, amount: u64, is_low: bool) -> Bracket
         ensures { result ≡ (if is_low then record { low = amount; high = self.high } else record { low = self.low; high = amount }) }
     {
@@ -99,7 +112,7 @@ impl Bracket {
 
 // Returns how far what is asked for is from the bound, and a little more, so that guesses go a little too far.
 fn missing(asked: i64, bound: i64) -> u64 {
-    asked.abs_diff(bound).saturating_add(8)
+    asked.abs_diff(bound).saturating_add(4)
 }
 
 fn is_above(asked: i64, bound: i64) -> bool
@@ -184,62 +197,103 @@ fn close(steps: &mut Vec<Step>, is_low: bool) -> i64
     rest
 }
 
-// Which amount to look at next: one at a distance from an end of the bracket, or its middle.
+// Which amount to look at next.
+//
+// From each end of the bracket, the slope there says where what is asked for comes to the bound. The nearer one is guessed,
+// and a little more, so that the next end is just past it.
 #[derive(Clone, Copy)]
 struct Guess {
-    is_from_low: bool,
-    // The distance in grains, at least 1.
-    far: u64,
-    halves: bool,
-    ghost some: { 0 < far },
+    // How many grains after the low end, and before the high one, that is; the most if nothing is known of the high end.
+    after_low: u64,
+    before_high: u64,
+    // How many amounts in a row left more than half of the bracket.
+    slow: u32,
 }
 
 impl Guess {
     // Returns the first guess, for this much missing at the low end.
-    fn from_low(missing: u64, slope: u64) -> Guess {
+    fn first(missing: u64, slope: u64) -> Guess {
         Guess {
-            is_from_low: true,
-            far: distance(missing, slope),
-            halves: false,
+            after_low: distance(missing, slope),
+            before_high: u64::MAX,
+            slow: 0,
         }
     }
 
-    // Returns the next guess, after a bracket was narrowed at an end at which this much is missing, or too much. If the
-    // bracket wasn't halved, the next guess halves it.
-    fn next(before: Bracket, next: Bracket, is_from_low: bool, missing: u64, slope: u64) -> Guess
+    // Returns the next guess, after a bracket was narrowed at an end at which this much is missing, or too much.
+    fn next(self, before: Bracket, next: Bracket, is_low: bool, missing: u64, slope: u64) -> Guess
         requires before { before.low ≤ before.high }
         requires next { next.low ≤ next.high }
     {
+        let far = distance(missing, slope);
+        let is_slow = next.high - next.low > (before.high - before.low) / 2;
         Guess {
-            is_from_low,
-            far: distance(missing, slope),
-            halves: next.high - next.low > (before.high - before.low) / 2,
+            after_low: if is_low { far } else { self.after_low },
+            before_high: if is_low { self.before_high } else { far },
+            slow: if is_slow {
+                self.slow.saturating_add(1)
+            } else {
+                0
+            },
         }
     }
 
-    // Returns an amount between both ends. If the guess is beyond the reach, that is the last one before it.
-    fn amount(self, bracket: Bracket, reach: u64) -> u64
+    // Returns an amount between both ends.
+    fn amount(self, steps: &[Step], bracket: Bracket) -> u64
         requires { bracket.low + 1 < bracket.high }
         ensures above { bracket.low < result }
         ensures below { result < bracket.high }
     {
-        let width = bracket.high - bracket.low;
-        if self.far >= width && bracket.high == reach {
-            bracket.high - 1
-        } else if self.far >= width || self.halves {
-            bracket.low + width / 2
-        } else if self.is_from_low {
-            bracket.low + self.far
-        } else {
-            bracket.high - self.far
+        self.wanted(steps, bracket)
+            .clamp(bracket.low + 1, bracket.high - 1)
+    }
+
+    // Returns the amount that would be looked at, wherever the ends are.
+    fn wanted(self, steps: &[Step], bracket: Bracket) -> u64
+        requires { bracket.low < bracket.high }
+    {
+        if self.slow >= MOST_SLOW {
+            return bracket.middle();
         }
+        match steps.first() {
+            Some(step) if steps.len() <= FEW => step.middle(),
+            _ => self.by_slope(bracket),
+        }
+    }
+
+    // Returns the nearer of the two amounts to which the slopes lead, and a little more. Where both lead out of the bracket,
+    // its high end is taken down by powers of two first, since a reach is far.
+    fn by_slope(self, bracket: Bracket) -> u64
+        requires { bracket.low < bracket.high }
+    {
+        let near = self.after_low.min(self.before_high);
+        let far = near.saturating_add(near / 64);
+        if far < bracket.high - bracket.low {
+            if self.after_low <= self.before_high {
+                bracket.low + far
+            } else {
+                bracket.high - far
+            }
+        } else if self.may_reach(bracket) {
+            bracket.high
+        } else if bracket.low < bracket.high / 16 {
+            bracket.high / 16
+        } else {
+            bracket.middle()
+        }
+    }
+
+    // Returns whether the move may go to its reach: nothing is known of the high end, and the low end is past 0 or has a slope.
+    fn may_reach(self, bracket: Bracket) -> bool {
+        self.before_high == u64::MAX && (bracket.low > 0 || self.after_low < MOST_DISTANCE)
     }
 }
 
-// Returns twice the grains over which this much less is asked for, 1 to 2^62.
-fn distance(missing: u64, slope: u64) -> u64
-    ensures { 0 < result }
-{
-    let grains = (u128::from(missing) << 41) / u128::from(slope.max(1));
-    grains.clamp(1, 1 << 62) as u64
+// The most grains to which a slope leads; to so many, if there is none.
+const MOST_DISTANCE: u64 = 1 << 62;
+
+// Returns the grains over which this much less is asked for, 1 to 2^62.
+fn distance(missing: u64, slope: u64) -> u64 {
+    let grains = (u128::from(missing) << 40) / u128::from(slope.max(1));
+    grains.clamp(1, u128::from(MOST_DISTANCE)) as u64
 }

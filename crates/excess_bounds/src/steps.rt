@@ -75,6 +75,34 @@ impl Step {
         self.first == self.last
     }
 
+    // Returns about the least amount after which it asks for no more than the middle between both ends.
+    pub(crate) fn middle(&self) -> u64 {
+        let size = u64::from(self.weight.unsigned_abs().max(1));
+        let both = (self.first.unsigned_abs() / size).saturating_add(
+            self.last.unsigned_abs() / size,
+        );
+        let below_high = i128::from(self.curve.high).wrapping_sub(self.price);
+        let far = if self.weight < 0 {
+            let last_below = self.grains_for(both.saturating_sub(1) / 2, 0);
+            last_below.wrapping_add(1).wrapping_sub(below_high)
+        } else {
+            below_high.wrapping_sub(self.grains_for(both / 2 + 1, 1))
+        };
+        (far.clamp(0, i128::from(u64::MAX)) as u64).div_ceil(size)
+    }
+
+    // Returns how many grains below its high limit its line asks for so many parts, without the batch maximum; the line times
+    // the span is taken less by `less` first.
+    fn grains_for(&self, asked: u64, less: u128) -> i128 {
+        let rate = u128::from(self.parts)
+            .wrapping_mul(u128::from(self.curve.rate))
+            .max(1);
+        let line = u128::from(asked)
+            .wrapping_mul(self.curve.span() as u128)
+            .wrapping_sub(less);
+        (line / rate).min(1 << 100) as i128
+    }
+
     // Returns how fast what it asks for falls when it asks for so many parts; 0 if the demand is cut there.
     fn pull_at(&self, asked: i64) -> u64 {
         let size = u64::from(self.weight.unsigned_abs()).wrapping_mul(u64::from(self.parts));

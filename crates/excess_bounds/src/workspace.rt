@@ -168,7 +168,7 @@ impl<'a> Workspace<'a> {
 
     /// Returns two amounts between which a rise of an asset's price by at most `reach` grains ends: when its low excess in
     /// parts of a unit, 1 to 256 of them, is no longer above the slope bound in parts, or after `reach`. They are one apart in
-    /// all cases tried; the contract doesn't say so. It costs two passes over the asset's column, each with at most one
+    /// all cases tried; the contract doesn't say so. It costs a few passes over the asset's column, each with at most one
     /// division for each order, and then passes over ever fewer of its orders.
     pub fn narrow_rise(&mut self, parts: u16, asset: u16, reach: u64) -> Bracket
         requires some_parts { 1 ≤ parts }

@@ -13,7 +13,7 @@
 //!
 //! The column of an asset has the orders that name it. Testing whether an asset is settled costs one pass over its column,
 //! without a division. A move costs such a pass, two that narrow its end down, and one that sets the price, with at most
-//! one division for each order in each of the last three. At most 160 more passes narrow the end down further, over ever
+//! one division for each order in each of the last three. At most 250 more passes narrow the end down further, over ever
 //! fewer orders of the column. A bisection of what is left then finds the end, with a pass for each price that it tests,
 //! mostly none. No call allocates.
 #![tactic(auto)]
