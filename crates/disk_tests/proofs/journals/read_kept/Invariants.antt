@@ -1,8 +1,7 @@
 use Rattle.std.proofs.Common.{IfSome, ◌≡◌, ◌-◌, ◌^◌, ℕ, List}
-use Rattle.wire_records.specs.declared.version.Version.{Version}
 use Rattle.journal_disk.specs.Pairs.{RecordPair}
 use Rattle.journal_disk.specs.Ahead.{IsPiece}
-use Rattle.journal_disk.specs.Entries.{Holds}
+use Rattle.journal_disk.specs.Entries.{Head, Holds}
 use Rattle.journal_disk.specs.Looking.{OnlyLooks}
 use Rattle.disk_tests.proofs.journals.read_kept.Given as goal
 
@@ -10,7 +9,7 @@ abbrev pub invariant-pairs : goal.invariant-pairs
 invariant-pairs g l = record {
   looks : OnlyLooks (g.D.Disk.state l.fn.disk) (g.D.Disk.state l.disk);
   piece : IfSome (g.D.Disk.state l.disk).content (IsPiece l.ahead);
-  holds : (version : Version) (pairs : List RecordPair) (rest : List ℕ) → Holds version pairs l.fn.journal rest (g.D.Disk.state l.fn.disk) → (found : List RecordPair) × (left : List ℕ) × Holds version found l.journal left (g.D.Disk.state l.disk);
+  holds : (head : Head) (pairs : List RecordPair) (rest : List ℕ) → Holds head pairs l.fn.journal rest (g.D.Disk.state l.fn.disk) → (found : List RecordPair) × (left : List ℕ) × Holds head found l.journal left (g.D.Disk.state l.disk);
 }
 
 abbrev pub decreases-pairs : goal.decreases-pairs
