@@ -1,4 +1,4 @@
-use Rattle.std.proofs.Common.{◌+◌, ◌∷◌, [], length, ap, length-append, arith}
+use Rattle.std.proofs.Common.{◌∷◌, [], length, ap, length-append, arith}
 use Rattle.journal_disk.specs.Entries.{framed}
 use Rattle.journal_disk.proofs.Entries.{length-framed}
 use Rattle.disk_tests.proofs.journals.keep_point.Goals as goal

@@ -1,4 +1,4 @@
-use Rattle.std.proofs.Common.{Ok, ◌++◌, [], ◌∷◌, ◌≡◌, ℕ, sym, subst, IfSome}
+use Rattle.std.proofs.Common.{Ok, ◌++◌, [], ◌∷◌, ℕ, sym, subst, IfSome}
 use Rattle.journal_disk.specs.declared.fault.Step.{Step}
 use Rattle.journal_disk.specs.Entries.{Holds}
 use Rattle.journal_disk.specs.Stepping.{IsStep}

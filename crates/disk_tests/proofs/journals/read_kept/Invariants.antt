@@ -1,4 +1,4 @@
-use Rattle.std.proofs.Common.{IfSome, ◌≡◌, ◌-◌, ◌^◌, ℕ, List}
+use Rattle.std.proofs.Common.{IfSome, ◌-◌, ◌^◌, ℕ, List}
 use Rattle.journal_disk.specs.Pairs.{RecordPair}
 use Rattle.journal_disk.specs.Ahead.{IsPiece}
 use Rattle.journal_disk.specs.Entries.{Head, Holds}
