@@ -7,8 +7,8 @@ use Rattle.wire_records.specs.Commands.{Command, Answer, Plain, Batch}
 use Rattle.wire_records.specs.declared.command.BodyFault.{BodyFault}
 use Rattle.wire_records.proofs.Readings.{reading_unique}
 use Rattle.flow_orders.specs.Outcomes.{Clearing, Outcome, Cleared, Skipped, IsAdmissibleOutcome, IsAdmissibleClearing}
-use Rattle.journal_records.specs.Replies.{SpellsAnswer}
-use Rattle.journal_records.proofs.Spelled.{answer_unique}
+use Rattle.journal_records.specs.Replies.{EncodesAnswer}
+use Rattle.journal_records.proofs.Encoded.{answer_unique}
 use Rattle.market_rules.specs.Market.{Market, IsConsistent, start_prices}
 use Rattle.market_rules.specs.Step.{Serves, ServesRead}
 use Rattle.market_rules.proofs.LawProofs.{batch_of}
@@ -54,31 +54,31 @@ seen_is s m c (Batch batch (Skipped k)) n consistent held serves = ap (λ b. eve
 module _ (m : Market) (pair : Record × Record) (old : Statement) (consistent : IsConsistent m) (agrees : Agrees m old) where
   -- a valid entry's record is read as it is in its step
   same_read : (read : Result Command BodyFault) (next : Market) (legal : IsLegalPair m pair next) → IsReadAs m.version pair.0 read → legal.step.read ≡ read
-  same_read read next legal reads = reading_unique m.version pair.0 legal.step.read read legal.step.spelled reads
+  same_read read next legal reads = reading_unique m.version pair.0 legal.step.read read legal.step.encoded reads
 
-  same_answer : (a : Answer Outcome) (next : Market) (legal : IsLegalPair m pair next) → SpellsAnswer pair.1 a → legal.answer ≡ a
-  same_answer a next legal spells = answer_unique legal.answer a legal.spelled.fits spells.fits (sym legal.spelled.spelled ∙ spells.spelled)
+  same_answer : (a : Answer Outcome) (next : Market) (legal : IsLegalPair m pair next) → EncodesAnswer pair.1 a → legal.answer ≡ a
+  same_answer a next legal encodes = answer_unique legal.answer a legal.encoded.fits encodes.fits (sym legal.encoded.encoded ∙ encodes.encoded)
 
-  pub served_as : (c : Command) (a : Answer Outcome) (next : Market) → IsLegalPair m pair next → IsReadAs m.version pair.0 (Ok c) → SpellsAnswer pair.1 a → Serves IsAdmissibleOutcome m c a next
-  served_as c a next legal reads spells =
-      subst (λ x. ServesRead IsAdmissibleOutcome m (Ok c) x next) (same_answer a next legal spells)
+  pub served_as : (c : Command) (a : Answer Outcome) (next : Market) → IsLegalPair m pair next → IsReadAs m.version pair.0 (Ok c) → EncodesAnswer pair.1 a → Serves IsAdmissibleOutcome m c a next
+  served_as c a next legal reads encodes =
+      subst (λ x. ServesRead IsAdmissibleOutcome m (Ok c) x next) (same_answer a next legal encodes)
       (subst (λ r. ServesRead IsAdmissibleOutcome m r legal.answer next) (same_read (Ok c) next legal reads) legal.step.served)
 
   -- some market answers the command so
-  pub is_served : (c : Command) (a : Answer Outcome) → (next : Market) × IsLegalPair m pair next → IsReadAs m.version pair.0 (Ok c) → SpellsAnswer pair.1 a → IsServed old c a
-  is_served c a (next, legal) reads spells = record {
+  pub is_served : (c : Command) (a : Answer Outcome) → (next : Market) × IsLegalPair m pair next → IsReadAs m.version pair.0 (Ok c) → EncodesAnswer pair.1 a → IsServed old c a
+  is_served c a (next, legal) reads encodes = record {
     market = m;
     next = next;
     consistent = consistent;
-    consistent_next = consistent_after m pair.0 legal.answer next legal.step.read consistent legal.step.spelled legal.step.served;
+    consistent_next = consistent_after m pair.0 legal.answer next legal.step.read consistent legal.step.encoded legal.step.served;
     agrees = agrees;
-    served = served_as c a next legal reads spells;
+    served = served_as c a next legal reads encodes;
   }
 
   -- the statement takes a command with its answer
-  pub is_told : (new : Statement) (before now : List ℕ) (c : Command) (a : Answer Outcome) → IsReadAs m.version pair.0 (Ok c) → SpellsAnswer pair.1 a → Tells (seen_by old c a) old new before now
+  pub is_told : (new : Statement) (before now : List ℕ) (c : Command) (a : Answer Outcome) → IsReadAs m.version pair.0 (Ok c) → EncodesAnswer pair.1 a → Tells (seen_by old c a) old new before now
       → (next : Market) (legal : IsLegalPair m pair next) → IsTold m pair old new before now next legal
-  is_told new before now c a reads spells tells next legal = record {
+  is_told new before now c a reads encodes tells next legal = record {
     agrees = subst (λ k. IsHeld k next (holding_of new)) (sym tells.account)
         (agrees_alike old.account next (after_all (holding_of old) (seen_by old c a)) (holding_of new) consistent_next tells.after
         (subst (λ l. IsHeld old.account next (after_all (holding_of old) l)) seen_so (told old.account m (holding_of old) consistent agrees (Ok c) a next serves)));
@@ -86,16 +86,16 @@ module _ (m : Market) (pair : Record × Record) (old : Statement) (consistent : 
   }
     where
       consistent_next : IsConsistent next
-      consistent_next = consistent_after m pair.0 legal.answer next legal.step.read consistent legal.step.spelled legal.step.served
+      consistent_next = consistent_after m pair.0 legal.answer next legal.step.read consistent legal.step.encoded legal.step.served
 
       serves : Serves IsAdmissibleOutcome m c a next
-      serves = served_as c a next legal reads spells
+      serves = served_as c a next legal reads encodes
 
       seen_so : seen old.account m (Ok c) a ≡ seen_by old c a
       seen_so = seen_is old m c a next consistent agrees serves
 
       again : seen old.account m legal.step.read legal.answer ≡ seen old.account m (Ok c) a
-      again = ap (λ r. seen old.account m r legal.answer) (same_read (Ok c) next legal reads) ∙ ap (seen old.account m (Ok c)) (same_answer a next legal spells)
+      again = ap (λ r. seen old.account m r legal.answer) (same_read (Ok c) next legal reads) ∙ ap (seen old.account m (Ok c)) (same_answer a next legal encodes)
 
   -- the statement takes a record that is no command, which has no lines
   pub is_not_told : (text : List ℕ) (why : BodyFault) → IsReadAs m.version pair.0 (Err why) → (next : Market) (legal : IsLegalPair m pair next) → IsTold m pair old old text text next legal
@@ -116,9 +116,9 @@ nothing_told events s text none = record {
 }
 
 -- what is appended to an empty text is appended to any text
-pub told_behind : (m : Market) (pair : Record × Record) (old new : Statement) (before empty text now : List ℕ) (next : Market) (legal : IsLegalPair m pair next)
+pub told_after : (m : Market) (pair : Record × Record) (old new : Statement) (before empty text now : List ℕ) (next : Market) (legal : IsLegalPair m pair next)
     → empty ≡ [] → now ≡ before ++ text → IsTold m pair old new empty text next legal → IsTold m pair old new before now next legal
-told_behind m pair old new before empty text now next legal none whole told_so = record {
+told_after m pair old new before empty text now next legal none whole told_so = record {
   agrees = told_so.agrees;
   text = whole ∙ ap (λ l. before ++ l) (told_so.text ∙ ap (λ l. l ++ lines_from (holding_of old) (seen old.account m legal.step.read legal.answer)) none);
 }

@@ -16,15 +16,15 @@ at_head : (f : Fill) (fills : List Fill) → rate_in (f ∷ fills) f.order ≡ f
 unfolding rate_in
 at_head f fills = ap (λ b. if b then f.rate else rate_in fills f.order) (eq-eqb f.order f.order refl)
 
-behind : (f : Fill) (fills : List Fill) (number : ℕ) → f.order < number → rate_in (f ∷ fills) number ≡ rate_in fills number
+following : (f : Fill) (fills : List Fill) (number : ℕ) → f.order < number → rate_in (f ∷ fills) number ≡ rate_in fills number
 unfolding rate_in
-behind f fills number less = ap (λ b. if b then f.rate else rate_in fills number) (ne_eqb f.order number (λ same. omega (arith, less, same)))
+following f fills number less = ap (λ b. if b then f.rate else rate_in fills number) (ne_eqb f.order number (λ same. omega (arith, less, same)))
 
 pub rates_found : (fills : List Fill) → AreAscending fills → All (λ (f : Fill). rate_in fills f.order ≡ f.rate) fills
 rates_found [] ascending k d inside = absurd (omega (arith, inside))
 rates_found (f ∷ fills) ascending zero d inside = at_head f fills
 rates_found (f ∷ fills) ascending (suc k) d inside =
-    behind f fills (slice_index_or fills k d).order (ascending zero (suc k) d (omega arith) inside)
+    following f fills (slice_index_or fills k d).order (ascending zero (suc k) d (omega arith) inside)
     ∙ rates_found fills (λ i j e less within. ascending (suc i) (suc j) e (omega (arith, less)) (omega (arith, within))) k d (omega (arith, inside))
 
 heads : (a b : ℕ) (x y : List ℕ) → a ∷ x ≡ b ∷ y → (a ≡ b) × (x ≡ y)

@@ -129,7 +129,7 @@ impl Statement {
         ensures text_stays { OnErr result (out.new.items ≡ out.old.items) }
         ensures room { vec_capacity out.old ≤ vec_capacity out.new }
     {
-        let mut text = Text::behind(out);
+        let mut text = Text::following(out);
         match self.tell(market, pair, &mut text) {
             Ok(()) => {
                 *out = text.whole();
@@ -151,7 +151,7 @@ impl Statement {
         ensures text_stays { OnErr result (out.new.items ≡ out.old.items) }
         ensures room { vec_capacity out.old ≤ vec_capacity out.new }
     {
-        let mut text = Text::behind(out);
+        let mut text = Text::following(out);
         match self.put_end(&mut text) {
             Ok(()) => {
                 *out = text.whole();

@@ -14,7 +14,7 @@ use Rattle.flow_orders.specs.Walks.{AreSettled}
 use Rattle.flow_orders.specs.Outcomes.{Clearing, Skipping, Outcome, Cleared, Skipped, IsAdmissibleOutcome, IsAdmissibleSkip, dual_of, end_of, IsLegalFrom, EndsSettled}
 use Rattle.flow_orders.proofs.Moving.{has_walked}
 use Rattle.price_moves.proofs.MadeAgain.{illegal_whole}
-use Rattle.journal_records.specs.Replies.{SpellsAnswer}
+use Rattle.journal_records.specs.Replies.{EncodesAnswer}
 use Rattle.market_rules.specs.Market.{Market, parts_of, search_of, start_prices}
 use Rattle.market_rules.specs.Step.{FirstRefusal, refusal_of, after_batch}
 use Rattle.market_rules.proofs.LawProofs.{plain_by_any}
@@ -28,96 +28,96 @@ use Rattle.batch_audit.specs.Private.{IsReplyFound, IsClearingFound, IsSkipFound
 
 -- a record that can't be served gets its refusal
 pub gets_fault : (m : Market) (asked : Record) (why : BodyFault) (refusal : Refusal) → IsReadAs m.version asked (Err why) → refusal ≡ refusal_of why → GetsReply m asked (Refused refusal)
-gets_fault m asked why refusal read is = (m, record { read = Err why; spelled = read; served = (ap (λ r. Plain (Refused r)) is, refl) })
+gets_fault m asked why refusal read is = (m, record { read = Err why; encoded = read; served = (ap (λ r. Plain (Refused r)) is, refl) })
 
 -- a batch that is refused gets its refusal
 pub gets_refusal : (m : Market) (asked : Record) (budget : ℕ) (refusal : Refusal) → IsReadAs m.version asked (Ok (RunBatch budget)) → FirstRefusal m (RunBatch budget) (Some refusal)
     → GetsReply m asked (Refused refusal)
 gets_refusal m asked budget refusal read first =
-    (m, record { read = Ok (RunBatch budget); spelled = read; served = record { first = Some refusal; refused = first; answered = (refl, refl) } })
+    (m, record { read = Ok (RunBatch budget); encoded = read; served = record { first = Some refusal; refused = first; answered = (refl, refl) } })
 
 -- a command that holds no batch gets the expected reply
 pub gets_expected : (m : Market) (asked : Record) (c : Command) (reply : Reply) → ((budget : ℕ) → ¬ (c ≡ RunBatch budget)) → IsReadAs m.version asked (Ok c) → IsExpected m c reply
     → GetsReply m asked reply
 gets_expected m asked c reply none read expected =
-    (expected.0, record { read = Ok c; spelled = read; served = plain_by_any IsAdmissibleOutcome m c (Plain reply) expected.0 expected.1 })
+    (expected.0, record { read = Ok c; encoded = read; served = plain_by_any IsAdmissibleOutcome m c (Plain reply) expected.0 expected.1 })
 
 -- ---- findings on an entry
 
 -- the finding on an entry whose record gets a plain reply
-pub reply_found : (m : Market) (pair : Record × Record) (answer : Answer Outcome) → SpellsAnswer pair.1 answer → (reply : Reply) (found : Finding) → GetsReply m pair.0 reply
+pub reply_found : (m : Market) (pair : Record × Record) (answer : Answer Outcome) → EncodesAnswer pair.1 answer → (reply : Reply) (found : Finding) → GetsReply m pair.0 reply
     → IsReplyFound answer reply found → IsFinding m pair found
-reply_found m pair answer spelled reply finding.NoReply gets is = absurd is
-reply_found m pair answer spelled reply (finding.OtherReply right) gets is =
-    record { answer = answer; spelled = spelled; gets = subst (GetsReply m pair.0) (sym is.0) gets; other = λ same. is.1 (same ∙ ap Plain is.0) }
-reply_found m pair answer spelled reply (finding.Batch number) gets is = absurd is
-reply_found m pair answer spelled reply (finding.Part verdict) gets is = absurd is
-reply_found m pair answer spelled reply finding.SingleBook gets is = absurd is
-reply_found m pair answer spelled reply finding.TraceLength gets is = absurd is
-reply_found m pair answer spelled reply (finding.TraceStep place) gets is = absurd is
-reply_found m pair answer spelled reply finding.AllSettled gets is = absurd is
-reply_found m pair answer spelled reply (finding.StartDual right) gets is = absurd is
-reply_found m pair answer spelled reply (finding.EndDual right) gets is = absurd is
-reply_found m pair answer spelled reply finding.Legal gets is = (gets.0, record { answer = Plain reply; spelled = subst (SpellsAnswer pair.1) is spelled; step = gets.1 })
+reply_found m pair answer encoded reply finding.NoReply gets is = absurd is
+reply_found m pair answer encoded reply (finding.OtherReply right) gets is =
+    record { answer = answer; encoded = encoded; gets = subst (GetsReply m pair.0) (sym is.0) gets; other = λ same. is.1 (same ∙ ap Plain is.0) }
+reply_found m pair answer encoded reply (finding.Batch number) gets is = absurd is
+reply_found m pair answer encoded reply (finding.Part verdict) gets is = absurd is
+reply_found m pair answer encoded reply finding.SingleBook gets is = absurd is
+reply_found m pair answer encoded reply finding.TraceLength gets is = absurd is
+reply_found m pair answer encoded reply (finding.TraceStep place) gets is = absurd is
+reply_found m pair answer encoded reply finding.AllSettled gets is = absurd is
+reply_found m pair answer encoded reply (finding.StartDual right) gets is = absurd is
+reply_found m pair answer encoded reply (finding.EndDual right) gets is = absurd is
+reply_found m pair answer encoded reply finding.Legal gets is = (gets.0, record { answer = Plain reply; encoded = subst (EncodesAnswer pair.1) is encoded; step = gets.1 })
 
 module _ (m : Market) (pair : Record × Record) (budget : ℕ) (due : IsDue m pair.0 budget) where
   -- a batch is due, and the reply has another answer
-  pub other_batch : (answer : Answer Outcome) (number : ℕ) → SpellsAnswer pair.1 answer → number ≡ m.batches + 1 → ((outcome : Outcome) → answer ≢ Batch number outcome)
+  pub other_batch : (answer : Answer Outcome) (number : ℕ) → EncodesAnswer pair.1 answer → number ≡ m.batches + 1 → ((outcome : Outcome) → answer ≢ Batch number outcome)
       → IsFinding m pair (finding.Batch number)
-  other_batch answer number spelled next other = record { answer = answer; spelled = spelled; budget = budget; due = due; next = next; other = other }
+  other_batch answer number encoded next other = record { answer = answer; encoded = encoded; budget = budget; due = due; next = next; other = other }
 
   -- an admissible outcome makes a valid entry
-  pub right_batch : (outcome : Outcome) → SpellsAnswer pair.1 (Batch (m.batches + 1) outcome) → IsAdmissibleOutcome (search_of m.version) m.orders (start_prices m) budget outcome → IsFinding m pair finding.Legal
-  right_batch outcome spelled right = (
+  pub right_batch : (outcome : Outcome) → EncodesAnswer pair.1 (Batch (m.batches + 1) outcome) → IsAdmissibleOutcome (search_of m.version) m.orders (start_prices m) budget outcome → IsFinding m pair finding.Legal
+  right_batch outcome encoded right = (
     after_batch m outcome,
     record {
       answer = Batch (m.batches + 1) outcome;
-      spelled = spelled;
-      step = record { read = Ok (RunBatch budget); spelled = due.asks; served = record { first = None; refused = due.allowed; answered = (outcome, right, (refl, refl)) } };
+      encoded = encoded;
+      step = record { read = Ok (RunBatch budget); encoded = due.asks; served = record { first = None; refused = due.allowed; answered = (outcome, right, (refl, refl)) } };
     },
   )
 
   -- a clearing
-  pub clearing_found : (c : Clearing) (found : Finding) → SpellsAnswer pair.1 (Batch (m.batches + 1) (Cleared c)) → IsClearingFound m.orders (start_prices m) c found → IsFinding m pair found
-  clearing_found c finding.NoReply spelled is = absurd is
-  clearing_found c (finding.OtherReply right) spelled is = absurd is
-  clearing_found c (finding.Batch number) spelled is = absurd is
-  clearing_found c (finding.Part verdict) spelled is = (record { clearing = c; spelled = spelled; budget = budget; due = due }, is.0, is.1)
-  clearing_found c finding.SingleBook spelled is = absurd is
-  clearing_found c finding.TraceLength spelled is = absurd is
-  clearing_found c (finding.TraceStep place) spelled is = absurd is
-  clearing_found c finding.AllSettled spelled is = absurd is
-  clearing_found c (finding.StartDual right) spelled is = absurd is
-  clearing_found c (finding.EndDual right) spelled is = absurd is
-  clearing_found c finding.Legal spelled is = right_batch (Cleared c) spelled is
+  pub clearing_found : (c : Clearing) (found : Finding) → EncodesAnswer pair.1 (Batch (m.batches + 1) (Cleared c)) → IsClearingFound m.orders (start_prices m) c found → IsFinding m pair found
+  clearing_found c finding.NoReply encoded is = absurd is
+  clearing_found c (finding.OtherReply right) encoded is = absurd is
+  clearing_found c (finding.Batch number) encoded is = absurd is
+  clearing_found c (finding.Part verdict) encoded is = (record { clearing = c; encoded = encoded; budget = budget; due = due }, is.0, is.1)
+  clearing_found c finding.SingleBook encoded is = absurd is
+  clearing_found c finding.TraceLength encoded is = absurd is
+  clearing_found c (finding.TraceStep place) encoded is = absurd is
+  clearing_found c finding.AllSettled encoded is = absurd is
+  clearing_found c (finding.StartDual right) encoded is = absurd is
+  clearing_found c (finding.EndDual right) encoded is = absurd is
+  clearing_found c finding.Legal encoded is = right_batch (Cleared c) encoded is
 
   -- a skip
-  abbrev tells : (s : Skipping) → SpellsAnswer pair.1 (Batch (m.batches + 1) (Skipped s)) → TellsSkip m pair
-  tells s spelled = record { skipping = s; spelled = spelled; budget = budget; due = due }
+  abbrev tells : (s : Skipping) → EncodesAnswer pair.1 (Batch (m.batches + 1) (Skipped s)) → TellsSkip m pair
+  tells s encoded = record { skipping = s; encoded = encoded; budget = budget; due = due }
 
-  pub skip_found : (s : Skipping) (found : Finding) → SpellsAnswer pair.1 (Batch (m.batches + 1) (Skipped s)) → IsSkipFound (parts_of m.version) m.orders (start_prices m) budget s found → IsFinding m pair found
-  skip_found s finding.NoReply spelled is = absurd is
-  skip_found s (finding.OtherReply right) spelled is = absurd is
-  skip_found s (finding.Batch number) spelled is = absurd is
-  skip_found s (finding.Part verdict) spelled is = absurd is
-  skip_found s finding.SingleBook spelled is = (tells s spelled, is)
-  skip_found s finding.TraceLength spelled is = (tells s spelled, is.0, is.1)
-  skip_found s (finding.TraceStep place) spelled is = (tells s spelled, is.0, is.1)
-  skip_found s finding.AllSettled spelled is = (tells s spelled, is.0, is.1)
-  skip_found s (finding.StartDual right) spelled is = (tells s spelled, is.0, is.1)
-  skip_found s (finding.EndDual right) spelled is = (tells s spelled, is.0, is.1)
-  skip_found s finding.Legal spelled is = right_batch (Skipped s) spelled is
+  pub skip_found : (s : Skipping) (found : Finding) → EncodesAnswer pair.1 (Batch (m.batches + 1) (Skipped s)) → IsSkipFound (parts_of m.version) m.orders (start_prices m) budget s found → IsFinding m pair found
+  skip_found s finding.NoReply encoded is = absurd is
+  skip_found s (finding.OtherReply right) encoded is = absurd is
+  skip_found s (finding.Batch number) encoded is = absurd is
+  skip_found s (finding.Part verdict) encoded is = absurd is
+  skip_found s finding.SingleBook encoded is = (tells s encoded, is)
+  skip_found s finding.TraceLength encoded is = (tells s encoded, is.0, is.1)
+  skip_found s (finding.TraceStep place) encoded is = (tells s encoded, is.0, is.1)
+  skip_found s finding.AllSettled encoded is = (tells s encoded, is.0, is.1)
+  skip_found s (finding.StartDual right) encoded is = (tells s encoded, is.0, is.1)
+  skip_found s (finding.EndDual right) encoded is = (tells s encoded, is.0, is.1)
+  skip_found s finding.Legal encoded is = right_batch (Skipped s) encoded is
 
 -- the finding on a clearing is that of every entry that has it
 pub clearing_where : (m : Market) (budget number : ℕ) (c : Clearing) (found : Finding) → number ≡ m.batches + 1 → IsClearingFound m.orders (start_prices m) c found
     → IsFoundWhere m (λ asked. IsDue m asked budget) (Batch number (Cleared c)) found
-clearing_where m budget number c found next holds pair due spelled =
-    clearing_found m pair budget due c found (subst (λ n. SpellsAnswer pair.1 (Batch n (Cleared c))) next spelled) holds
+clearing_where m budget number c found next holds pair due encoded =
+    clearing_found m pair budget due c found (subst (λ n. EncodesAnswer pair.1 (Batch n (Cleared c))) next encoded) holds
 
 pub skip_where : (m : Market) (budget number : ℕ) (s : Skipping) (found : Finding) → number ≡ m.batches + 1 → IsSkipFound (parts_of m.version) m.orders (start_prices m) budget s found
     → IsFoundWhere m (λ asked. IsDue m asked budget) (Batch number (Skipped s)) found
-skip_where m budget number s found next holds pair due spelled =
-    skip_found m pair budget due s found (subst (λ n. SpellsAnswer pair.1 (Batch n (Skipped s))) next spelled) holds
+skip_where m budget number s found next holds pair due encoded =
+    skip_found m pair budget due s found (subst (λ n. EncodesAnswer pair.1 (Batch n (Skipped s))) next encoded) holds
 
 -- no plain reply is an outcome
 pub plain_is_none : (reply : Reply) (k : ℕ) (outcome : Outcome) → Plain reply ≢ Batch k outcome

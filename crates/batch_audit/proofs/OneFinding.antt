@@ -21,8 +21,8 @@ use Rattle.batch_certificate.specs.declared.verdict.Verdict.TheVariants.{Right}
 use Rattle.batch_certificate.specs.Verdicts.{IsVerdict}
 use Rattle.batch_certificate.proofs.OneVerdict.{one_verdict}
 use Rattle.batch_certificate.proofs.Verdicts.{right_parts}
-use Rattle.journal_records.specs.Replies.{SpellsAnswer}
-use Rattle.journal_records.proofs.Spelled.{answer_unique}
+use Rattle.journal_records.specs.Replies.{EncodesAnswer}
+use Rattle.journal_records.proofs.Encoded.{answer_unique}
 use Rattle.market_rules.specs.Market.{Market, parts_of, search_of, start_prices}
 use Rattle.market_rules.specs.Step.{FirstRefusal, Accepts, Answers, Serves, ServesRead, holds_batch}
 use Rattle.market_rules.specs.Journal.{Step}
@@ -240,7 +240,7 @@ plain_answers m c r q x y a b =
 one_reply : (m : Market) (asked : Record) (r q : Reply) → GetsReply m asked r → GetsReply m asked q → r ≡ q
 one_reply m asked r q a b =
     same_plain r q
-    (by_read a.1.read a.1.served (subst (λ read. ServesRead IsAdmissibleOutcome m read (Plain q) b.0) (reading_unique m.version asked b.1.read a.1.read b.1.spelled a.1.spelled) b.1.served))
+    (by_read a.1.read a.1.served (subst (λ read. ServesRead IsAdmissibleOutcome m read (Plain q) b.0) (reading_unique m.version asked b.1.read a.1.read b.1.encoded a.1.encoded) b.1.served))
   where
     by_read : (read : Result Command BodyFault) → ServesRead IsAdmissibleOutcome m read (Plain r) a.0 → ServesRead IsAdmissibleOutcome m read (Plain q) b.0 → ◌≡◌ {A = Answer Outcome} (Plain r) (Plain q)
     by_read (Err why) one other = one.0 ∙ sym other.0
@@ -249,7 +249,7 @@ one_reply m asked r q a b =
 -- a record gets no plain reply if a batch is due
 not_both : (m : Market) (asked : Record) (r : Reply) (budget : ℕ) → GetsReply m asked r → IsDue m asked budget → ⊥
 not_both m asked r budget gets due =
-    let read = reading_unique m.version asked gets.1.read (Ok (RunBatch budget)) gets.1.spelled due.asks in
+    let read = reading_unique m.version asked gets.1.read (Ok (RunBatch budget)) gets.1.encoded due.asks in
     let serves : Serves IsAdmissibleOutcome m (RunBatch budget) (Plain r) gets.0 = subst (λ x. ServesRead IsAdmissibleOutcome m x (Plain r) gets.0) read gets.1.served in
     never_plain m budget r gets.0 (subst (λ f. Answers IsAdmissibleOutcome m (RunBatch budget) f (Plain r) gets.0) (one_first m (RunBatch budget) serves.first None serves.refused due.allowed) serves.answered)
 
@@ -307,7 +307,7 @@ one_answer_found m asked a f g x y =
 
 module _ (m : Market) (pair : Record × Record) where
   abbrev PairFound : Finding → Type 0
-  PairFound f = (((a : Answer Outcome) → ¬ SpellsAnswer pair.1 a) × (f ≡ finding.NoReply)) ⊎ ((a : Answer Outcome) × SpellsAnswer pair.1 a × AnswerFound m pair.0 a f)
+  PairFound f = (((a : Answer Outcome) → ¬ EncodesAnswer pair.1 a) × (f ≡ finding.NoReply)) ⊎ ((a : Answer Outcome) × EncodesAnswer pair.1 a × AnswerFound m pair.0 a f)
 
   one_pair_found : IsOne PairFound
   one_pair_found f g x y =
@@ -316,33 +316,33 @@ module _ (m : Market) (pair : Record × Record) where
         | inr there ↦ elim y [
           | inl here ↦ absurd (here.0 there.0 there.1)
           | inr also ↦ one_answer_found m pair.0 there.0 f g there.2
-              (subst (λ a. AnswerFound m pair.0 a g) (answer_unique also.0 there.0 also.1.fits there.1.fits (sym also.1.spelled ∙ there.1.spelled)) also.2)
+              (subst (λ a. AnswerFound m pair.0 a g) (answer_unique also.0 there.0 also.1.fits there.1.fits (sym also.1.encoded ∙ there.1.encoded)) also.2)
         ]
       ]
 
   of_clearing : (t : TellsClearing m pair) (f : Finding) → IsClearingFound m.orders (start_prices m) t.clearing f → PairFound f
-  of_clearing t f found = inr (Batch (m.batches + 1) (Cleared t.clearing), t.spelled, inr (t.budget, t.due, inr (Cleared t.clearing, refl, found)))
+  of_clearing t f found = inr (Batch (m.batches + 1) (Cleared t.clearing), t.encoded, inr (t.budget, t.due, inr (Cleared t.clearing, refl, found)))
 
   of_skip : (t : TellsSkip m pair) (f : Finding) → IsSkipFound (parts_of m.version) m.orders (start_prices m) t.budget t.skipping f → PairFound f
-  of_skip t f found = inr (Batch (m.batches + 1) (Skipped t.skipping), t.spelled, inr (t.budget, t.due, inr (Skipped t.skipping, refl, found)))
+  of_skip t f found = inr (Batch (m.batches + 1) (Skipped t.skipping), t.encoded, inr (t.budget, t.due, inr (Skipped t.skipping, refl, found)))
 
   -- the answer of a valid entry is the plain reply, or an admissible outcome of a batch that is due
   of_legal : (new : Market) (a : Answer Outcome) → Step IsReadAs IsAdmissibleOutcome m pair.0 a new → AnswerFound m pair.0 a finding.Legal
   of_legal new (Plain r) step = inl (r, (new, step), refl)
-  of_legal new (Batch k o) step = by_read step.read step.spelled step.served
+  of_legal new (Batch k o) step = by_read step.read step.encoded step.served
     where
       allowed : (c : Command) (first : Option Refusal) → FirstRefusal m c first → Answers IsAdmissibleOutcome m c first (Batch k o) new → FirstRefusal m c None
       allowed c (Some r) refused answers = absurd (plain_is_none (Refused r) k o (sym answers.0))
       allowed c None refused answers = refused
 
       by_read : (read : Result Command BodyFault) → IsReadAs m.version pair.0 read → ServesRead IsAdmissibleOutcome m read (Batch k o) new → AnswerFound m pair.0 (Batch k o) finding.Legal
-      by_read (Err why) spelled gives = absurd (plain_is_none _ k o (sym gives.0))
-      by_read (Ok c) spelled serves =
+      by_read (Err why) encoded gives = absurd (plain_is_none _ k o (sym gives.0))
+      by_read (Ok c) encoded serves =
           let held = batch_of IsAdmissibleOutcome m c k o new serves in
           inr (
             held.budget,
             record {
-              asks = subst (λ d. IsReadAs m.version pair.0 (Ok d)) held.command_is spelled;
+              asks = subst (λ d. IsReadAs m.version pair.0 (Ok d)) held.command_is encoded;
               allowed = subst (λ d. FirstRefusal m d None) held.command_is (allowed c serves.first serves.refused serves.answered);
             },
             inr (o, ap (λ n. Batch n o) held.number_is, admissible_outcome m held.budget o held.ruled),
@@ -351,9 +351,9 @@ module _ (m : Market) (pair : Record × Record) where
   -- each finding on an entry is one on its answer, or `NoReply`
   found : (f : Finding) → IsFinding m pair f → PairFound f
   found finding.NoReply is = inl (is, refl)
-  found (finding.OtherReply right) is = inr (is.answer, is.spelled, inl (right, is.gets, (refl, is.other)))
+  found (finding.OtherReply right) is = inr (is.answer, is.encoded, inl (right, is.gets, (refl, is.other)))
   found (finding.Batch number) is =
-      inr (is.answer, is.spelled, inr (is.budget, is.due, inl (subst (λ n. (o : Outcome) → is.answer ≢ Batch n o) is.next is.other, ap finding.Batch is.next)))
+      inr (is.answer, is.encoded, inr (is.budget, is.due, inl (subst (λ n. (o : Outcome) → is.answer ≢ Batch n o) is.next is.other, ap finding.Batch is.next)))
   found (finding.Part verdict) is = of_clearing is.0 (finding.Part verdict) (is.1, is.2)
   found finding.SingleBook is = of_skip is.0 finding.SingleBook is.1
   found finding.TraceLength is = of_skip is.0 finding.TraceLength (is.1, is.2)
@@ -361,7 +361,7 @@ module _ (m : Market) (pair : Record × Record) where
   found finding.AllSettled is = of_skip is.0 finding.AllSettled (is.1, is.2)
   found (finding.StartDual right) is = of_skip is.0 (finding.StartDual right) (is.1, is.2)
   found (finding.EndDual right) is = of_skip is.0 (finding.EndDual right) (is.1, is.2)
-  found finding.Legal is = inr (is.1.answer, is.1.spelled, of_legal is.0 is.1.answer is.1.step)
+  found finding.Legal is = inr (is.1.answer, is.1.encoded, of_legal is.0 is.1.answer is.1.step)
 
 pub one_finding : OneFinding
 one_finding m pair f g a b = one_pair_found m pair f g (found m pair f a) (found m pair g b)

@@ -13,8 +13,8 @@ use Rattle.wire_records.specs.declared.reply.Reply.TheVariants.{Refused}
 use Rattle.wire_records.specs.declared.reply.Refusal.{Refusal}
 use Rattle.wire_records.proofs.Readings.{reading_unique}
 use Rattle.flow_orders.specs.Outcomes.{Outcome, IsAdmissibleOutcome}
-use Rattle.journal_records.specs.Replies.{SpellsAnswer}
-use Rattle.journal_records.proofs.Spelled.{answer_unique}
+use Rattle.journal_records.specs.Replies.{EncodesAnswer}
+use Rattle.journal_records.proofs.Encoded.{answer_unique}
 use Rattle.market_rules.specs.Market.{Market, most_batches}
 use Rattle.market_rules.specs.Step.{NoOutcome, ServesPlain, FirstRefusal, Answers, Serves, ServesRead, refusal_of, after_batch}
 use Rattle.market_rules.specs.Journal.{Step}
@@ -72,25 +72,25 @@ module _ (m : Market) (c : Command) (none : (budget : ℕ) → ¬ (c ≡ RunBatc
 -- what a record is read as determines what the record changes
 pub record_weighed : (found : Option Change) (old : Market) (asked : Record) (read : Result Command BodyFault) (a : Answer Outcome) → IsReadAs old.version asked read
     → IsReadWeighed old read a found → IsAnswerWeighed old asked a found
-record_weighed (Some x) old asked read a spelled weighed = (weighed.0, record { read = read; spelled = spelled; served = weighed.1 }, weighed.2)
-record_weighed None old asked read a spelled none = λ made step.
-    none made (subst (λ r. ServesRead IsAdmissibleOutcome old r a made) (reading_unique old.version asked step.read read step.spelled spelled) step.served)
+record_weighed (Some x) old asked read a encoded weighed = (weighed.0, record { read = read; encoded = encoded; served = weighed.1 }, weighed.2)
+record_weighed None old asked read a encoded none = λ made step.
+    none made (subst (λ r. ServesRead IsAdmissibleOutcome old r a made) (reading_unique old.version asked step.read read step.encoded encoded) step.served)
 
 -- the answer that the other record encodes determines what the entry changes
-pub pair_weighed : (found : Option Change) (old : Market) (pair : Record × Record) (a : Answer Outcome) → SpellsAnswer pair.1 a
+pub pair_weighed : (found : Option Change) (old : Market) (pair : Record × Record) (a : Answer Outcome) → EncodesAnswer pair.1 a
     → IsAnswerWeighed old pair.0 a found → IsWeighed old pair found
-pair_weighed (Some x) old pair a spelled weighed = record {
+pair_weighed (Some x) old pair a encoded weighed = record {
   new = weighed.0;
-  legal = record { answer = a; spelled = spelled; step = weighed.1 };
+  legal = record { answer = a; encoded = encoded; step = weighed.1 };
   changes = weighed.2;
 }
-pair_weighed None old pair a spelled none = λ made legal.
-    let same = answer_unique legal.answer a legal.spelled.fits spelled.fits (sym legal.spelled.spelled ∙ spelled.spelled) in
+pair_weighed None old pair a encoded none = λ made legal.
+    let same = answer_unique legal.answer a legal.encoded.fits encoded.fits (sym legal.encoded.encoded ∙ encoded.encoded) in
     none made (subst (λ x. Step IsReadAs IsAdmissibleOutcome old pair.0 x made) same legal.step)
 
 -- a record that encodes no answer makes no valid entry
-pub no_answer : (old : Market) (pair : Record × Record) → ((a : Answer Outcome) → ¬ SpellsAnswer pair.1 a) → IsWeighed old pair None
-no_answer old pair none = λ made legal. none legal.answer legal.spelled
+pub no_answer : (old : Market) (pair : Record × Record) → ((a : Answer Outcome) → ¬ EncodesAnswer pair.1 a) → IsWeighed old pair None
+no_answer old pair none = λ made legal. none legal.answer legal.encoded
 
 -- ---- refusals
 

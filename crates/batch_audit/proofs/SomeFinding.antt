@@ -16,7 +16,7 @@ use Rattle.flow_orders.specs.Outcomes.{Clearing, Skipping, Outcome, Cleared, Ski
 use Rattle.batch_certificate.specs.Verdicts.{IsVerdict}
 use Rattle.batch_certificate.proofs.OneVerdict.{right_is_for_admissible_clearings}
 use Rattle.batch_certificate.proofs.Judging.{each_has_a_verdict}
-use Rattle.journal_records.specs.Replies.{SpellsAnswer}
+use Rattle.journal_records.specs.Replies.{EncodesAnswer}
 use Rattle.market_rules.specs.Market.{Market, IsConsistent, parts_of, start_prices}
 use Rattle.market_rules.specs.Step.{FirstRefusal, Answers, Serves, refusal_of}
 use Rattle.market_rules.proofs.LawProofs.{plain_by_any, batch_of}
@@ -29,18 +29,18 @@ use Rattle.batch_audit.proofs.Found.{gets_fault, reply_found, other_batch, right
 
 -- each record has a reading
 not_unread : (version : Version) (r : Record) → ((read : Result Command BodyFault) → ¬ IsReadAs version r read) → ⊥
-not_unread version r none = none (Err UnknownTag) (λ tag. none (Err BadBody) (tag, λ c spells. none (Ok c) (tag, spells)))
+not_unread version r none = none (Err UnknownTag) (λ tag. none (Err BadBody) (tag, λ c encodes. none (Ok c) (tag, encodes)))
 
-module _ (m : Market) (pair : Record × Record) (consistent : IsConsistent m) (none : (f : Finding) → ¬ IsFinding m pair f) (a : Answer Outcome) (spelled : SpellsAnswer pair.1 a) where
+module _ (m : Market) (pair : Record × Record) (consistent : IsConsistent m) (none : (f : Finding) → ¬ IsFinding m pair f) (a : Answer Outcome) (encoded : EncodesAnswer pair.1 a) where
   -- if a plain reply is got, the entry has it or another one
   no_reply : (r : Reply) → GetsReply m pair.0 r → ⊥
   no_reply r gets =
       none (finding.OtherReply r)
-      (reply_found m pair a spelled r (finding.OtherReply r) gets (refl, λ same. none finding.Legal (reply_found m pair a spelled r finding.Legal gets same)))
+      (reply_found m pair a encoded r (finding.OtherReply r) gets (refl, λ same. none finding.Legal (reply_found m pair a encoded r finding.Legal gets same)))
 
   module _ (budget : ℕ) (due : IsDue m pair.0 budget) where
     -- a clearing is admissible, or has a part that isn't
-    no_clearing : (c : Clearing) → SpellsAnswer pair.1 (Batch (m.batches + 1) (Cleared c)) → ⊥
+    no_clearing : (c : Clearing) → EncodesAnswer pair.1 (Batch (m.batches + 1) (Cleared c)) → ⊥
     no_clearing c told =
         let orders : All IsOrder m.orders = λ k d inside. (consistent.live k d inside).order in
         let v = each_has_a_verdict m.orders (start_prices m) c orders in
@@ -48,7 +48,7 @@ module _ (m : Market) (pair : Record × Record) (consistent : IsConsistent m) (n
         (clearing_found m pair budget due c (finding.Part v.0) told
         (v.1, λ is. none finding.Legal (right_batch m pair budget due (Cleared c) told ((right_is_for_admissible_clearings m.orders (start_prices m) c).0 (subst (IsVerdict m.orders (start_prices m) c) is v.1)))))
 
-    module _ (s : Skipping) (told : SpellsAnswer pair.1 (Batch (m.batches + 1) (Skipped s))) where
+    module _ (s : Skipping) (told : EncodesAnswer pair.1 (Batch (m.batches + 1) (Skipped s))) where
       -- a skip whose first moves are admissible, one by one
       legal_to : HasWholeTrace m.orders budget s → (k : ℕ) → k ≤ length s.trace → ¬ ¬ IsLegalFrom (parts_of m.version) m.orders (start_prices m) (take k s.trace)
       legal_to whole zero inside not = not tt
@@ -103,16 +103,16 @@ module _ (m : Market) (pair : Record × Record) (consistent : IsConsistent m) (n
           ))))
 
     no_outcome : (o : Outcome) → a ≡ Batch (m.batches + 1) o → ⊥
-    no_outcome (Cleared c) is = no_clearing c (subst (SpellsAnswer pair.1) is spelled)
-    no_outcome (Skipped s) is = no_skip s (subst (SpellsAnswer pair.1) is spelled)
+    no_outcome (Cleared c) is = no_clearing c (subst (EncodesAnswer pair.1) is encoded)
+    no_outcome (Skipped s) is = no_skip s (subst (EncodesAnswer pair.1) is encoded)
 
     -- if a batch is due, the reply has an outcome or none
     no_batch : ⊥
-    no_batch = none (finding.Batch (m.batches + 1)) (other_batch m pair budget due a (m.batches + 1) spelled refl no_outcome)
+    no_batch = none (finding.Batch (m.batches + 1)) (other_batch m pair budget due a (m.batches + 1) encoded refl no_outcome)
 
   -- a command gets a plain reply, or a batch is due
   no_command : (c : Command) → IsReadAs m.version pair.0 (Ok c) → (b : Answer Outcome) (n : Market) → Serves IsAdmissibleOutcome m c b n → ⊥
-  no_command c read (Plain r) n serves = no_reply r (n, record { read = Ok c; spelled = read; served = serves })
+  no_command c read (Plain r) n serves = no_reply r (n, record { read = Ok c; encoded = read; served = serves })
   no_command c read (Batch k o) n serves =
       let held = batch_of IsAdmissibleOutcome m c k o n serves in
       no_batch held.budget (record {
@@ -137,4 +137,4 @@ module _ (m : Market) (pair : Record × Record) (consistent : IsConsistent m) (n
 
 pub each_has_a_finding : EachHasAFinding
 each_has_a_finding m pair consistent none =
-    none finding.NoReply (λ a spelled. not_unread m.version pair.0 (no_read m pair consistent none a spelled))
+    none finding.NoReply (λ a encoded. not_unread m.version pair.0 (no_read m pair consistent none a encoded))

@@ -10,7 +10,7 @@ use Rattle.flow_orders.specs.Outcomes.{Clearing, Skipping, Outcome, Cleared, Ski
 use Rattle.price_moves.specs.Retracing.{IsFirstIllegal}
 use Rattle.batch_certificate.specs.declared.verdict.Verdict.TheVariants.{Right}
 use Rattle.batch_certificate.specs.Verdicts.{IsVerdict}
-use Rattle.journal_records.specs.Replies.{SpellsAnswer}
+use Rattle.journal_records.specs.Replies.{EncodesAnswer}
 use Rattle.market_rules.specs.Market.{Market, parts_of, start_prices}
 use Rattle.market_rules.specs.Step.{FirstRefusal}
 use Rattle.market_rules.specs.Journal.{Step}
@@ -30,14 +30,14 @@ pub record IsDue (market : Market) (asked : Record) (budget : ℕ) : Type 0 wher
 -- the entry has another reply than the plain one that its record gets
 pub record HasOtherReply (market : Market) (pair : Record × Record) (reply : Reply) : Type 0 where
   pub answer : Answer Outcome
-  pub spelled : SpellsAnswer pair.1 answer
+  pub encoded : EncodesAnswer pair.1 answer
   pub gets : GetsReply market pair.0 reply
   pub other : answer ≢ Plain reply
 
 -- a batch is due under this number, and the entry's reply has no outcome under it
 pub record HasOtherBatch (market : Market) (pair : Record × Record) (number : ℕ) : Type 0 where
   pub answer : Answer Outcome
-  pub spelled : SpellsAnswer pair.1 answer
+  pub encoded : EncodesAnswer pair.1 answer
   pub budget : ℕ
   pub due : IsDue market pair.0 budget
   pub next : number ≡ market.batches + 1
@@ -46,14 +46,14 @@ pub record HasOtherBatch (market : Market) (pair : Record × Record) (number : �
 -- a batch is due, and the entry's reply is this clearing under its number
 pub record TellsClearing (market : Market) (pair : Record × Record) : Type 0 where
   pub clearing : Clearing
-  pub spelled : SpellsAnswer pair.1 (Batch (market.batches + 1) (Cleared clearing))
+  pub encoded : EncodesAnswer pair.1 (Batch (market.batches + 1) (Cleared clearing))
   pub budget : ℕ
   pub due : IsDue market pair.0 budget
 
 -- a batch of this budget is due, and the entry's reply is this skip under its number
 pub record TellsSkip (market : Market) (pair : Record × Record) : Type 0 where
   pub skipping : Skipping
-  pub spelled : SpellsAnswer pair.1 (Batch (market.batches + 1) (Skipped skipping))
+  pub encoded : EncodesAnswer pair.1 (Batch (market.batches + 1) (Skipped skipping))
   pub budget : ℕ
   pub due : IsDue market pair.0 budget
 
@@ -84,7 +84,7 @@ pub record IsOtherDual (orders : List Order) (prices : List ℤ) (told right : �
 
 -- the finding on an entry: this one holds, and none of those before it does
 abbrev pub IsFinding : Market → Record × Record → Finding → Type 0
-IsFinding m pair finding.NoReply = (answer : Answer Outcome) → ¬ SpellsAnswer pair.1 answer
+IsFinding m pair finding.NoReply = (answer : Answer Outcome) → ¬ EncodesAnswer pair.1 answer
 IsFinding m pair (finding.OtherReply reply) = HasOtherReply m pair reply
 IsFinding m pair (finding.Batch number) = HasOtherBatch m pair number
 IsFinding m pair (finding.Part verdict) = (told : TellsClearing m pair) × IsVerdict m.orders (start_prices m) told.clearing verdict × (verdict ≢ Right)

@@ -5,7 +5,7 @@ use Rattle.wire_records.specs.Commands.{Answer, Pair}
 use Rattle.wire_records.specs.Versions.{IsReadAs}
 use Rattle.wire_records.specs.declared.version.Version.{Version}
 use Rattle.flow_orders.specs.Outcomes.{Outcome, IsAdmissibleOutcome}
-use Rattle.journal_records.specs.Replies.{SpellsAnswer}
+use Rattle.journal_records.specs.Replies.{EncodesAnswer}
 use Rattle.journal_records.specs.Pairs.{IsPair}
 use Rattle.journal_records.specs.Formats.{records_of}
 use Rattle.market_rules.specs.Market.{Market, empty_market}
@@ -15,7 +15,7 @@ use Rattle.market_rules.specs.Journal.{Step, Follows}
 -- the first gets. A batch may have any admissible outcome.
 pub record IsLegalPair (old : Market) (pair : Record × Record) (new : Market) : Type 0 where
   pub answer : Answer Outcome
-  pub spelled : SpellsAnswer pair.1 answer
+  pub encoded : EncodesAnswer pair.1 answer
   pub step : Step IsReadAs IsAdmissibleOutcome old pair.0 answer new
 
 -- the entry is no step of the market
@@ -33,7 +33,7 @@ StopsAt market [] = Unit {0}
 StopsAt market (bad ∷ more) = IsIllegalPair market bad
 
 -- The entries are, in a version, these valid ones and those after them, of which the first is invalid.
-pub record AreJudged (version : Version) (all : List (Record × Record)) (legal : List (Pair Record Outcome)) (behind : List (Record × Record)) (market : Market) : Type 0 where
-  pub parts : all ≡ map records_of legal ++ behind
+pub record AreJudged (version : Version) (all : List (Record × Record)) (legal : List (Pair Record Outcome)) (following : List (Record × Record)) (market : Market) : Type 0 where
+  pub parts : all ≡ map records_of legal ++ following
   pub journal : IsLegalJournal version legal market
-  pub stops : StopsAt market behind
+  pub stops : StopsAt market following

@@ -12,7 +12,7 @@ use Rattle.batch_outcome.specs.declared.outcome.Outcome as published
 use Rattle.batch_certificate.specs.declared.verdict.Verdict.TheVariants.{Right}
 use Rattle.batch_outcome.specs.Published.{outcome_of}
 use Rattle.batch_certificate.specs.Verdicts.{IsVerdict}
-use Rattle.journal_records.specs.Replies.{SpellsAnswer}
+use Rattle.journal_records.specs.Replies.{EncodesAnswer}
 use Rattle.market_rules.specs.Market.{Market}
 use Rattle.market_rules.specs.Step.{ServesRead, holds_batch, after_batch}
 use Rattle.market_rules.specs.Journal.{Step}
@@ -83,4 +83,4 @@ IsSkipFound parts orders start budget s finding.Legal = IsAdmissibleSkip parts o
 
 -- this is the finding on every entry whose first record is of some kind, and whose second encodes this answer
 abbrev pub IsFoundWhere : Market → (Record → Type 0) → Answer Outcome → Finding → Type 0
-IsFoundWhere m IsAsked answer found = (pair : Record × Record) → IsAsked pair.0 → SpellsAnswer pair.1 answer → IsFinding m pair found
+IsFoundWhere m IsAsked answer found = (pair : Record × Record) → IsAsked pair.0 → EncodesAnswer pair.1 answer → IsFinding m pair found

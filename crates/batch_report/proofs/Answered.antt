@@ -10,8 +10,8 @@ use Rattle.wire_records.proofs.Readings.{reading_unique}
 use Rattle.flow_orders.specs.Outcomes.{Outcome, IsAdmissibleOutcome}
 use Rattle.market_rules.specs.Market.{Market}
 use Rattle.market_rules.specs.Step.{Answers, Serves, ServesRead, refusal_of}
-use Rattle.journal_records.specs.Replies.{SpellsAnswer}
-use Rattle.journal_records.proofs.Spelled.{answer_unique}
+use Rattle.journal_records.specs.Replies.{EncodesAnswer}
+use Rattle.journal_records.proofs.Encoded.{answer_unique}
 use Rattle.market_rules.specs.Journal.{Step}
 use Rattle.market_rules.proofs.Versions.{step_version}
 use Rattle.batch_audit.specs.Legal.{IsLegalPair}
@@ -55,10 +55,10 @@ order_answers m command None a n says answers = absurd (subst says_order answers
 -- the command that a record is read as is the one that is served
 served_by : (old new : Market) (asked : Record) (read : Result Command BodyFault) (a : Answer Outcome) (c : Command) → ((refusal : Refusal) → a ≡ Plain (Refused refusal) → ⊥)
     → IsReadAs old.version asked read → ServesRead IsAdmissibleOutcome old read a new → IsReadAs old.version asked (Ok c) → Serves IsAdmissibleOutcome old c a new
-served_by old new asked (Ok d) a c plain spelled serves seen =
-    let same : d ≡ c = (let both = reading_unique old.version asked (Ok d) (Ok c) spelled seen in cc) in
+served_by old new asked (Ok d) a c plain encoded serves seen =
+    let same : d ≡ c = (let both = reading_unique old.version asked (Ok d) (Ok c) encoded seen in cc) in
     subst (λ (x : Command). Serves IsAdmissibleOutcome old x a new) same serves
-served_by old new asked (Err why) a c plain spelled serves seen = absurd (plain (refusal_of why) serves.0)
+served_by old new asked (Err why) a c plain encoded serves seen = absurd (plain (refusal_of why) serves.0)
 
 -- what a record is read as in the version of the market after its step is what it is read as in that of the market before
 read_before : (old new : Market) (asked : Record) (a : Answer Outcome) (read : Result Command BodyFault) → Step IsReadAs IsAdmissibleOutcome old asked a new → IsReadAs new.version asked read → IsReadAs old.version asked read
@@ -68,13 +68,13 @@ served : (new : Market) (asked : Record) (c : Command) (a : Answer Outcome) → 
     → (answered : IsAnswered new asked a) → Serves IsAdmissibleOutcome answered.0 c a new
 served new asked c a plain seen answered =
     let step = answered.1 in
-    served_by answered.0 new asked step.read a c plain step.spelled step.served (read_before answered.0 new asked a (Ok c) step seen)
+    served_by answered.0 new asked step.read a c plain step.encoded step.served (read_before answered.0 new asked a (Ok c) step seen)
 
 -- a record that is read as no command is answered by a refusal only
 unserved_by : (old new : Market) (asked : Record) (read : Result Command BodyFault) (a : Answer Outcome) (why : BodyFault) → ((refusal : Refusal) → a ≡ Plain (Refused refusal) → ⊥)
     → IsReadAs old.version asked read → ServesRead IsAdmissibleOutcome old read a new → IsReadAs old.version asked (Err why) → ⊥
-unserved_by old new asked (Ok d) a why plain spelled serves seen = absurd (let both = reading_unique old.version asked (Ok d) (Err why) spelled seen in cc)
-unserved_by old new asked (Err other) a why plain spelled serves seen = plain (refusal_of other) serves.0
+unserved_by old new asked (Ok d) a why plain encoded serves seen = absurd (let both = reading_unique old.version asked (Ok d) (Err why) encoded seen in cc)
+unserved_by old new asked (Err other) a why plain encoded serves seen = plain (refusal_of other) serves.0
 
 -- Done is no refusal
 pub done_plain : (refusal : Refusal) → ◌≡◌ {A = Answer Outcome} (Plain Done) (Plain (Refused refusal)) → ⊥
@@ -97,33 +97,33 @@ placing_command new asked c number seen answered =
 pub done_is_read : (new : Market) (asked : Record) (why : BodyFault) → IsReadAs new.version asked (Err why) → IsAnswered new asked (Plain Done) → ⊥
 done_is_read new asked why seen answered =
     let step = answered.1 in
-    unserved_by answered.0 new asked step.read (Plain Done) why done_plain step.spelled step.served (read_before answered.0 new asked (Plain Done) (Err why) step seen)
+    unserved_by answered.0 new asked step.read (Plain Done) why done_plain step.encoded step.served (read_before answered.0 new asked (Plain Done) (Err why) step seen)
 
 pub order_is_read : (new : Market) (asked : Record) (why : BodyFault) (number : ℕ) → IsReadAs new.version asked (Err why) → IsAnswered new asked (Plain (Order number)) → ⊥
 order_is_read new asked why number seen answered =
     let step = answered.1 in
-    unserved_by answered.0 new asked step.read (Plain (Order number)) why (order_plain number) step.spelled step.served (read_before answered.0 new asked (Plain (Order number)) (Err why) step seen)
+    unserved_by answered.0 new asked step.read (Plain (Order number)) why (order_plain number) step.encoded step.served (read_before answered.0 new asked (Plain (Order number)) (Err why) step seen)
 
 -- the answer that a valid entry's second record encodes is that of its first
-pub answered : (pair : Record × Record) (asked told : Record) (a : Answer Outcome) (new : Market) → asked ≡ pair.0 → told ≡ pair.1 → SpellsAnswer told a
+pub answered : (pair : Record × Record) (asked told : Record) (a : Answer Outcome) (new : Market) → asked ≡ pair.0 → told ≡ pair.1 → EncodesAnswer told a
     → (old : Market) × IsLegalPair old pair new → IsAnswered new asked a
-answered pair asked told a new asked_is told_is spelled made =
+answered pair asked told a new asked_is told_is encoded made =
     let legal = made.1 in
-    let same = answer_unique legal.answer a legal.spelled.fits spelled.fits (sym legal.spelled.spelled ∙ sym told_is ∙ spelled.spelled) in
+    let same = answer_unique legal.answer a legal.encoded.fits encoded.fits (sym legal.encoded.encoded ∙ sym told_is ∙ encoded.encoded) in
     (made.0, subst (λ r. Step IsReadAs IsAdmissibleOutcome made.0 r a new) (sym asked_is) (subst (λ x. Step IsReadAs IsAdmissibleOutcome made.0 pair.0 x new) same legal.step))
 
 -- what is reported of the answer, after the entry's number
 pub reported : (market : Market) (number : ℕ) (pair : Record × Record) (asked answered : Record) (a : Answer Outcome) (old one two three : List ℕ)
-    → asked ≡ pair.0 → answered ≡ pair.1 → SpellsAnswer answered a → one ≡ old ++ decimal number → two ≡ one ++ codes " "
+    → asked ≡ pair.0 → answered ≡ pair.1 → EncodesAnswer answered a → one ≡ old ++ decimal number → two ≡ one ++ codes " "
     → (told : List ℕ) × Tells market asked a told × (three ≡ two ++ told)
     → (text : List ℕ) × IsReport market number pair text × (three ≡ old ++ text)
-reported market number pair asked answered a old one two three asked_is answered_is spelled first second third =
+reported market number pair asked answered a old one two three asked_is answered_is encoded first second third =
     let told = third.0 in (
       decimal number then codes " " then told,
       record {
         answer = a;
         told = told;
-        spelled = subst (λ r. SpellsAnswer r a) answered_is spelled;
+        encoded = subst (λ r. EncodesAnswer r a) answered_is encoded;
         tells = subst (λ r. Tells market r a told) asked_is third.1;
         numbered = refl;
       },

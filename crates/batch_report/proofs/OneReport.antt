@@ -8,7 +8,7 @@ use Rattle.wire_records.specs.declared.reply.Reply.TheVariants.{Done, Asset, Acc
 use Rattle.wire_records.proofs.Readings.{reading_unique}
 use Rattle.flow_orders.specs.Outcomes.{Outcome, Cleared, Skipped}
 use Rattle.market_rules.specs.Market.{Market}
-use Rattle.journal_records.proofs.Spelled.{answer_unique}
+use Rattle.journal_records.proofs.Encoded.{answer_unique}
 use Rattle.batch_report.specs.Reports.{TellsDone, TellsPlacing, Tells}
 use Rattle.batch_report.specs.Laws.{OneReport}
 
@@ -44,5 +44,5 @@ one_told market asked (Batch batch (Skipped s)) x y a b = a ∙ sym b
 
 pub one_report : OneReport
 one_report market number pair x y a b =
-    let same = answer_unique a.answer b.answer a.spelled.fits b.spelled.fits (sym a.spelled.spelled ∙ b.spelled.spelled) in
+    let same = answer_unique a.answer b.answer a.encoded.fits b.encoded.fits (sym a.encoded.encoded ∙ b.encoded.encoded) in
     a.numbered ∙ ap (λ xs. decimal number ++ (codes " " ++ xs)) (one_told market pair.0 b.answer a.told b.told (subst (λ (answer : Answer Outcome). Tells market pair.0 answer a.told) same a.tells) b.tells) ∙ sym b.numbered

@@ -10,7 +10,7 @@ use Rattle.wire_records.specs.declared.reply.Reply.TheVariants.{Done, Asset, Acc
 use Rattle.flow_orders.specs.Outcomes.{Fill, Clearing, Skipping, Outcome, Cleared, Skipped}
 use Rattle.weight_rows.specs.Rows.{price_of}
 use Rattle.flow_orders.specs.Residuals.{residual_in}
-use Rattle.journal_records.specs.Replies.{SpellsAnswer}
+use Rattle.journal_records.specs.Replies.{EncodesAnswer}
 use Rattle.market_rules.specs.Market.{Market}
 use Rattle.pair_text.specs.Texts.{◌then◌, asset_name, entry_text, last_text}
 
@@ -98,6 +98,6 @@ Tells market asked (Batch batch (Skipped s)) text = text ≡ skipped_line batch 
 pub record IsReport (market : Market) (number : ℕ) (pair : Record × Record) (text : List ℕ) : Type 0 where
   pub answer : Answer Outcome
   pub told : List ℕ
-  pub spelled : SpellsAnswer pair.1 answer
+  pub encoded : EncodesAnswer pair.1 answer
   pub tells : Tells market pair.0 answer told
   pub numbered : text ≡ decimal number then codes " " then told

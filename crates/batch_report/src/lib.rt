@@ -1,6 +1,7 @@
 //! The text of a journal: what each of its entries says, in lines for people.
 //!
-//! [`report_pair`] appends the lines of one entry that an [`Audit`](batch_audit::Audit) has just found valid: one line
+//! [`report_entry`] appends the lines of one entry, with the market after it, and [`report_pair`] those of one that an
+//! [`Audit`](batch_audit::Audit) has just found valid: one line
 //! for a plain command or a refusal, and for a batch that cleared one more for each asset and for each order that was
 //! live. The laws of the texts are in [`laws`].
 //!
@@ -15,4 +16,4 @@ pub mod laws;
 mod plain;
 mod report;
 
-pub use report::report_pair;
+pub use report::{report_entry, report_pair};

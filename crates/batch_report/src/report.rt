@@ -48,8 +48,8 @@ fn put_pair(market: &Market, pair: &PairView<'_>, number: u64, out: &mut Text) -
     }
 }
 
-/// Appends the lines of an entry that the audit has just found valid, under its number, counted from 1. They name
-/// assets by the tickers of the market after the entry, without spaces. Prices, gaps and dual values are in grains,
+/// Appends the lines of an entry that led to this market, under its number, counted from 1. They name assets by the tickers of the
+/// market, which is the one after the entry, without spaces. Prices, gaps and dual values are in grains,
 /// limits in ticks, all other amounts in whole units; numbers are plain decimal, with `-` before a negative one, and
 /// each line ends with a line feed.
 ///
@@ -57,6 +57,32 @@ fn put_pair(market: &Market, pair: &PairView<'_>, number: u64, out: &mut Text) -
 /// has, after its own line, one for each asset and one for each order that was live, including those with a rate of 0.
 /// The error is `Memory`: there was no memory for the text; then `out` is as before, since what was written of the text
 /// is taken back. It costs what the entry has of numbers, and takes memory only if `out` has no room for the text.
+pub fn report_entry(
+    market: &Market,
+    pair: &PairView<'_>,
+    number: u64,
+    out: &mut Vec<u8>,
+) -> Result<(), Memory>
+    requires legal { (old : Market) × IsLegalPair old pair.now market.now }
+    ensures reported { OnOk result ((text : List ℕ) × IsReport market.now number pair.now text
+        × (out.new.items ≡ out.old.items ++ text)) }
+    ensures stays { OnErr result (out.new.items ≡ out.old.items) }
+    ensures room { vec_capacity out.old ≤ vec_capacity out.new }
+{
+    let mut text = Text::following(out);
+    match put_pair(market, pair, number, &mut text) {
+        Ok(()) => {
+            *out = text.whole();
+            Ok(())
+        }
+        Err(memory) => {
+            *out = text.taken_back();
+            Err(memory)
+        }
+    }
+}
+
+/// Appends the lines of an entry that the audit has just found valid, as [`report_entry`] does with the audit's market.
 pub fn report_pair(
     audit: &Audit,
     pair: &PairView<'_>,
@@ -69,15 +95,5 @@ pub fn report_pair(
     ensures stays { OnErr result (out.new.items ≡ out.old.items) }
     ensures room { vec_capacity out.old ≤ vec_capacity out.new }
 {
-    let mut text = Text::behind(out);
-    match put_pair(audit.market(), pair, number, &mut text) {
-        Ok(()) => {
-            *out = text.whole();
-            Ok(())
-        }
-        Err(memory) => {
-            *out = text.taken_back();
-            Err(memory)
-        }
-    }
+    report_entry(audit.market(), pair, number, out)
 }

@@ -34,7 +34,7 @@ module _ {R : Type 0} (Reads : Version → R → Result Command BodyFault → Ty
   read_right m (Err r) a n consistent serves = serves
 
   canonical_step_is_admissible : (m : Market) (asked : R) (a : Answer Outcome) (n : Market) → IsConsistent m → Step Reads IsCanonicalOutcome m asked a n → Step Reads IsAdmissibleOutcome m asked a n
-  canonical_step_is_admissible m asked a n consistent step = record { read = step.read; spelled = step.spelled; served = read_right m step.read a n consistent step.served }
+  canonical_step_is_admissible m asked a n consistent step = record { read = step.read; encoded = step.encoded; served = read_right m step.read a n consistent step.served }
 
   pub canonical_follows_are_admissible : (m : Market) (pairs : List (Pair R Outcome)) (n : Market) → IsConsistent m → Follows Reads IsCanonicalOutcome m pairs n → Follows Reads IsAdmissibleOutcome m pairs n
   canonical_follows_are_admissible m [] n consistent follows = follows

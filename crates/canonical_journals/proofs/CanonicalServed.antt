@@ -39,7 +39,7 @@ module _ {R : Type 0} (Reads : Version → R → Result Command BodyFault → Ty
   step_is_there m asked readable =
       let how = reading m.version asked readable in
       let served = read_is_there m how.0 in
-      (served.0, served.1, record { read = how.0; spelled = how.1; served = served.2 })
+      (served.0, served.1, record { read = how.0; encoded = how.1; served = served.2 })
 
   follows_are_there : (m : Market) (records : List R) → All Readable records → (pairs : List (Pair R Outcome)) × (n : Market) × (map (λ (pair : Pair R Outcome). pair.asked) pairs ≡ records) × Follows Reads IsCanonicalOutcome m pairs n
   follows_are_there m [] all = ([], m, refl, refl)

@@ -26,7 +26,7 @@ module _ {R : Type 0} (Reads : Version → R → Result Command BodyFault → Ty
   -- by the canonical rule a record has one answer and leads to one market
   pub own_step : (old : Market) (asked : R) (a b : Answer Outcome) (x y : Market) → Step Reads IsCanonicalOutcome old asked a x → Step Reads IsCanonicalOutcome old asked b y → (a ≡ b) × (x ≡ y)
   own_step old asked a b x y first other =
-      read_once old first.read a b x y first.served (rw (one_reading old.version asked first.read other.read first.spelled other.spelled) other.served)
+      read_once old first.read a b x y first.served (rw (one_reading old.version asked first.read other.read first.encoded other.encoded) other.served)
 
   same_pair : (p q : Pair R Outcome) → p.asked ≡ q.asked → p.answer ≡ q.answer → p ≡ q
   same_pair p q a b =

@@ -208,7 +208,7 @@ aapl_is_valid : IsTicker aapl
 aapl_is_valid = record {
   name = codes "AAPL";
   spaces = 4;
-  spelled = refl;
+  encoded = refl;
   named = omega arith;
   characters = All-from_recursion IsNameCharacter (codes "AAPL") (inl (omega arith, omega arith), (inl (omega arith, omega arith), (inl (omega arith, omega arith), (inl (omega arith, omega arith), tt))));
   whole = refl;
@@ -294,7 +294,7 @@ serves_batch = record {
 }
 
 step : {old new : Market} {command : Command} {answer : Answer Outcome} → Serves IsCanonicalOutcome old command answer new → Step Itself IsCanonicalOutcome old command answer new
-step {old} {new} {command} {answer} served = record { read = Ok command; spelled = refl; served = served }
+step {old} {new} {command} {answer} served = record { read = Ok command; encoded = refl; served = served }
 
 abbrev eight : List Command
 eight = AddAsset aapl ∷ OpenAccount ∷ OpenAccount ∷ DepositMoney 1 1100000 ∷ DepositAsset 2 0 10000 ∷ Place None buys ∷ Place None sells ∷ RunBatch 10 ∷ []
@@ -567,24 +567,24 @@ taken = inr (aapl_is_valid, inl ((0, omega arith, refl), refl))
 
 -- a name begins with one of its characters
 no_lower_case : (bytes : List ℕ) → ¬ IsTicker (97 ∷ bytes)
-no_lower_case bytes ticker = by ticker.name ticker.named ticker.spelled (ticker.characters 0 0)
+no_lower_case bytes ticker = by ticker.name ticker.named ticker.encoded (ticker.characters 0 0)
   where
     by : (name : List ℕ) → 1 ≤ length name → 97 ∷ bytes ≡ name ++ replicate ticker.spaces 32 → (0 < length name → IsNameCharacter (slice_index_or name 0 0)) → ⊥
-    by [] named spelled character = omega (arith, named)
-    by (c ∷ name) named spelled character =
-        let is = ap (λ (xs : List ℕ). slice_index_or xs 0 0) spelled in
+    by [] named encoded character = omega (arith, named)
+    by (c ∷ name) named encoded character =
+        let is = ap (λ (xs : List ℕ). slice_index_or xs 0 0) encoded in
         elim (character (omega arith)) [
           | inl upper ↦ omega (arith, is, upper.1)
           | inr other ↦ elim other [ inl digit ↦ omega (arith, is, digit.1) | inr sign ↦ elim sign [ inl dot ↦ omega (arith, is, dot) | inr dash ↦ omega (arith, is, dash) ] ]
         ]
 
 no_spaces : (bytes : List ℕ) → ¬ IsTicker (32 ∷ bytes)
-no_spaces bytes ticker = by ticker.name ticker.named ticker.spelled (ticker.characters 0 0)
+no_spaces bytes ticker = by ticker.name ticker.named ticker.encoded (ticker.characters 0 0)
   where
     by : (name : List ℕ) → 1 ≤ length name → 32 ∷ bytes ≡ name ++ replicate ticker.spaces 32 → (0 < length name → IsNameCharacter (slice_index_or name 0 0)) → ⊥
-    by [] named spelled character = omega (arith, named)
-    by (c ∷ name) named spelled character =
-        let is = ap (λ (xs : List ℕ). slice_index_or xs 0 0) spelled in
+    by [] named encoded character = omega (arith, named)
+    by (c ∷ name) named encoded character =
+        let is = ap (λ (xs : List ℕ). slice_index_or xs 0 0) encoded in
         elim (character (omega arith)) [
           | inl upper ↦ omega (arith, is, upper.0)
           | inr other ↦ elim other [ inl digit ↦ omega (arith, is, digit.0) | inr sign ↦ elim sign [ inl dot ↦ omega (arith, is, dot) | inr dash ↦ omega (arith, is, dash) ] ]

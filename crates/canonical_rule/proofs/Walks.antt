@@ -135,12 +135,12 @@ module _ {P : Type 0} (n : ℕ) (unsettled : P → ℕ → Bool) (move : P → �
 
   -- a walk in turn, joined with one in turn from its end, is in turn
   pub joined_in_turn : (next : ℕ) (p : P) (v w : List ℕ) → IsInTurnFrom n unsettled move next p v → IsInTurnFrom n unsettled move (next_after n unsettled move next v) (walk_end move p v) w → IsInTurnFrom n unsettled move next p (v ++ w)
-  joined_in_turn next p [] w front back = back
-  joined_in_turn next p (a ∷ v) w front back = (front.0, joined_in_turn (a + 1) (move p a) v w front.1 back)
+  joined_in_turn next p [] w prefix back = back
+  joined_in_turn next p (a ∷ v) w prefix back = (prefix.0, joined_in_turn (a + 1) (move p a) v w prefix.1 back)
 
   -- a walk in turn and a move of the next unsettled asset are in turn
   pub in_turn-push : (next : ℕ) (p : P) (v : List ℕ) (a : ℕ) → IsInTurnFrom n unsettled move next p v → first_that (unsettled (walk_end move p v)) (visits n (next_after n unsettled move next v)) ≡ Some a → IsInTurnFrom n unsettled move next p (v ++ a ∷ [])
-  in_turn-push next p v a front found = joined_in_turn next p v (a ∷ []) front (found, tt)
+  in_turn-push next p v a prefix found = joined_in_turn next p v (a ∷ []) prefix (found, tt)
 
   -- the next asset is looked for after the one moved last
   pub next_after-push : (next : ℕ) (v : List ℕ) (a : ℕ) → next_after n unsettled move next (v ++ a ∷ []) ≡ a + 1

@@ -33,9 +33,9 @@ pub fn records(alloc: Global, bytes: &[u8]) -> Option<Vec<&[u8]>> {
     let mut records = Vec::new(alloc);
     let mut rest = bytes;
     while !rest.is_empty() {
-        let (record, behind) = rest.split_at(record_len(rest));
+        let (record, following) = rest.split_at(record_len(rest));
         records.push(record).ok()?;
-        rest = behind;
+        rest = following;
     }
     Some(records)
 }
@@ -46,9 +46,9 @@ pub fn pairs(alloc: Global, bytes: &[u8]) -> Option<Vec<&[u8]>> {
     let mut pairs = Vec::new(alloc);
     let mut rest = bytes;
     while !rest.is_empty() {
-        let (pair, behind) = rest.split_at(pair_len(rest));
+        let (pair, following) = rest.split_at(pair_len(rest));
         pairs.push(pair).ok()?;
-        rest = behind;
+        rest = following;
     }
     Some(pairs)
 }

@@ -16,13 +16,13 @@ use Rattle.consistent_parts.specs.Tests.{IsMoneyHeld}
 -- a sum over numbers that follow one another, in two parts
 pub range_parts : (g : ℕ → ℤ) (a n m : ℕ) → int_sum_by g (range_with_len a (n + m)) ≡ int_sum_by g (range_with_len a n) +ℤ int_sum_by g (range_with_len (a + n) m)
 range_parts g a zero m =
-    let front : 0 + m ≡ m = omega arith in
+    let prefix : 0 + m ≡ m = omega arith in
     let same : a + 0 ≡ a = omega arith in
-    rw (front, same) (omega (arith, ints))
+    rw (prefix, same) (omega (arith, ints))
 range_parts g a (suc n) m =
-    let front : suc n + m ≡ suc (n + m) = omega arith in
+    let prefix : suc n + m ≡ suc (n + m) = omega arith in
     let same : a + suc n ≡ a + 1 + n = omega arith in
-    rw (front, same) (omega (arith, ints, range_parts g (a + 1) n m))
+    rw (prefix, same) (omega (arith, ints, range_parts g (a + 1) n m))
 
 -- one number more
 pub range_more : (g : ℕ → ℤ) (n : ℕ) → int_sum_by g (range_with_len 1 (n + 1)) ≡ int_sum_by g (range_with_len 1 n) +ℤ g (n + 1)

@@ -47,12 +47,12 @@ found_before test (x ∷ xs) ys a found =
     (λ no_x. rw no_x (found_before test xs ys a (rw no_x at found)))
     (cases_Bool (test x))
 
-pub found_behind : (test : ℕ → Bool) (xs ys : List ℕ) → first_that test xs ≡ None → first_that test (xs ++ ys) ≡ first_that test ys
-found_behind test [] ys none = refl
-found_behind test (x ∷ xs) ys none =
+pub found_after : (test : ℕ → Bool) (xs ys : List ℕ) → first_that test xs ≡ None → first_that test (xs ++ ys) ≡ first_that test ys
+found_after test [] ys none = refl
+found_after test (x ∷ xs) ys none =
     ⊎_elim
     (λ yes_x. absurd (none-some x (sym (rw yes_x at none))))
-    (λ no_x. rw no_x (found_behind test xs ys (rw no_x at none)))
+    (λ no_x. rw no_x (found_after test xs ys (rw no_x at none)))
     (cases_Bool (test x))
 
 -- ---- a walk
@@ -72,19 +72,19 @@ pub next_before : (orders : List Order) (prices : List ℤ) (next : ℕ) (found 
     → other ≡ first_that (is_unsettled orders prices) (range_with_len 0 (next - 0)) → IsNext orders prices next other
 next_before orders prices next found other first none second =
     let all : next - 0 ≡ next = omega arith in
-    second ∙ ap (λ n. first_that (is_unsettled orders prices) (range_with_len 0 n)) all ∙ sym (found_behind (is_unsettled orders prices) (range_with_len next (length prices - next)) (range_with_len 0 next) (sym first ∙ none))
+    second ∙ ap (λ n. first_that (is_unsettled orders prices) (range_with_len 0 n)) all ∙ sym (found_after (is_unsettled orders prices) (range_with_len next (length prices - next)) (range_with_len 0 next) (sym first ∙ none))
 
 -- the moves so far are a walk in turn, and the next asset is looked for after the one moved last
 pub record IsSearching (parts : ℕ) (orders : List Order) (start : List ℤ) (now : List Order) (prices : List ℤ) (next : ℕ) (walk : List ℕ) : Type 0 where
   pub same : now ≡ orders
   pub in_turn : IsInTurn (length start) (is_unsettled orders) (step_of parts orders) start walk
   pub end : prices ≡ end_of parts orders start walk
-  pub behind : next ≡ next_after (length start) (is_unsettled orders) (step_of parts orders) 0 walk
+  pub following : next ≡ next_after (length start) (is_unsettled orders) (step_of parts orders) 0 walk
 
 module _ (parts : ℕ) (orders : List Order) (start : List ℤ) where
   -- before the first move the walk is empty
   pub none_moved : (walk : List ℕ) → walk ≡ [] → IsSearching parts orders start orders start 0 walk
-  none_moved walk empty = rw empty (record { same = refl; in_turn = tt; end = refl; behind = refl })
+  none_moved walk empty = rw empty (record { same = refl; in_turn = tt; end = refl; following = refl })
 
 module _ (parts : ℕ) (orders : List Order) (start : List ℤ) (now : List Order) (prices : List ℤ) (next : ℕ) (walk : List ℕ) (so_far : IsSearching parts orders start now prices next walk) where
   pub legal_so_far : IsLegalFrom parts orders start walk
@@ -97,7 +97,7 @@ module _ (parts : ℕ) (orders : List Order) (start : List ℤ) (now : List Orde
   pub next_so_far : next ≤ length prices
   next_so_far =
       let there = next_after-there (length start) (is_unsettled orders) (step_of parts orders) 0 start walk (omega arith) so_far.in_turn in
-      omega (arith, there, so_far.behind, count_so_far)
+      omega (arith, there, so_far.following, count_so_far)
 
   -- the price of an asset is near enough for a move
   pub near_so_far : (asset : ℕ) → All (IsWithin (2 ^ 60)) start → length walk ≤ 65536 → asset < length prices → unsigned_abs (price_of prices asset) ≤ 2 ^ 60 + 2 ^ 61
@@ -109,7 +109,7 @@ module _ (parts : ℕ) (orders : List Order) (start : List ℤ) (now : List Orde
       → first_that (is_unsettled orders (end_of parts orders start walk)) (visits (length start) (next_after (length start) (is_unsettled orders) (step_of parts orders) 0 walk)) ≡ found
   found_in_turn found first =
       subst (λ p. first_that (is_unsettled orders p) (visits (length start) (next_after (length start) (is_unsettled orders) (step_of parts orders) 0 walk)) ≡ found) so_far.end
-      (subst (λ k. first_that (is_unsettled orders prices) (visits (length start) k) ≡ found) so_far.behind
+      (subst (λ k. first_that (is_unsettled orders prices) (visits (length start) k) ≡ found) so_far.following
       (subst (λ n. first_that (is_unsettled orders prices) (visits n next) ≡ found) count_so_far
       (subst (λ o. first_that (is_unsettled o prices) (visits (length prices) next) ≡ found) so_far.same (sym first))))
 
@@ -127,7 +127,7 @@ module _ (parts : ℕ) (orders : List Order) (start : List ℤ) (now : List Orde
           same = same ∙ so_far.same;
           in_turn = in_turn-push n (is_unsettled orders) (step_of parts orders) 0 start walk asset so_far.in_turn (found_in_turn found first ∙ some);
           end = move ∙ ap (λ o. step_of parts o prices asset) so_far.same ∙ ap (λ p. step_of parts orders p asset) so_far.end ∙ sym (walk_end-push n (is_unsettled orders) (step_of parts orders) start walk asset);
-          behind = sym (next_after-push n (is_unsettled orders) (step_of parts orders) 0 walk asset);
+          following = sym (next_after-push n (is_unsettled orders) (step_of parts orders) 0 walk asset);
         }
 
     -- if none is found, all are settled
@@ -142,12 +142,12 @@ module _ (parts : ℕ) (orders : List Order) (start : List ℤ) (now : List Orde
     unsettled_left : (asset : ℕ) → found ≡ Some asset → ¬ EndsSettled parts orders start walk
     unsettled_left asset some settled =
         let n = length start in
-        let behind = next_after n (is_unsettled orders) (step_of parts orders) 0 walk in
+        let following = next_after n (is_unsettled orders) (step_of parts orders) 0 walk in
         let there = next_after-there n (is_unsettled orders) (step_of parts orders) 0 start walk (omega arith) so_far.in_turn in
         let here = found_in_turn found first ∙ some in
         let test = is_unsettled orders (end_of parts orders start walk) in
-        let inside = (visits-order n behind there).within test asset here in
-        false≢true (sym (settled asset inside) ∙ first_that-passes test (visits n behind) asset here)
+        let inside = (visits-order n following there).within test asset here in
+        false≢true (sym (settled asset inside) ∙ first_that-passes test (visits n following) asset here)
 
     pub ends_spent : (budget asset : ℕ) → found ≡ Some asset → length walk ≡ budget
         → IsCanonicalTrace (length start) (is_unsettled orders) (step_of parts orders) start budget walk × (¬ EndsSettled parts orders start walk)

@@ -1,5 +1,5 @@
 //! The search for prices at which all assets are settled.
-ghost use Rattle.std.specs.Prelude.{◌≡◌, [], ◌+◌, ◌-◌, ◌^◌, ◌<◌, ◌≤◌, length, vec_capacity, All, IfSome};
+ghost use Rattle.std.specs.Prelude.{◌≡◌, [], option_map, ◌+◌, ◌-◌, ◌^◌, ◌<◌, ◌≤◌, length, vec_capacity, All, IfSome};
 ghost use Rattle.std.specs.List.{range_with_len};
 ghost use Rattle.demand_curve.specs.Demand.{IsWithin};
 ghost use Rattle.flow_orders.specs.Orders.{IsOrder};
@@ -10,9 +10,10 @@ ghost use Rattle.canonical_rule.specs.Turns.{visits, IsInTurn};
 ghost use Rattle.flow_orders.specs.Outcomes.{most_budget, step_of, end_of, IsLegalFrom};
 ghost use Rattle.flow_orders.specs.Residuals.{most_prices};
 ghost use Rattle.coordinate_search.specs.Search.{IsFound};
+ghost use Rattle.excess_bounds.specs.Directions.{IsTowards};
 ghost use Rattle.price_moves.specs.Retracing.{IsLowered};
 
-use excess_bounds::Workspace;
+use excess_bounds::{Direction, Workspace};
 use price_moves::make_move;
 
 /// How a search ended.
@@ -57,45 +58,54 @@ pub fn search(work: &mut Workspace<'_>, parts: u16, budget: u32, trace: &mut Vec
     for _made in 0..budget {
         match next_unsettled(work, next) {
             None => return Found::Settled,
-            Some(asset) => {
-                make_move(work, parts, asset);
-                trace.push_reserved(asset as u8);
-                next = asset + 1;
+            Some(found) => {
+                make_move(work, parts, found.asset, found.direction);
+                trace.push_reserved(found.asset as u8);
+                next = found.asset + 1;
             }
         }
     }
     match next_unsettled(work, next) {
         None => Found::Settled,
-        Some(_asset) => Found::Spent,
+        Some(_found) => Found::Spent,
     }
 }
 
+// An asset that isn't settled, and which way its price moves.
+#[derive(Clone, Copy)]
+struct Unsettled {
+    asset: u16,
+    direction: Direction,
+}
+
 // Returns the first asset from `next` on that isn't settled, with 0 after the last one, or `None` if all are settled.
-fn next_unsettled(work: &Workspace<'_>, next: u16) -> Option<u16>
+fn next_unsettled(work: &Workspace<'_>, next: u16) -> Option<Unsettled>
     requires next { next ≤ length work.now.prices }
-    ensures first { result
+    ensures first { option_map (λ u. u.asset) result
         ≡ first_that (is_unsettled work.now.orders work.now.prices) (visits (length work.now.prices) next) }
-    ensures there { IfSome result (λ asset. asset < length work.now.prices) }
+    ensures there { IfSome result (λ u. u.asset < length work.now.prices) }
+    ensures towards { IfSome result (λ u. IsTowards work.now.orders work.now.prices u.asset u.direction) }
     ensures few { length work.now.prices ≤ most_prices }
     ensures each { All IsOrder work.now.orders }
 {
     let count = work.prices().len() as u16;
     match unsettled_between(work, next, count) {
-        Some(asset) => Some(asset),
+        Some(found) => Some(found),
         None => unsettled_between(work, 0, next),
     }
 }
 
 // Returns the first asset from `first` on, and below `end`, that isn't settled.
-fn unsettled_between(work: &Workspace<'_>, first: u16, end: u16) -> Option<u16>
+fn unsettled_between(work: &Workspace<'_>, first: u16, end: u16) -> Option<Unsettled>
     requires end { end ≤ length work.now.prices }
-    ensures first { result
+    ensures first { option_map (λ u. u.asset) result
         ≡ first_that (is_unsettled work.now.orders work.now.prices) (range_with_len first (end - first)) }
-    ensures there { IfSome result (λ asset. asset < end) }
+    ensures there { IfSome result (λ u. u.asset < end) }
+    ensures towards { IfSome result (λ u. IsTowards work.now.orders work.now.prices u.asset u.direction) }
 {
     for asset in first..end {
-        if !work.is_settled(asset) {
-            return Some(asset);
+        if let Some(direction) = work.direction(asset) {
+            return Some(Unsettled { asset, direction });
         }
     }
     None

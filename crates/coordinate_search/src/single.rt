@@ -10,7 +10,7 @@ ghost use Rattle.canonical_rule.specs.Canonical.{moved_once};
 ghost use Rattle.flow_orders.specs.Outcomes.{are_single};
 
 use excess_bounds::Workspace;
-use price_moves::step;
+use price_moves::step_towards;
 
 // The greatest distance of two prices within 2^60 of 0, in grains.
 const REACH: i64 = 1 << 61;
@@ -49,7 +49,7 @@ fn settle_one(work: &mut Workspace<'_>, parts: u16, asset: u16)
     ensures prices { work.new.prices
         ≡ (if is_unsettled work.old.orders work.old.prices asset then moved parts work.old.orders single_reach work.old.prices asset else work.old.prices) }
 {
-    if !work.is_settled(asset) {
-        step(work, parts, asset, REACH);
+    if let Some(direction) = work.direction(asset) {
+        step_towards(work, parts, asset, direction, REACH);
     }
 }

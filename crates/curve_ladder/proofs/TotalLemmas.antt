@@ -129,7 +129,7 @@ stand_where_there (s ∷ segments) number row [] ascending from there =
     let first = there 0 (omega arith) s in
     absurd (omega (arith, first.1.1))
 stand_where_there (s ∷ segments) number row (o ∷ os) ascending from there =
-    (head, stand_where_there segments (number + 1) row os (ascending_tail o os ascending) after behind)
+    (head, stand_where_there segments (number + 1) row os (ascending_tail o os ascending) after following)
   where
     head : IsOrderOf number row s o
     head =
@@ -144,8 +144,8 @@ stand_where_there (s ∷ segments) number row (o ∷ os) ascending from there =
     after : AreFrom (number + 1) os
     after x inside = omega (arith, later_from o os ascending x inside, head.number_is)
 
-    behind : AreThere segments (number + 1) os row
-    behind k within d =
+    following : AreThere segments (number + 1) os row
+    following k within d =
         let has = there (suc k) (omega (arith, within)) d in
         let same : number + suc k ≡ number + 1 + k = omega arith in
         let order : IsOrderOf (number + 1 + k) row (get_or segments k d) has.0 = subst (λ n. IsOrderOf n row (get_or segments k d) has.0) same has.2 in (

@@ -1,7 +1,6 @@
 //! The trusted edge: a real file.
-ghost use Rattle.std.specs.Prelude.{◌≡◌, false, IsErr, length};
+ghost use Rattle.std.specs.Prelude.{◌≡◌, false, IsErr};
 ghost use Rattle.flow_io.specs.Faults.{Blames};
-ghost use Rattle.disk_edge.specs.Images.{TornWrite, TornCut, AddsBy, AddsNoLonger};
 
 use crate::{Disk, DiskFailed};
 use std::fs::File;
@@ -101,7 +100,6 @@ impl Disk for FileDisk {
     }
 
     fn write_at(&mut self, place: u64, bytes: &[u8]) -> Result<(), DiskFailed>
-        ensures images { AddsBy (TornWrite place (length bytes.now)) (file_state self.old).images (file_state self.new).images }
         ensures open { self.new.is_open ≡ self.old.is_open }
         ensures shut { self.old.is_open ≡ false → IsErr result }
         ensures cause { Blames (IsErr result) self.old.faults self.new.faults }
@@ -116,8 +114,6 @@ impl Disk for FileDisk {
     }
 
     fn cut(&mut self, to: u64) -> Result<(), DiskFailed>
-        ensures images { AddsBy (TornCut to) (file_state self.old).images (file_state self.new).images }
-        ensures no_longer { AddsNoLonger (file_state self.old).images (file_state self.new).images }
         ensures open { self.new.is_open ≡ self.old.is_open }
         ensures shut { self.old.is_open ≡ false → IsErr result }
         ensures cause { Blames (IsErr result) self.old.faults self.new.faults }

@@ -1,7 +1,6 @@
 //! The file at a path as a disk.
-ghost use Rattle.std.specs.Prelude.{◌≡◌, true, false, Ok, IsErr, length};
+ghost use Rattle.std.specs.Prelude.{◌≡◌, true, false, Ok, IsErr};
 ghost use Rattle.flow_io.specs.Faults.{Blames};
-ghost use Rattle.disk_edge.specs.Images.{TornWrite, TornCut, AddsBy, AddsNoLonger};
 
 use crate::{Disk, DiskFailed, FileDisk};
 use std::fs::{File, Files, OpenOptions};
@@ -124,7 +123,6 @@ impl<'a, R: Files<File = File>> Disk for PathDisk<'a, R> {
 
     /// Makes the file first, if it isn't there.
     fn write_at(&mut self, place: u64, bytes: &[u8]) -> Result<(), DiskFailed>
-        ensures images { AddsBy (TornWrite place (length bytes.now)) (file_state self.old.file).images (file_state self.new.file).images }
         ensures there { self.new.is_missing ≡ false }
         ensures cause { Blames (IsErr result) self.old.file.faults self.new.file.faults }
     {
@@ -133,8 +131,6 @@ impl<'a, R: Files<File = File>> Disk for PathDisk<'a, R> {
     }
 
     fn cut(&mut self, to: u64) -> Result<(), DiskFailed>
-        ensures images { AddsBy (TornCut to) (file_state self.old.file).images (file_state self.new.file).images }
-        ensures no_longer { AddsNoLonger (file_state self.old.file).images (file_state self.new.file).images }
         ensures still { self.new.is_missing ≡ self.old.is_missing }
         ensures cause { Blames (IsErr result) self.old.file.faults self.new.file.faults }
     {

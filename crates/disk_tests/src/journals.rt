@@ -76,7 +76,7 @@ fn keep_next<D: Disk>(
         (λ bytes. (version : version_value) × IsFound (Some version) bytes (D.state disk.old)) }
 {
     let mut found = Vec::new(alloc);
-    let mut journal = DiskJournal::behind_magic();
+    let mut journal = DiskJournal::after_magic();
     read_kept(alloc, &mut journal, disk, lasts, &mut found)?;
     let mut appender = journal.begin(alloc, disk)?;
     if is_whole_pair(pair) {
@@ -257,7 +257,7 @@ fn first_entry_is_found(rt: HostRuntime) -> Result<(), Fail> {
         assert_eq!(rt; keep_point(alloc, &mut disk, b"POINT"), Ok(()));
     }
     assert_eq!(rt; disk.bytes(), b"FLOWDSK2\x01\0\0\0\x05POINT\0".as_slice());
-    let mut journal = DiskJournal::behind_magic();
+    let mut journal = DiskJournal::after_magic();
     for (magic, want) in [
         (b"POINTS".as_slice(), None),
         (b"OTHER", None),

@@ -11,7 +11,7 @@ use Rattle.word_driver.specs.Ended.{Ended}
 use Rattle.market_rules.specs.Market.{Market}
 use Rattle.market_snapshot.specs.Checkpoints.{checkpoint_magic, HasCheckpointMagic}
 use Rattle.order_text.specs.Lines.{IsBlankByte, SaysNothing}
-use Rattle.line_records.specs.Lines.{IsPiece, ended_by_feeds, AreLines, AreFirst, Say, spell_commands}
+use Rattle.line_records.specs.Lines.{IsPiece, ended_by_feeds, AreLines, AreFirst, Say, encode_commands}
 use Rattle.line_records.proofs.Pieces.{ended_lines, line_or_piece, empty_piece}
 use Rattle.line_records.proofs.OneReadings.{before_next}
 use Rattle.encode_word.specs.declared.stop.EncodeStop.{EncodeStop}
@@ -62,14 +62,14 @@ taken bytes first rest whole = ap (take (length first)) whole ∙ take_at first 
 
 -- bytes of lines, parted
 parts : (bytes : List ℕ) (read more : List (List ℕ)) (last : List ℕ) → bytes ≡ ended_by_feeds (read ++ more) ++ last → bytes ≡ ended_by_feeds read ++ (ended_by_feeds more ++ last)
-parts bytes read more last whole = whole ∙ ap (λ xs. xs ++ last) (flat_map-append ended_lines.spell read more) ∙ append_assoc (ended_by_feeds read) (ended_by_feeds more) last
+parts bytes read more last whole = whole ∙ ap (λ xs. xs ++ last) (flat_map-append ended_lines.encode read more) ∙ append_assoc (ended_by_feeds read) (ended_by_feeds more) last
 
 first_pieces : (read more : List (List ℕ)) → All IsPiece (read ++ more) → All IsPiece read
 first_pieces read more pieces = subst (All IsPiece) (take_at read more (length read) refl) (All-take IsPiece (length read) (read ++ more) pieces)
 
 module _ (version : Version) where
   abbrev text_of : List Command → List ℕ
-  text_of commands = command_magic_of version ++ spell_commands commands
+  text_of commands = command_magic_of version ++ encode_commands commands
 
   -- what first bytes result in if more follow, whatever it is
   abbrev pub ComeIfMore : List ℕ → List ℕ → Type 0
@@ -105,15 +105,15 @@ module _ (version : Version) where
   kept_first : (bytes : List ℕ) (market : Market) (lines : List ℕ) → BeginsKept version bytes market lines → (read more tickers : List (List ℕ)) (last : List ℕ) (commands : List Command) → lines ≡ ended_by_feeds (read ++ more) ++ last → All IsPiece (read ++ more)
       → Say version market.tickers read commands tickers → (n : ℕ) × ComeIfMore (take n bytes) (text_of commands)
   kept_first bytes market lines kept read more tickers last commands whole pieces say =
-      let spelled = ended_by_feeds read in
-      let first = kept.checkpoint ++ spelled in
-      let is = taken bytes first (ended_by_feeds more ++ last) (kept.whole ∙ ap (λ xs. kept.checkpoint ++ xs) (parts lines read more last whole) ∙ sym (append_assoc kept.checkpoint spelled (ended_by_feeds more ++ last))) in (
+      let encoded = ended_by_feeds read in
+      let first = kept.checkpoint ++ encoded in
+      let is = taken bytes first (ended_by_feeds more ++ last) (kept.whole ∙ ap (λ xs. kept.checkpoint ++ xs) (parts lines read more last whole) ∙ sym (append_assoc kept.checkpoint encoded (ended_by_feeds more ++ last))) in (
         length first,
         subst (λ (xs : List ℕ). ComeIfMore xs (text_of commands)) (sym is) (if_more first (text_of commands) (λ Longer longer. (
           Err TooLong,
           inl (record {
             start = Kept market;
-            lines = spelled;
+            lines = encoded;
             begins = record { checkpoint = kept.checkpoint; is_one = kept.is_one; of_version = kept.of_version; whole = refl };
             comes = lines_come market.tickers read tickers commands (first_pieces read more pieces) say Longer longer;
           }),
@@ -283,9 +283,9 @@ module _ (version : Version) where
   cut More bytes Nothing lines before (line ∷ read) more tickers last commands whole pieces say = inl (plain_first bytes before.0 line read more tickers last commands (sym before.2 ∙ whole) pieces say)
 
   -- all lines, or those before the last
-  gets_behind : (More : Type 0) (bytes : List ℕ) (start : Start) (lines : List ℕ) → IsBefore version More bytes start lines → (commands : List Command) (first : AreFirst version (known_after start) More lines commands) (more : List (List ℕ)) → first.lines ≡ first.read ++ more
+  gets_after : (More : Type 0) (bytes : List ℕ) (start : Start) (lines : List ℕ) → IsBefore version More bytes start lines → (commands : List Command) (first : AreFirst version (known_after start) More lines commands) (more : List (List ℕ)) → first.lines ≡ first.read ++ more
       → first.lines ≡ first.split.ended ++ first.split.last ∷ [] → ¬ More → GetsFirst More bytes (text_of commands)
-  gets_behind More bytes start lines before commands first [] front all short = inr (
+  gets_after More bytes start lines before commands first [] prefix all short = inr (
     Ok tt,
     inl (record {
       start = start;
@@ -294,23 +294,23 @@ module _ (version : Version) where
       comes = record {
         bad = None;
         commands = commands;
-        reads = record { lines = first.lines; read = first.read; tickers = first.tickers; split = first.split; say = first.say; stops = front ∙ append-nil first.read };
+        reads = record { lines = first.lines; read = first.read; tickers = first.tickers; split = first.split; say = first.say; stops = prefix ∙ append-nil first.read };
         ends = inl (short, refl);
         writes = refl;
       };
     }),
   )
-  gets_behind More bytes start lines before commands first (line ∷ more) front all short =
-      let rest = before_last first.read first.split.ended line first.split.last more (sym front ∙ all) in
+  gets_after More bytes start lines before commands first (line ∷ more) prefix all short =
+      let rest = before_last first.read first.split.ended line first.split.last more (sym prefix ∙ all) in
       cut More bytes start lines before first.read rest.0 first.tickers first.split.last commands (first.split.whole ∙ ap (λ xs. ended_by_feeds xs ++ first.split.last) rest.1) (subst (All IsPiece) rest.1 first.split.pieces) first.say
 
   gets_by : (More : Type 0) (bytes : List ℕ) (start : Start) (lines : List ℕ) → IsBefore version More bytes start lines → (commands : List Command) → AreFirst version (known_after start) More lines commands → GetsFirst More bytes (text_of commands)
   gets_by More bytes start lines before commands first =
       elim first.split.all [
         | inl ended ↦
-            let same : first.split.ended ≡ first.read ++ first.more = sym ended.0 ∙ first.front in
+            let same : first.split.ended ≡ first.read ++ first.more = sym ended.0 ∙ first.prefix in
             cut More bytes start lines before first.read first.more first.tickers first.split.last commands (first.split.whole ∙ ap (λ xs. ended_by_feeds xs ++ first.split.last) same) (subst (All IsPiece) same first.split.pieces) first.say
-        | inr last ↦ gets_behind More bytes start lines before commands first first.more first.front last.0 last.1
+        | inr last ↦ gets_after More bytes start lines before commands first first.more first.prefix last.0 last.1
       ]
 
   pub into_gets : (More : Type 0) (bytes text : List ℕ) → EncodesInto version More bytes text → GetsFirst More bytes text

@@ -5,7 +5,7 @@ use Rattle.wire_records.specs.Commands.{Command}
 use Rattle.wire_records.specs.declared.version.Version.{Version}
 use Rattle.word_driver.specs.declared.fault.Fault.TheVariants.{TooLong, Stopped}
 use Rattle.word_driver.specs.Ended.{Ended}
-use Rattle.line_records.specs.Lines.{AreLines, spell_commands}
+use Rattle.line_records.specs.Lines.{AreLines, encode_commands}
 use Rattle.line_records.proofs.OneReadings.{one_reading, none_is_unread}
 use Rattle.encode_word.specs.declared.stop.EncodeStop.{EncodeStop}
 use Rattle.encode_word.specs.declared.stop.EncodeStop.TheVariants.{NoCommand}
@@ -30,7 +30,7 @@ module _ (version : Version) (known : List (List ℕ)) where
   lines_one More bytes ended other x y a b =
       let one = one_reading version known More bytes a.bad b.bad a.commands b.commands a.reads b.reads in (
         ends_one More b.bad ended other (subst (λ (bad : Option ℕ). EncodeEnds More bad ended) one.0 a.ends) b.ends,
-        a.writes ∙ ap (λ (commands : List Command). command_magic_of version ++ spell_commands commands) one.1 ∙ sym b.writes,
+        a.writes ∙ ap (λ (commands : List Command). command_magic_of version ++ encode_commands commands) one.1 ∙ sym b.writes,
       )
 
   -- and there is some
@@ -38,7 +38,7 @@ module _ (version : Version) (known : List (List ℕ)) where
   lines_some More more bytes none =
       none_is_unread version known More bytes (λ bad commands reads.
       let ends = ends_some More more bad in
-      none ends.0 (command_magic_of version ++ spell_commands commands) (record { bad = bad; commands = commands; reads = reads; ends = ends.1; writes = refl }))
+      none ends.0 (command_magic_of version ++ encode_commands commands) (record { bad = bad; commands = commands; reads = reads; ends = ends.1; writes = refl }))
 
   -- it depends only on whether the input has more
   module _ (P Q : Type 0) (same : P ↔ Q) where
@@ -85,7 +85,7 @@ module _ (version : Version) (known : List (List ℕ)) where
         more = into.first.more;
         tickers = into.first.tickers;
         split = lines_alike bytes into.first.lines into.first.split;
-        front = into.first.front;
+        prefix = into.first.prefix;
         say = into.first.say;
       };
       writes = into.writes;
@@ -101,7 +101,7 @@ module _ (version : Version) (known : List (List ℕ)) where
         more = short.first.more;
         tickers = short.first.tickers;
         split = lines_alike bytes short.first.lines short.first.split;
-        front = short.first.front;
+        prefix = short.first.prefix;
         say = short.first.say;
         written = short.first.written;
       };

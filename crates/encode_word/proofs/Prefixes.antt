@@ -4,7 +4,7 @@ use Rattle.std.specs.List.{flat_map}
 use Rattle.std.proofs.lemmas.Bool.{cases_lt}
 use Rattle.std.proofs.lemmas.Grind.{flat_map-append}
 use Rattle.std.proofs.lemmas.List.{take_at, take-append-le}
-use Rattle.wire_records.specs.Records.{spelling}
+use Rattle.wire_records.specs.Records.{encoding}
 use Rattle.wire_records.specs.Formats.{command_magic_of}
 use Rattle.wire_records.specs.Commands.{Command}
 use Rattle.wire_records.specs.CommandRecords.{record_of}
@@ -14,7 +14,7 @@ use Rattle.market_rules.specs.Market.{Market}
 use Rattle.market_snapshot.specs.Checkpoints.{checkpoint_magic, HasCheckpointMagic}
 use Rattle.line_records.specs.Lines.{ended_by_feeds, AreLines, AreRead, AreFirst, StopsAt}
 use Rattle.line_records.proofs.OneReadings.{first_is_a_prefix}
-use Rattle.line_records.proofs.Pieces.{lines_behind}
+use Rattle.line_records.proofs.Pieces.{lines_after}
 use Rattle.encode_word.specs.declared.stop.EncodeStop.{EncodeStop}
 use Rattle.encode_word.specs.Starts.{Start, Nothing, Kept, known_after, IsCut, BeginsKept, IsBefore}
 use Rattle.encode_word.specs.Encoding.{LinesTo, Encodes}
@@ -25,12 +25,12 @@ abbrev pub Begins : List ℕ → List ℕ → Type 0
 Begins text begun = (rest : List ℕ) × (text ≡ begun ++ rest)
 
 -- the encoding of values after a magic begins with that of the first of them
-begins-spelled : {A : Type 0} (magic : List ℕ) (spell : A → List ℕ) (all first more : List A) (text begun : List ℕ)
-    → all ≡ first ++ more → text ≡ magic ++ flat_map spell all → begun ≡ magic ++ flat_map spell first → Begins text begun
-begins-spelled magic spell all first more text begun parts is begun_is = (
-  flat_map spell more,
-  is ∙ ap (λ xs. magic ++ flat_map spell xs) parts ∙ ap (λ xs. magic ++ xs) (flat_map-append spell first more)
-      ∙ sym (append_assoc magic (flat_map spell first) (flat_map spell more)) ∙ ap (λ xs. xs ++ flat_map spell more) (sym begun_is),
+begins-encoded : {A : Type 0} (magic : List ℕ) (encode : A → List ℕ) (all first more : List A) (text begun : List ℕ)
+    → all ≡ first ++ more → text ≡ magic ++ flat_map encode all → begun ≡ magic ++ flat_map encode first → Begins text begun
+begins-encoded magic encode all first more text begun parts is begun_is = (
+  flat_map encode more,
+  is ∙ ap (λ xs. magic ++ flat_map encode xs) parts ∙ ap (λ xs. magic ++ xs) (flat_map-append encode first more)
+      ∙ sym (append_assoc magic (flat_map encode first) (flat_map encode more)) ∙ ap (λ xs. xs ++ flat_map encode more) (sym begun_is),
 )
 
 -- first bytes begin with a magic that all begin with, or are a part of it
@@ -65,24 +65,24 @@ module _ (version : Version) (known : List (List ℕ)) where
   are_first : (More Longer : Type 0) → Longer → More ⊎ (¬ More) → (first later : List ℕ) (bad : Option ℕ) (commands : List Command) → AreRead version known Longer first bad commands → AreFirst version known More (first ++ later) commands
   are_first More Longer longer more first later bad commands reads =
       let split = reads.split in
-      let front = read_first reads.tickers reads.read reads.lines bad reads.stops in
+      let prefix = read_first reads.tickers reads.read reads.lines bad reads.stops in
       let whole = ap (λ xs. xs ++ later) split.whole ∙ append_assoc (ended_by_feeds split.ended) split.last later in
-      let lines = lines_behind More more (first ++ later) (split.last ++ later) split.ended whole split.pieces in
+      let lines = lines_after More more (first ++ later) (split.last ++ later) split.ended whole split.pieces in
       let ended = sym (all_ended Longer first reads.lines split longer) in
       record {
         lines = split.ended ++ lines.0;
         read = reads.read;
-        more = front.0 ++ lines.0;
+        more = prefix.0 ++ lines.0;
         tickers = reads.tickers;
         split = lines.1;
-        front = ap (λ xs. xs ++ lines.0) (ended ∙ front.1) ∙ append_assoc reads.read front.0 lines.0;
+        prefix = ap (λ xs. xs ++ lines.0) (ended ∙ prefix.1) ∙ append_assoc reads.read prefix.0 lines.0;
         say = reads.say;
       }
 
   lines_begin : (More Longer : Type 0) → Longer → More ⊎ (¬ More) → (first later : List ℕ) (ended other : Ended EncodeStop) (text begun : List ℕ) → LinesTo version known More (first ++ later) ended text → LinesTo version known Longer first other begun → Begins text begun
   lines_begin More Longer longer more first later ended other text begun all part =
       let on = first_is_a_prefix version known More (first ++ later) all.bad part.commands all.commands (are_first More Longer longer more first later part.bad part.commands part.reads) all.reads in
-      begins-spelled (command_magic_of version) (λ command. spelling (record_of command)) all.commands part.commands on.0 text begun on.1 all.writes part.writes
+      begins-encoded (command_magic_of version) (λ command. encoding (record_of command)) all.commands part.commands on.0 text begun on.1 all.writes part.writes
 
 module _ (version : Version) (More Longer : Type 0) (longer : Longer) (more : More ⊎ (¬ More)) (first later : List ℕ) where
   -- without a checkpoint

@@ -16,7 +16,7 @@ made_magic market = (_, refl)
 pub kept_magic : (version : Version) (bytes : List ℕ) (market : Market) (after : List ℕ) → BeginsKept version bytes market after → HasCheckpointMagic bytes
 kept_magic version bytes market after kept =
     let made = made_magic market in
-    (made.0 ++ after, kept.whole ∙ ap (λ xs. xs ++ after) (kept.is_one.spelled ∙ made.1) ∙ append_assoc checkpoint_magic made.0 after)
+    (made.0 ++ after, kept.whole ∙ ap (λ xs. xs ++ after) (kept.is_one.encoded ∙ made.1) ∙ append_assoc checkpoint_magic made.0 after)
 
 -- bytes that begin with a magic aren't cut within it
 pub magic_uncut : (More : Type 0) (bytes : List ℕ) → HasCheckpointMagic bytes → IsCut More bytes → ⊥

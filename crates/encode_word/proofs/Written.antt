@@ -14,9 +14,9 @@ use Rattle.wire_records.specs.declared.version.Version.{Version}
 use Rattle.word_driver.specs.declared.fault.Fault.TheVariants as fault
 use Rattle.word_driver.specs.Ended.{Ended}
 use Rattle.word_driver.specs.Does.{Determines, Meets}
-use Rattle.line_records.specs.Lines.{IsPiece, AreFirst, spell_commands}
+use Rattle.line_records.specs.Lines.{IsPiece, AreFirst, encode_commands}
 use Rattle.line_records.specs.Encoded.{HasEncoded}
-use Rattle.line_records.proofs.Pieces.{lines_behind, told}
+use Rattle.line_records.proofs.Pieces.{lines_after, told}
 use Rattle.encode_word.specs.declared.stop.EncodeStop.{EncodeStop}
 use Rattle.encode_word.specs.declared.stop.EncodeStop.TheVariants as stop
 use Rattle.encode_word.specs.Starts.{known_after, IsCut, BeginsUnkept}
@@ -52,9 +52,9 @@ module _ (version : Version) (known : List (List ℕ)) (More : Type 0) (bytes : 
   all_written : (bad : Option ℕ) (ended : Ended EncodeStop) (before middle now : Option (List ℕ)) → Grows before middle (command_magic_of version) → HasEncoded version known More bytes bad middle now → EncodeEnds More bad ended
       → (text : List ℕ) × LinesTo version known More bytes ended text × Grows before now text
   all_written bad ended before middle now magic encoded ends = (
-    command_magic_of version ++ spell_commands encoded.commands,
+    command_magic_of version ++ encode_commands encoded.commands,
     record { bad = bad; commands = encoded.commands; reads = encoded.read; ends = ends; writes = refl },
-    Grows-more before middle now (command_magic_of version) (spell_commands encoded.commands) magic encoded.written,
+    Grows-more before middle now (command_magic_of version) (encode_commands encoded.commands) magic encoded.written,
   )
 
   -- by the end
@@ -64,14 +64,14 @@ module _ (version : Version) (known : List (List ℕ)) (More : Type 0) (bytes : 
   file_written (Err (fault.Stopped (stop.NoCommand number))) before middle now magic encoded = all_written (Some number) (Err (fault.Stopped (stop.NoCommand number))) before middle now magic encoded refl
   file_written (Err (fault.Stopped stop.NoCheckpoint)) before middle now magic encoded = absurd encoded
   file_written (Err fault.Write) before middle now magic (commands, first, cut) = (
-    command_magic_of version ++ spell_commands commands,
+    command_magic_of version ++ encode_commands commands,
     record { commands = commands; first = first; writes = refl },
-    GrowsByPrefix-more before middle now (command_magic_of version) (spell_commands commands) magic cut,
+    GrowsByPrefix-more before middle now (command_magic_of version) (encode_commands commands) magic cut,
   )
   file_written (Err fault.Memory) before middle now magic (commands, first, written) = (
-    command_magic_of version ++ spell_commands commands,
+    command_magic_of version ++ encode_commands commands,
     inr (record { commands = commands; first = first; writes = refl }),
-    Grows-more before middle now (command_magic_of version) (spell_commands commands) magic written,
+    Grows-more before middle now (command_magic_of version) (encode_commands commands) magic written,
   )
   file_written (Err fault.Read) before middle now magic encoded = encoded
   file_written (Err fault.NotFlow) before middle now magic encoded = encoded
@@ -80,8 +80,8 @@ module _ (version : Version) (known : List (List ℕ)) (More : Type 0) (bytes : 
 -- the write of the magic failed
 pub none_written : (version : Version) (known : List (List ℕ)) (more : Bool) (bytes : List ℕ) (before now : Option (List ℕ)) → GrowsByPrefix before now (command_magic_of version) → EndsLines version known (IsTrue more) bytes (Err fault.Write) before now
 none_written version known more bytes before now cut =
-    let all = lines_behind (IsTrue more) (told more) bytes bytes [] refl (All-nil IsPiece) in
-    let first : AreFirst version known (IsTrue more) bytes [] = record { lines = [] ++ all.0; read = []; more = all.0; tickers = known; split = all.1; front = refl; say = (refl, refl) } in
+    let all = lines_after (IsTrue more) (told more) bytes bytes [] refl (All-nil IsPiece) in
+    let first : AreFirst version known (IsTrue more) bytes [] = record { lines = [] ++ all.0; read = []; more = all.0; tickers = known; split = all.1; prefix = refl; say = (refl, refl) } in
     (command_magic_of version, record { commands = []; first = first; writes = sym (append-nil (command_magic_of version)) }, cut)
 
 -- ---- what is before the lines

@@ -5,7 +5,7 @@ use Rattle.wire_records.specs.Commands.{Command}
 use Rattle.wire_records.specs.declared.version.Version.{Version}
 use Rattle.word_driver.specs.declared.fault.Fault.TheVariants.{TooLong, Stopped}
 use Rattle.word_driver.specs.Ended.{Ended}
-use Rattle.line_records.specs.Lines.{AreRead, AreFirst, HaveNext, spell_commands}
+use Rattle.line_records.specs.Lines.{AreRead, AreFirst, HaveNext, encode_commands}
 use Rattle.encode_word.specs.declared.stop.EncodeStop.{EncodeStop}
 use Rattle.encode_word.specs.declared.stop.EncodeStop.TheVariants.{NoCommand, NoCheckpoint}
 use Rattle.encode_word.specs.Starts.{Start, known_after, IsCut, BeginsUnkept, IsBefore}
@@ -24,19 +24,19 @@ module _ (version : Version) (known : List (List ℕ)) where
     pub commands : List Command
     pub reads : AreRead version known More bytes bad commands
     pub ends : EncodeEnds More bad ended
-    pub writes : text ≡ command_magic_of version ++ spell_commands commands
+    pub writes : text ≡ command_magic_of version ++ encode_commands commands
 
   -- The text is the command file of what the first lines ask for.
   pub record LinesInto (More : Type 0) (bytes : List ℕ) (text : List ℕ) : Type 0 where
     pub commands : List Command
     pub first : AreFirst version known More bytes commands
-    pub writes : text ≡ command_magic_of version ++ spell_commands commands
+    pub writes : text ≡ command_magic_of version ++ encode_commands commands
 
   -- The text is the command file of what the lines before one that isn't blank ask for.
   pub record LinesShort (More : Type 0) (bytes : List ℕ) (text : List ℕ) : Type 0 where
     pub commands : List Command
     pub first : HaveNext version known More bytes commands
-    pub writes : text ≡ command_magic_of version ++ spell_commands commands
+    pub writes : text ≡ command_magic_of version ++ encode_commands commands
 
 -- The considered bytes of an input, after which it has more or not; in a version.
 module _ (version : Version) (More : Type 0) (bytes : List ℕ) where

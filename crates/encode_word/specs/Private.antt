@@ -6,7 +6,7 @@ use Rattle.wire_records.specs.declared.version.Version.{Version}
 use Rattle.market_rules.specs.Market.{Market}
 use Rattle.word_driver.specs.Ended.{Ended}
 use Rattle.word_driver.specs.declared.fault.Fault.TheVariants.{Read, Write, Memory, NotFlow, Torn, TooLong, Stopped}
-use Rattle.line_records.specs.Lines.{AreFirst, HaveNext, spell_commands}
+use Rattle.line_records.specs.Lines.{AreFirst, HaveNext, encode_commands}
 use Rattle.line_records.specs.Encoded.{HasEncoded}
 use Rattle.encode_word.specs.declared.start.StartFault.{StartFault}
 use Rattle.encode_word.specs.declared.start.StartFault.TheVariants as fault
@@ -35,8 +35,8 @@ module _ (version : Version) where
 
   -- the lines were encoded, from known tickers on and after the magic: how that ends, and what was written
   abbrev pub EncodesAll : List (List ℕ) → Type 0 → List ℕ → Ended EncodeStop → Option (List ℕ) → Option (List ℕ) → Type 0
-  EncodesAll known More bytes (Err Write) before after = (commands : List Command) × AreFirst version known More bytes commands × GrowsByPrefix before after (spell_commands commands)
-  EncodesAll known More bytes (Err Memory) before after = (commands : List Command) × HaveNext version known More bytes commands × Grows before after (spell_commands commands)
+  EncodesAll known More bytes (Err Write) before after = (commands : List Command) × AreFirst version known More bytes commands × GrowsByPrefix before after (encode_commands commands)
+  EncodesAll known More bytes (Err Memory) before after = (commands : List Command) × HaveNext version known More bytes commands × Grows before after (encode_commands commands)
   EncodesAll known More bytes (Err Read) before after = ⊥
   EncodesAll known More bytes (Err NotFlow) before after = ⊥
   EncodesAll known More bytes (Err (Torn n)) before after = ⊥

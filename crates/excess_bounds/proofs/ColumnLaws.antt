@@ -55,11 +55,11 @@ module _ (asset : ℕ) where
   ascends place [] = λ i j d before inside. absurd (omega (arith, inside))
   ascends place (o ∷ orders) =
       let rest = ascends (place + 1) orders in
-      let behind : All (λ (later : Cell). place < later.place) (column_from (place + 1) orders asset) =
+      let following : All (λ (later : Cell). place < later.place) (column_from (place + 1) orders asset) =
       λ k d inside. let r = all_stand (place + 1) orders k d inside in omega (arith, r.1) in
       ⊎_elim
       (λ none. rw none rest)
-      (λ some. rw some (AllPairs-cons (λ (c : Cell) (later : Cell). c.place < later.place) (cell_at asset place o) (column_from (place + 1) orders asset) behind rest))
+      (λ some. rw some (AllPairs-cons (λ (c : Cell) (later : Cell). c.place < later.place) (cell_at asset place o) (column_from (place + 1) orders asset) following rest))
       (cases_Bool (eqb (unsigned_abs (weight_in o.row asset)) 0))
 
 pub columns_list_orders : ColumnsListOrders

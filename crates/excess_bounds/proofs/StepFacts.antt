@@ -319,7 +319,7 @@ pub record IsClosing (is_low : Bool) (steps now : List Step) (kept at : ℕ) (re
   pub opened : take kept now ++ still_open (map (closed is_low) (drop at now)) ≡ still_open (map (closed is_low) steps)
   pub sum : rest +ℤ settled_sum (map (closed is_low) (drop at now)) ≡ settled_sum (map (closed is_low) steps)
   pub each : All IsSmall now
-  pub behind : kept ≤ at
+  pub following : kept ≤ at
   pub small : unsigned_abs rest ≤ at * 2 ^ 44
 
 closed_small : (is_low : Bool) (s : Step) → IsSmall s → IsSmall (closed is_low s)
@@ -338,7 +338,7 @@ module _ (is_low : Bool) (steps now : List Step) (kept at : ℕ) (rest : ℤ) (s
         opened = rw test at (rw split at before.opened);
         sum = let first = ap (λ (x : Step). x.first) is in omega (arith, ints, first, rw test at (rw split at before.sum));
         each = before.each;
-        behind = omega (arith, before.behind);
+        following = omega (arith, before.following);
         small = omega (arith, before.small, next_small.first, unsigned_abs-add rest s.first);
       }
 
@@ -346,12 +346,12 @@ module _ (is_low : Bool) (steps now : List Step) (kept at : ℕ) (rest : ℤ) (s
   one_open other =
       let split = drop_more now at s within in
       let test : int_eq (closed is_low (get_or now at s)).first (closed is_low (get_or now at s)).last ≡ false = rw (← is) other in
-      let inside : kept < length now = omega (arith, before.behind, within) in
+      let inside : kept < length now = omega (arith, before.following, within) in
       record {
-        opened = rw (take_more_set now kept s inside, drop-set-lt (at + 1) now kept s (omega (arith, before.behind)), append_assoc (take kept now) (s ∷ []) (still_open (map (closed is_low) (drop (at + 1) now))))
+        opened = rw (take_more_set now kept s inside, drop-set-lt (at + 1) now kept s (omega (arith, before.following)), append_assoc (take kept now) (s ∷ []) (still_open (map (closed is_low) (drop (at + 1) now))))
             (subst (λ x. take kept now ++ x ∷ still_open (map (closed is_low) (drop (at + 1) now)) ≡ still_open (map (closed is_low) steps)) (sym is) (rw test at (rw split at before.opened)));
-        sum = rw (drop-set-lt (at + 1) now kept s (omega (arith, before.behind))) (rw test at (rw split at before.sum));
+        sum = rw (drop-set-lt (at + 1) now kept s (omega (arith, before.following))) (rw test at (rw split at before.sum));
         each = All-set IsSmall now kept s next_small before.each;
-        behind = omega (arith, before.behind);
+        following = omega (arith, before.following);
         small = omega (arith, before.small);
       }

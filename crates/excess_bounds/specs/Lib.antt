@@ -2,6 +2,7 @@ pub mod Quotes
 pub mod Workspace
 pub mod Columns
 pub mod Brackets
+pub mod Directions
 pub mod Parts
 pub mod Private
 pub mod Steps

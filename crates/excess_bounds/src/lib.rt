@@ -22,6 +22,7 @@
 #![tactic(auto)]
 
 mod columns;
+mod directions;
 pub mod laws;
 mod narrowing;
 mod parts;
@@ -30,6 +31,7 @@ mod steps;
 mod workspace;
 
 pub use columns::Cell;
+pub use directions::Direction;
 pub use narrowing::Bracket;
 pub use out_of_memory::Memory;
 pub use parts::Excess;

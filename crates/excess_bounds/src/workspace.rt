@@ -1,5 +1,5 @@
 //! The orders of a batch, and the prices of its search.
-ghost use Rattle.std.specs.Prelude.{◌≡◌, ◌*◌, ◌^◌, ◌<◌, ◌≤◌, ◌≤ℤ◌, ◌+ℤ◌, ◌-ℤ◌, ◌↔◌, pos, neg_ℤ, false, length, slice_set, unsigned_abs, map, All, IsTrue, IfOk};
+ghost use Rattle.std.specs.Prelude.{◌≡◌, ◌*◌, ◌^◌, ◌<◌, ◌≤◌, ◌≤ℤ◌, ◌+ℤ◌, ◌-ℤ◌, ◌↔◌, pos, neg_ℤ, true, false, length, slice_set, unsigned_abs, map, All, IsTrue, IfOk, IfSome, IfNone};
 ghost use Rattle.std.specs.List.{range_with_len};
 ghost use Rattle.weight_rows.specs.Rows.{IsPrice, IsPricedBy, price_of};
 ghost use Rattle.flow_orders.specs.Orders.{IsOrder, most_orders};
@@ -9,9 +9,11 @@ ghost use Rattle.flow_orders.specs.Residuals.{most_prices};
 ghost use Rattle.flow_orders.specs.Moves.{risen, fallen};
 ghost use Rattle.excess_bounds.specs.Brackets.{IsBracket};
 ghost use Rattle.excess_bounds.specs.Columns.{column_of};
+ghost use Rattle.excess_bounds.specs.Directions.{IsTowards};
 ghost use Rattle.excess_bounds.specs.Private.{IsColumn};
 
 use crate::columns::{Cell, Column, columns_of};
+use crate::directions::Direction;
 use crate::narrowing::{Bracket, narrow};
 use crate::parts::{Excess, excess_after, excess_of};
 use crate::quotes::{Quote, quotes_of, requote};
@@ -256,6 +258,25 @@ impl<'a> Workspace<'a> {
         ensures { IsTrue result ↔ (is_unsettled self.now.orders self.now.prices asset ≡ false) }
     {
         is_near(self.excess(asset), self.steepness(asset))
+    }
+
+    /// Returns which way the price of an asset moves, or `None` if the asset is settled at the prices. It costs what
+    /// [`Workspace::is_settled`] costs.
+    pub fn direction(&self, asset: u16) -> Option<Direction>
+        requires { asset < length self.now.prices }
+        ensures settled { IfNone result (is_unsettled self.now.orders self.now.prices asset ≡ false) }
+        ensures unsettled { IfSome result (λ direction. is_unsettled self.now.orders self.now.prices asset ≡ true) }
+        ensures towards { IfSome result (IsTowards self.now.orders self.now.prices asset) }
+    {
+        let excess = self.excess(asset);
+        let steepness = self.steepness(asset);
+        if steepness < excess.low {
+            Some(Direction::Rise)
+        } else if excess.high < -steepness {
+            Some(Direction::Fall)
+        } else {
+            None
+        }
     }
 
     // Returns how far a price is above the asset's price, in grains.

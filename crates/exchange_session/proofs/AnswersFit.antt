@@ -18,7 +18,7 @@ use Rattle.journal_records.specs.Replies.{answer_record, IsAnswer, most_reply_bo
 use Rattle.journal_records.specs.Bodies.{IsReply}
 use Rattle.journal_records.proofs.FieldForms.{reply_fits}
 use Rattle.journal_records.specs.Pairs.{IsPair}
-use Rattle.journal_records.proofs.Spelled.{plain_short, batch_short}
+use Rattle.journal_records.proofs.Encoded.{plain_short, batch_short}
 use Rattle.journal_records.proofs.OutcomesFit.{admissible_outcomes_fit}
 use Rattle.market_rules.specs.Market.{Market, IsConsistent, search_of, start_prices}
 use Rattle.market_rules.specs.Step.{FirstRefusal, Accepts, Answers, Serves, ServesRead, after_batch}
@@ -110,7 +110,7 @@ pub pairs_fit : (old : Market) (pairs : List (Pair Record Outcome)) (new : Marke
 pairs_fit old [] new consistent short follows = (omega (arith, ap (λ (x : Market). x.next_order) follows), λ next. All-nil IsPair)
 pairs_fit old (pair ∷ pairs) new consistent short (between, step, follows) =
     let asked = λ (p : Pair Record Outcome). IsRecord most_body p.asked in
-    let right : Step IsReadAs IsAdmissibleOutcome old pair.asked pair.answer between = record { read = step.read; spelled = step.spelled; served = read_right old step.read pair.answer between consistent step.served } in
+    let right : Step IsReadAs IsAdmissibleOutcome old pair.asked pair.answer between = record { read = step.read; encoded = step.encoded; served = read_right old step.read pair.answer between consistent step.served } in
     let rest = pairs_fit between pairs new (steps_keep_consistency.1 old pair.asked pair.answer between consistent right).0 (All-tail asked pair pairs short) follows in
     let rise = read_rise old right.read pair.answer between right.served in (
       omega (arith, rise, rest.0),

@@ -15,10 +15,10 @@ use Rattle.exchange_session.specs.Running.{run}
 pub opens_at : (version : Version) (bytes body : List ℕ) (market : Market) (text : List ℕ) → BeginsWith commands.magics bytes version body → market ≡ empty_market version → text ≡ journal_magic_of version
     → OpensAt run empty_market bytes market (HasNumbers market) text
 opens_at version bytes body market text begins is opening =
-    let behind : body ≡ drop 8 bytes = sym (drop_at (command_magic_of version) body 8 (eight version)) ∙ ap (drop 8) (sym begins.1) in
+    let following : body ≡ drop 8 bytes = sym (drop_at (command_magic_of version) body 8 (eight version)) ∙ ap (drop 8) (sym begins.1) in
     record {
       version = version;
-      magic = subst (BeginsWith commands.magics bytes version) behind begins;
+      magic = subst (BeginsWith commands.magics bytes version) following begins;
       starts = is;
       opening = opening;
       ready = λ limit few. let first : market.next_order ≡ 1 = ap (λ (m : Market). m.next_order) is in omega (arith, few, first);

@@ -10,14 +10,14 @@ use Rattle.wire_records.specs.declared.command.BodyFault.TheVariants.{UnknownTag
 use Rattle.wire_records.specs.declared.version.Version.{Version}
 use Rattle.wire_records.specs.declared.version.Version.TheVariants.{One, Two, Three, Four}
 use Rattle.wire_records.specs.Formats.{StatesOver, commands}
-use Rattle.wire_records.proofs.Fronts.{states_none-from_few, no_front-from_overlong}
+use Rattle.wire_records.proofs.Prefixes.{states_none-from_few, no_prefix-from_overlong}
 use Rattle.wire_records.proofs.Readings.{reading_unique}
 use Rattle.wire_records.proofs.RecordCode.{commands_readable}
 use Rattle.file_units.specs.Inputs.{HasLongest}
 use Rattle.file_units.proofs.Longest.{record_or_over, over_stays}
 use Rattle.flow_orders.specs.Outcomes.{Outcome}
 use Rattle.canonical_rule.specs.Canonical.{IsCanonicalOutcome}
-use Rattle.journal_records.specs.Pairs.{pair_spelling}
+use Rattle.journal_records.specs.Pairs.{pair_encoding}
 use Rattle.journal_records.specs.Formats.{journal_magic_of}
 use Rattle.market_rules.specs.Market.{Market, IsConsistent, empty_market}
 use Rattle.market_rules.specs.Journal.{IsAnswered}
@@ -44,14 +44,14 @@ one_answer : (s : Market) (u : Record) (t r : Market) (x y : List ℕ) → Answe
 one_answer s u t r x y a b =
     let one = own_step IsReadAs reading_unique s u a.answer b.answer t r a.step b.step in
     let pair : Answer Outcome → Pair Record Outcome = λ answer. record { asked = u; answer = answer } in
-    (one.1, a.spelled ∙ ap (λ answer. pair_spelling (pair answer)) one.0 ∙ sym b.spelled)
+    (one.1, a.encoded ∙ ap (λ answer. pair_encoding (pair answer)) one.0 ∙ sym b.encoded)
 
 -- the longest record
 longest : HasLongest commands 1029
 longest = record {
-  seen = λ bytes are long none. elim (record_or_over 1024 bytes are long) [ inl over ↦ over | inr (first, rest, begins, behind) ↦ absurd (none first rest begins.0 begins.1) ];
+  seen = λ bytes are long none. elim (record_or_over 1024 bytes are long) [ inl over ↦ over | inr (first, rest, begins, following) ↦ absurd (none first rest begins.0 begins.1) ];
   stays = over_stays 1024;
-  none = λ bytes over. no_front-from_overlong 1024 over.0 bytes (omega arith) over.1 over.2;
+  none = λ bytes over. no_prefix-from_overlong 1024 over.0 bytes (omega arith) over.1 over.2;
 }
 
 pub run_is_exact : IsExact run
@@ -73,10 +73,10 @@ run_is_exact = record {
 pub record Answers (start : Market) (records : List Record) (market : Market) (text : List ℕ) : Type 0 where
   pub pairs : List (Pair Record Outcome)
   pub answered : IsAnswered IsReadAs IsCanonicalOutcome start records pairs market
-  pub spelled : text ≡ flat_map pair_spelling pairs
+  pub encoded : text ≡ flat_map pair_encoding pairs
 
 answers : (start market : Market) (records : List Record) (text : List ℕ) → Goes run start records market text → Answers start records market text
-answers start market [] text goes = record { pairs = []; answered = record { asked = refl; steps = goes.0 }; spelled = goes.1 }
+answers start market [] text goes = record { pairs = []; answered = record { asked = refl; steps = goes.0 }; encoded = goes.1 }
 answers start market (r ∷ records) text goes =
     let one = goes.3 in
     let rest = answers goes.0 market records goes.2 goes.4 in
@@ -84,7 +84,7 @@ answers start market (r ∷ records) text goes =
     record {
       pairs = pair ∷ rest.pairs;
       answered = record { asked = ap (λ xs. r ∷ xs) rest.answered.asked; steps = (goes.0, one.step, rest.answered.steps) };
-      spelled = goes.5 ∙ ap (λ xs. xs ++ goes.2) one.spelled ∙ ap (λ xs. pair_spelling pair ++ xs) rest.spelled;
+      encoded = goes.5 ∙ ap (λ xs. xs ++ goes.2) one.encoded ∙ ap (λ xs. pair_encoding pair ++ xs) rest.encoded;
     }
 
 -- a run from a market on is of the market's version
@@ -115,7 +115,7 @@ run_is_kept version records market text each goes =
       pairs = so.pairs;
       journal_of = so.answered;
       fits = (pairs_fit start so.pairs market consistent (each_short so.pairs (rw so.answered.asked each)) so.answered.steps).1;
-      spelled = ap (λ xs. journal_magic_of version ++ xs) so.spelled;
+      encoded = ap (λ xs. journal_magic_of version ++ xs) so.encoded;
     })
 
 -- ---- a run has a next step
@@ -126,7 +126,7 @@ CanBeRead asked = (version : Version) → (read : Result Command BodyFault) × I
 
 -- a record can be read in each version: it encodes a command, or its tag is none, or its body is bad
 read_in : (version : Version) (asked : Record) → IsNotDenied ((read : Result Command BodyFault) × IsReadAs version asked read)
-read_in version asked none = none (Err UnknownTag, λ tag. none (Err BadBody, (tag, λ command spells. none (Ok command, (tag, spells)))))
+read_in version asked none = none (Err UnknownTag, λ tag. none (Err BadBody, (tag, λ command encodes. none (Ok command, (tag, encodes)))))
 
 -- what holds of all versions holds of each
 of_all : (P : Version → Type 0) → P One → P Two → P Three → P Four → (version : Version) → P version
@@ -144,7 +144,7 @@ can_be_read asked none =
 pub has_step : (s : Market) (asked : Record) → IsConsistent s → IsRecord 1024 asked → CanBeRead asked → (t : Market) × (text : List ℕ) × AnswersOne s asked t text
 has_step s asked consistent short readable =
     let there = step_is_there IsReadAs CanBeRead (λ version r some. some version) s asked readable in
-    (there.1, pair_spelling (record { asked = asked; answer = there.0 }), record { answer = there.0; step = there.2; fits = pair_fits s asked there.0 there.1 consistent short there.2; spelled = refl })
+    (there.1, pair_encoding (record { asked = asked; answer = there.0 }), record { answer = there.0; step = there.2; fits = pair_fits s asked there.0 there.1 consistent short there.2; encoded = refl })
 
 pub run_has_next : HasNext run empty_market
 run_has_next = record {

@@ -17,4 +17,4 @@ pub record Journals (version : Version) (records : List Record) (market : Market
   pub pairs : List (Pair Record Outcome)
   pub journal_of : IsJournal IsReadAs IsCanonicalOutcome version records pairs market
   pub fits : market.next_order < 2 ^ 64 → All IsPair pairs
-  pub spelled : text ≡ journal_in version pairs
+  pub encoded : text ≡ journal_in version pairs

@@ -4,7 +4,7 @@ use Rattle.wire_records.specs.Records.{Record}
 use Rattle.wire_records.specs.Formats.{commands}
 use Rattle.wire_records.specs.Commands.{Answer}
 use Rattle.wire_records.specs.Versions.{IsReadAs}
-use Rattle.journal_records.specs.Pairs.{IsPair, pair_spelling, longest_plain_pair}
+use Rattle.journal_records.specs.Pairs.{IsPair, pair_encoding, longest_plain_pair}
 use Rattle.flow_orders.specs.Outcomes.{Outcome}
 use Rattle.canonical_rule.specs.Canonical.{IsCanonicalOutcome}
 use Rattle.market_rules.specs.Market.{Market}
@@ -17,7 +17,7 @@ pub record AnswersOne (old : Market) (asked : Record) (new : Market) (text : Lis
   pub answer : Answer Outcome
   pub step : Step IsReadAs IsCanonicalOutcome old asked answer new
   pub fits : new.next_order < 2 ^ 64 → IsPair (record { asked = asked; answer = answer })
-  pub spelled : text ≡ pair_spelling (record { asked = asked; answer = answer })
+  pub encoded : text ≡ pair_encoding (record { asked = asked; answer = answer })
 
 -- a record was answered, and its entry put into an empty buffer
 abbrev pub Puts : Market → Record → Market → List ℕ → List ℕ → Type 0
@@ -32,5 +32,5 @@ pub record AllocatesNext (old : Market) (bytes : List ℕ) (room : ℕ) : Type 0
   pub asked : Record
   pub rest : List ℕ
   pub lawful : commands.units.IsLawful asked
-  pub front : bytes ≡ commands.units.spell asked ++ rest
+  pub prefix : bytes ≡ commands.units.encode asked ++ rest
   pub allocates : (room < longest_plain_pair) ⊎ RecordMayAllocate old asked

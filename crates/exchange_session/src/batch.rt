@@ -6,7 +6,7 @@ ghost use Rattle.wire_records.specs.Versions.{IsReadAs};
 ghost use Rattle.flow_orders.specs.Orders.{most_orders};
 ghost use Rattle.canonical_rule.specs.Canonical.{IsCanonicalOutcome};
 ghost use Rattle.batch_outcome.specs.Published.{outcome_of};
-ghost use Rattle.journal_records.specs.Pairs.{pair_spelling};
+ghost use Rattle.journal_records.specs.Pairs.{pair_encoding};
 ghost use Rattle.market_rules.specs.Market.{most_batches, search_of, start_prices};
 ghost use Rattle.market_rules.specs.Step.{FirstRefusal, after_batch};
 ghost use Rattle.market_rules.specs.Settling.{MaySettle};
@@ -45,7 +45,7 @@ fn write_outcome(
 ) -> Result<(), Memory>
     requires few { length orders.now ≤ most_orders }
     requires writable { IsWritable orders.now outcome.now }
-    ensures written { OnOk result (out.new.items ≡ out.old.items ++ pair_spelling (record {
+    ensures written { OnOk result (out.new.items ≡ out.old.items ++ pair_encoding (record {
       asked = asked.now;
       answer = Batch batch (outcome_of orders.now outcome.now);
     })) }

@@ -83,7 +83,7 @@ impl ServesWord for Run {
 
     fn take(&mut self, bytes: &[u8], text: &mut Vec<u8>) -> Result<Front, Halt<Never>> {
         match self.session.serve_next(bytes, text) {
-            Ok(front) => Ok(front),
+            Ok(prefix) => Ok(prefix),
             Err(_) => Err(Halt::Memory),
         }
     }

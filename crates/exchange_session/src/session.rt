@@ -134,9 +134,9 @@ impl Session {
     pub fn serve_next(&mut self, bytes: &[u8], out: &mut Vec<u8>) -> Result<Front, Memory>
         requires ready { (left : ℕ) × (length bytes.now ≤ left) × HasNumbers self.old left }
         requires empty { out.old.items ≡ [] }
-        ensures taken { IfOk result (λ front. IsTaken commands Puts front bytes.now self.old self.new [] out.new.items) }
-        ensures stays { IfOk result (λ front. (left : ℕ) → length bytes.now ≤ left → HasNumbers self.old left →
-            StaysReady (HasNumbers self.new) front left) }
+        ensures taken { IfOk result (λ prefix. IsTaken commands Puts prefix bytes.now self.old self.new [] out.new.items) }
+        ensures stays { IfOk result (λ prefix. (left : ℕ) → length bytes.now ≤ left → HasNumbers self.old left →
+            StaysReady (HasNumbers self.new) prefix left) }
         ensures same { OnErr result ((self.new ≡ self.old) × (out.new.items ≡ [])) }
         ensures wanted { OnErr result (AllocatesNext self.old bytes.now (vec_capacity out.old - vec_len out.old)) }
         ensures room { vec_capacity out.old ≤ vec_capacity out.new }

@@ -11,7 +11,7 @@ use Rattle.flow_io.specs.declared.window.InputEnd.{InputEnd}
 use Rattle.flow_io.specs.declared.window.InputEnd.TheVariants.{Source, Limit}
 use Rattle.flow_io.proofs.Reading.{Takes-more}
 use Rattle.wire_records.specs.Records.{AreBytes}
-use Rattle.wire_records.specs.Grammars.{BeginsWithNone, spell_all}
+use Rattle.wire_records.specs.Grammars.{BeginsWithNone, encode_all}
 use Rattle.wire_records.specs.Reading.{Format}
 use Rattle.file_units.specs.declared.units.Ending.TheVariants.{End, Torn, TooLong}
 use Rattle.file_units.specs.declared.input.TakeFault.TheVariants.{Read, Broken}
@@ -88,9 +88,9 @@ module _ {V U S O : Type 0} (format : Format V U) (Steps : S → U → S → O �
     pub units : List U
     pub taken : List ℕ
     pub takes : Takes (rest from) (rest source) taken
-    pub whole : first.held ++ taken ≡ spell_all format.units units ++ now.held
+    pub whole : first.held ++ taken ≡ encode_all format.units units ++ now.held
     pub each : All format.units.IsLawful units
-    pub reached : now.place ≡ first.place + length (spell_all format.units units)
+    pub reached : now.place ≡ first.place + length (encode_all format.units units)
     pub leads : Leads format Steps old before units new after
     pub room : now.room ≡ first.room
     pub limit : now.limit ≡ first.limit
@@ -123,7 +123,7 @@ module _ {V U S O : Type 0} (format : Format V U) (Steps : S → U → S → O �
         → HasGone rest faults Ready first next from source old new before after
     one_more_gone IsReady Ready taken new after next so one is stays within =
         let unit = one.unit in
-        let more = flat_map_more format.units.spell [] so.units unit in
+        let more = flat_map_more format.units.encode [] so.units unit in
         let place : next.place ≡ now.place + taken = ap (λ (w : WindowState). w.place) is in
         let held : next.held ≡ drop taken now.held = ap (λ (w : WindowState). w.held) is in
         let limit : next.limit ≡ now.limit = ap (λ (w : WindowState). w.limit) is in
@@ -132,11 +132,11 @@ module _ {V U S O : Type 0} (format : Format V U) (Steps : S → U → S → O �
           units = so.units ++ unit ∷ [];
           taken = so.taken;
           takes = so.takes;
-          whole = so.whole ∙ ap (λ xs. spell_all format.units so.units ++ xs) one.front
-              ∙ sym (append_assoc (spell_all format.units so.units) (format.units.spell unit) (drop taken now.held))
-              ∙ ap (λ xs. xs ++ drop taken now.held) more ∙ ap (λ xs. spell_all format.units (so.units ++ unit ∷ []) ++ xs) (sym held);
+          whole = so.whole ∙ ap (λ xs. encode_all format.units so.units ++ xs) one.prefix
+              ∙ sym (append_assoc (encode_all format.units so.units) (format.units.encode unit) (drop taken now.held))
+              ∙ ap (λ xs. xs ++ drop taken now.held) more ∙ ap (λ xs. encode_all format.units (so.units ++ unit ∷ []) ++ xs) (sym held);
           each = All-push format.units.IsLawful so.units unit so.each one.lawful;
-          reached = omega (arith, so.reached, place, one.size, length-append (spell_all format.units so.units) (format.units.spell unit), ap length more);
+          reached = omega (arith, so.reached, place, one.size, length-append (encode_all format.units so.units) (format.units.encode unit), ap length more);
           leads = leads_more format Steps old middle new before between after so.units unit so.leads one.step;
           room = ap (λ (w : WindowState). w.room) is ∙ so.room;
           limit = limit ∙ so.limit;
@@ -159,8 +159,8 @@ module _ {V U S O : Type 0} (format : Format V U) (Steps : S → U → S → O �
           units = so.units;
           taken = so.taken ++ fills.joined;
           takes = Takes-more (rest from) (rest source) (rest now_source) so.taken fills.joined so.takes taken;
-          whole = sym (append_assoc first.held so.taken fills.joined) ∙ ap (λ xs. xs ++ fills.joined) so.whole ∙ append_assoc (spell_all format.units so.units) now.held fills.joined
-              ∙ ap (λ xs. spell_all format.units so.units ++ xs) (sym held);
+          whole = sym (append_assoc first.held so.taken fills.joined) ∙ ap (λ xs. xs ++ fills.joined) so.whole ∙ append_assoc (encode_all format.units so.units) now.held fills.joined
+              ∙ ap (λ xs. encode_all format.units so.units ++ xs) (sym held);
           each = so.each;
           reached = place ∙ so.reached;
           leads = rw (state, output) so.leads;
@@ -176,28 +176,28 @@ module _ {V U S O : Type 0} (format : Format V U) (Steps : S → U → S → O �
     module _ {F : Type 0} (Breaks : S → U → F → O → O → Type 0) (IsReady : ℕ → Type 0) (so : HasGone rest faults IsReady first now from source old middle before between) (within : now.place + length now.held ≤ now.limit) where
       -- what was seen is within the bytes that may be considered from the window's first place on
       seen_within : length (first.held ++ so.taken) ≤ first.limit - first.place
-      seen_within = omega (arith, within, so.reached, so.limit, ap length so.whole, length-append (spell_all format.units so.units) now.held)
+      seen_within = omega (arith, within, so.reached, so.limit, ap length so.whole, length-append (encode_all format.units so.units) now.held)
 
       few_taken : length first.held + length so.taken ≤ (first.limit - first.place) + 1
       few_taken = omega (arith, seen_within, length-append first.held so.taken)
 
       -- the bytes that are considered are the units, the held bytes, and more
-      considered_from : (after : Option (List ℕ)) → (more : List ℕ) × (take (first.limit - first.place) (first.held ++ known so.taken after) ≡ spell_all format.units so.units ++ (now.held ++ more))
+      considered_from : (after : Option (List ℕ)) → (more : List ℕ) × (take (first.limit - first.place) (first.held ++ known so.taken after) ≡ encode_all format.units so.units ++ (now.held ++ more))
       considered_from after =
-          let behind = known_more first.held so.taken after in
-          let more = take ((first.limit - first.place) - length (first.held ++ so.taken)) behind.0 in (
+          let following = known_more first.held so.taken after in
+          let more = take ((first.limit - first.place) - length (first.held ++ so.taken)) following.0 in (
             more,
-            ap (take (first.limit - first.place)) behind.1 ∙ considered (first.limit - first.place) (first.held ++ so.taken) behind.0 seen_within
-                ∙ ap (λ xs. xs ++ more) so.whole ∙ append_assoc (spell_all format.units so.units) now.held more,
+            ap (take (first.limit - first.place)) following.1 ∙ considered (first.limit - first.place) (first.held ++ so.taken) following.0 seen_within
+                ∙ ap (λ xs. xs ++ more) so.whole ∙ append_assoc (encode_all format.units so.units) now.held more,
           )
 
       -- what was seen is a prefix of the bytes that are considered
-      front_seen : (after : Option (List ℕ)) → take (length (first.held ++ so.taken)) (take (first.limit - first.place) (first.held ++ known so.taken after)) ≡ spell_all format.units so.units ++ now.held
-      front_seen after =
+      prefix_seen : (after : Option (List ℕ)) → take (length (first.held ++ so.taken)) (take (first.limit - first.place) (first.held ++ known so.taken after)) ≡ encode_all format.units so.units ++ now.held
+      prefix_seen after =
           let bytes = considered_from after in
-          let size : length (first.held ++ so.taken) ≡ length (spell_all format.units so.units ++ now.held) = ap length so.whole in
-          ap (take (length (first.held ++ so.taken))) (bytes.1 ∙ sym (append_assoc (spell_all format.units so.units) now.held bytes.0))
-          ∙ take_at (spell_all format.units so.units ++ now.held) bytes.0 (length (first.held ++ so.taken)) (sym size)
+          let size : length (first.held ++ so.taken) ≡ length (encode_all format.units so.units ++ now.held) = ap length so.whole in
+          ap (take (length (first.held ++ so.taken))) (bytes.1 ∙ sym (append_assoc (encode_all format.units so.units) now.held bytes.0))
+          ∙ take_at (encode_all format.units so.units ++ now.held) bytes.0 (length (first.held ++ so.taken)) (sym size)
 
       -- the held bytes begin with a unit that states a body above its limit
       pub gone_overlong : HasLongest format first.room → (new : S) (after : O) → new ≡ middle → after ≡ between → format.IsOverlong now.held → GoesFrom format Steps Breaks first (rest from) (rest source) (Ok (Torn now.place)) old new before after
@@ -245,11 +245,11 @@ module _ {V U S O : Type 0} (format : Format V U) (Steps : S → U → S → O �
                   unit = off.unit;
                   rest = off.rest ++ bytes.0;
                   lawful = off.lawful;
-                  front = ap (λ xs. xs ++ bytes.0) off.front ∙ append_assoc (format.units.spell off.unit) off.rest bytes.0;
+                  prefix = ap (λ xs. xs ++ bytes.0) off.prefix ∙ append_assoc (format.units.encode off.unit) off.rest bytes.0;
                   broken = off.broken;
                 };
               },
-              omega (arith, few, so.room, ap length so.whole, length-append (spell_all format.units so.units) now.held),
+              omega (arith, few, so.room, ap length so.whole, length-append (encode_all format.units so.units) now.held),
             );
           }
 
@@ -270,7 +270,7 @@ module _ {V U S O : Type 0} (format : Format V U) (Steps : S → U → S → O �
               few = few_taken;
               goes = record {
                 units = so.units;
-                reads = record { rest = now.held; whole = front_seen (rest now_source); each = so.each; none = none; ends = (short, tt) };
+                reads = record { rest = now.held; whole = prefix_seen (rest now_source); each = so.each; none = none; ends = (short, tt) };
                 leads = rw (state, output) so.leads;
               };
             }
@@ -279,11 +279,11 @@ module _ {V U S O : Type 0} (format : Format V U) (Steps : S → U → S → O �
         pub gone_limited : next.over ≡ Some Limit → now.place + length now.held ≡ now.limit → GoesFrom format Steps Breaks first (rest from) (rest now_source) (Ok TooLong) old new before after
         gone_limited over full =
             let one : length fills.past ≡ 1 = subst (λ (o : Option InputEnd). IsPast o (Some Limit) fills.past) so.unended (subst (λ (o : Option InputEnd). IsPast now.over o fills.past) over fills.beyond) in
-            let behind = known_more first.held (so.taken ++ fills.past) (rest now_source) in
-            let size : length (first.held ++ so.taken) ≡ first.limit - first.place = omega (arith, full, so.reached, so.limit, ap length so.whole, length-append (spell_all format.units so.units) now.held) in
+            let following = known_more first.held (so.taken ++ fills.past) (rest now_source) in
+            let size : length (first.held ++ so.taken) ≡ first.limit - first.place = omega (arith, full, so.reached, so.limit, ap length so.whole, length-append (encode_all format.units so.units) now.held) in
             let zero : (first.limit - first.place) - length (first.held ++ so.taken) ≡ 0 = omega (arith, size) in
-            let all : first.held ++ known (so.taken ++ fills.past) (rest now_source) ≡ (first.held ++ so.taken) ++ (fills.past ++ behind.0) =
-            behind.1 ∙ ap (λ xs. xs ++ behind.0) (sym (append_assoc first.held so.taken fills.past)) ∙ append_assoc (first.held ++ so.taken) fills.past behind.0
+            let all : first.held ++ known (so.taken ++ fills.past) (rest now_source) ≡ (first.held ++ so.taken) ++ (fills.past ++ following.0) =
+            following.1 ∙ ap (λ xs. xs ++ following.0) (sym (append_assoc first.held so.taken fills.past)) ∙ append_assoc (first.held ++ so.taken) fills.past following.0
             in
             record {
               taken = so.taken ++ fills.past;
@@ -295,12 +295,12 @@ module _ {V U S O : Type 0} (format : Format V U) (Steps : S → U → S → O �
                   reads = record {
                     rest = now.held;
                     whole = ap (take (first.limit - first.place)) all
-                        ∙ considered (first.limit - first.place) (first.held ++ so.taken) (fills.past ++ behind.0) seen_within
-                        ∙ ap (λ n. (first.held ++ so.taken) ++ take n (fills.past ++ behind.0)) zero
+                        ∙ considered (first.limit - first.place) (first.held ++ so.taken) (fills.past ++ following.0) seen_within
+                        ∙ ap (λ n. (first.held ++ so.taken) ++ take n (fills.past ++ following.0)) zero
                         ∙ append-nil (first.held ++ so.taken) ∙ so.whole;
                     each = so.each;
                     none = none;
-                    ends = (short, omega (arith, size, one, ap length all, length-append (first.held ++ so.taken) (fills.past ++ behind.0), length-append fills.past behind.0));
+                    ends = (short, omega (arith, size, one, ap length all, length-append (first.held ++ so.taken) (fills.past ++ following.0), length-append fills.past following.0));
                   };
                   leads = rw (state, output) so.leads;
                 },
@@ -314,7 +314,7 @@ module _ {V U S O : Type 0} (format : Format V U) (Steps : S → U → S → O �
               let nothing : fills.past ≡ [] = subst (λ (o : Option InputEnd). IsPast o (Some Source) fills.past) so.unended (subst (λ (o : Option InputEnd). IsPast now.over o fills.past) over fills.beyond) in
               subst (λ (xs : List ℕ). Takes (rest from) (rest now_source) xs) (ap (λ xs. so.taken ++ xs) nothing ∙ append-nil so.taken) past_alone
 
-          whole_taken : take (first.limit - first.place) (first.held ++ known so.taken (rest now_source)) ≡ spell_all format.units so.units ++ now.held
+          whole_taken : take (first.limit - first.place) (first.held ++ known so.taken (rest now_source)) ≡ encode_all format.units so.units ++ now.held
           whole_taken =
               ap (take (first.limit - first.place)) (known_all first.held so.taken (rest now_source) ended ∙ sym (append-nil (first.held ++ so.taken)))
               ∙ considered (first.limit - first.place) (first.held ++ so.taken) [] seen_within

@@ -3,11 +3,11 @@ use Rattle.std.proofs.Common.{◌≡◌, ◌+◌, ◌-◌, ◌<◌, ◌≤◌, �
 use Rattle.std.proofs.lemmas.Bool.{cases_lt}
 use Rattle.std.proofs.lemmas.List.{take-append-drop, length-take}
 use Rattle.std.proofs.lemmas.List.Elements.{All-drop}
-use Rattle.wire_records.specs.Records.{Record, AreBytes, head, spelling}
+use Rattle.wire_records.specs.Records.{Record, AreBytes, head, encoding}
 use Rattle.wire_records.specs.Grammars.{BeginsWith}
 use Rattle.wire_records.specs.Formats.{records, StatesOver}
 use Rattle.wire_fields.specs.Numbers.{unsigned}
-use Rattle.wire_records.proofs.Fields.{front_number}
+use Rattle.wire_records.proofs.Fields.{prefix_number}
 
 -- Five bytes are a tag and the length of a body.
 record Stated (bytes : List ℕ) : Type 0 where
@@ -26,8 +26,8 @@ joined_head bytes middle rest tag n first second = first ∙ ap (λ xs. unsigned
 
 stated_length : (bytes : List ℕ) → AreBytes bytes → 5 ≤ length bytes → Stated bytes
 stated_length bytes are long =
-    let first = front_number 1 (length bytes - 1) bytes (omega (arith, long)) are in
-    let second = front_number 4 (length bytes - 5) first.1 (omega (arith, first.3, long)) first.4 in
+    let first = prefix_number 1 (length bytes - 1) bytes (omega (arith, long)) are in
+    let second = prefix_number 4 (length bytes - 5) first.1 (omega (arith, first.3, long)) first.4 in
     record {
       tag = first.0;
       stated = second.0;
@@ -41,7 +41,7 @@ stated_length bytes are long =
 
 -- if there are so many bytes, they begin with a record, or with one that states too long a body
 pub record_or_over : (limit : ℕ) (bytes : List ℕ) → AreBytes bytes → 5 + limit ≤ length bytes → StatesOver limit bytes ⊎ ((first : Record) × (rest : List ℕ) × BeginsWith (records limit) bytes first rest × AreBytes rest)
-unfolding spelling
+unfolding encoding
 record_or_over limit bytes are long =
     let s = stated_length bytes are (omega (arith, long)) in
     elim (cases_lt limit s.stated) [

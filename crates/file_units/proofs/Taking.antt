@@ -3,7 +3,7 @@ use Rattle.std.proofs.Common.{◌≡◌, ◌+◌, ◌-◌, ◌<◌, ◌≤◌, �
 use Rattle.std.specs.Prelude.{All}
 use Rattle.std.proofs.lemmas.List.{drop-drop, flat_map_more, length-drop}
 use Rattle.std.proofs.lemmas.List.Elements.{All-push, All-nil}
-use Rattle.wire_records.specs.Grammars.{spell_all}
+use Rattle.wire_records.specs.Grammars.{encode_all}
 use Rattle.wire_records.specs.Reading.{Format}
 use Rattle.file_units.specs.Units.{TakesOne, Leads}
 
@@ -11,9 +11,9 @@ module _ {V U S O : Type 0} (format : Format V U) (Steps : S → U → S → O �
   -- the units between the start and this place were taken
   pub record HasTaken (IsReady : ℕ → Type 0) (bytes : List ℕ) (start place : ℕ) (old now : S) (before after : O) : Type 0 where
     pub units : List U
-    pub whole : drop start bytes ≡ spell_all format.units units ++ drop place bytes
+    pub whole : drop start bytes ≡ encode_all format.units units ++ drop place bytes
     pub each : All format.units.IsLawful units
-    pub reached : place ≡ start + length (spell_all format.units units)
+    pub reached : place ≡ start + length (encode_all format.units units)
     pub within : place ≤ length bytes
     pub leads : Leads format Steps old before units now after
     pub ready : IsReady (length bytes - place)
@@ -40,17 +40,17 @@ module _ {V U S O : Type 0} (format : Format V U) (Steps : S → U → S → O �
       → HasTaken IsReady bytes start place old middle before between → TakesOne format Steps taken (drop place bytes) middle new between after → Ready ((length bytes - place) - taken)
       → HasTaken Ready bytes start (place + taken) old new before after × (0 < taken)
   one_more_taken IsReady Ready bytes start place taken old middle new before between after so one ready =
-      let len = ap length one.front in
-      let inside = length-append (format.units.spell one.unit) (drop taken (drop place bytes)) in
+      let len = ap length one.prefix in
+      let inside = length-append (format.units.encode one.unit) (drop taken (drop place bytes)) in
       let left = length-drop place bytes in
       let same : (length bytes - place) - taken ≡ length bytes - (place + taken) = omega (arith, left, so.within, len, inside, one.size) in (
         record {
           units = so.units ++ one.unit ∷ [];
-          whole = so.whole ∙ ap (λ xs. spell_all format.units so.units ++ xs) (one.front ∙ ap (λ xs. format.units.spell one.unit ++ xs) (drop-drop taken place bytes))
-              ∙ sym (append_assoc (spell_all format.units so.units) (format.units.spell one.unit) (drop (place + taken) bytes))
-              ∙ ap (λ xs. xs ++ drop (place + taken) bytes) (flat_map_more format.units.spell [] so.units one.unit);
+          whole = so.whole ∙ ap (λ xs. encode_all format.units so.units ++ xs) (one.prefix ∙ ap (λ xs. format.units.encode one.unit ++ xs) (drop-drop taken place bytes))
+              ∙ sym (append_assoc (encode_all format.units so.units) (format.units.encode one.unit) (drop (place + taken) bytes))
+              ∙ ap (λ xs. xs ++ drop (place + taken) bytes) (flat_map_more format.units.encode [] so.units one.unit);
           each = All-push format.units.IsLawful so.units one.unit so.each one.lawful;
-          reached = omega (arith, so.reached, one.size, length-append (spell_all format.units so.units) (format.units.spell one.unit), ap length (flat_map_more format.units.spell [] so.units one.unit));
+          reached = omega (arith, so.reached, one.size, length-append (encode_all format.units so.units) (format.units.encode one.unit), ap length (flat_map_more format.units.encode [] so.units one.unit));
           within = omega (arith, left, so.within, len, inside, one.size);
           leads = leads_more old middle new before between after so.units one.unit so.leads one.step;
           ready = rw same at ready;

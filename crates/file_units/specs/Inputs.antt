@@ -3,7 +3,7 @@ use Rattle.std.specs.Prelude.{◌≡◌, ◌+◌, ◌-◌, ◌<◌, ◌≤◌, �
 use Rattle.flow_io.specs.Streams.{Takes}
 use Rattle.flow_io.specs.Windows.{WindowState}
 use Rattle.wire_records.specs.Records.{AreBytes}
-use Rattle.wire_records.specs.Grammars.{BeginsWithNone, spell_all}
+use Rattle.wire_records.specs.Grammars.{BeginsWithNone, encode_all}
 use Rattle.wire_records.specs.Reading.{Format}
 use Rattle.wire_records.specs.Reading as reading
 use Rattle.file_units.specs.declared.units.Ending.{Ending}
@@ -32,7 +32,7 @@ module _ {V U S O F : Type 0} (format : Format V U) (Steps : S → U → S → O
       GoesToEnd format Steps place (limit < length all) (take limit all) (ending_of ending) old new before now × (ending ≡ End → IfSome after (λ left. left ≡ []))
   GoesBy limit place room seen after all (Err Read) old new before now = GoesToEnd format Steps place (Unit {0}) (take (length seen) (take limit all)) reading.TooLong old new before now
   GoesBy limit place room seen after all (Err (Broken fault)) old new before now =
-      (goes : GoesToBreak format Steps Breaks (take limit all) fault old before now) × (length seen ≤ length (spell_all format.units goes.units) + (room + 1))
+      (goes : GoesToBreak format Steps Breaks (take limit all) fault old before now) × (length seen ≤ length (encode_all format.units goes.units) + (room + 1))
 
   -- The units of the bytes that a window held, and of those taken from its source, were taken: within its limit, and at most one byte more.
   pub record GoesFrom (window : WindowState) (before after : Option (List ℕ)) (result : Result Ending (TakeFault F)) (old new : S) (out now : O) : Type 0 where

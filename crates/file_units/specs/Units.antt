@@ -1,6 +1,6 @@
 -- Taking the units of a file one after the other: what is done with each, and how that ends.
 use Rattle.std.specs.Prelude.{◌≡◌, ◌≢◌, ◌-◌, ◌<◌, ℕ, List, [], ◌∷◌, ◌++◌, length, drop, All}
-use Rattle.wire_records.specs.Grammars.{BeginsWithNone, spell_all}
+use Rattle.wire_records.specs.Grammars.{BeginsWithNone, encode_all}
 use Rattle.wire_records.specs.Reading.{Format, ReadsOn}
 use Rattle.wire_records.specs.Reading as reading
 use Rattle.file_units.specs.declared.units.Front.{Front}
@@ -20,9 +20,9 @@ module _ {V U S O : Type 0} (format : Format V U) (Steps : S → U → S → O �
   pub record TakesOne (taken : ℕ) (bytes : List ℕ) (old new : S) (before after : O) : Type 0 where
     pub unit : U
     pub lawful : format.units.IsLawful unit
-    pub size : taken ≡ length (format.units.spell unit)
+    pub size : taken ≡ length (format.units.encode unit)
     pub some : 0 < taken
-    pub front : bytes ≡ format.units.spell unit ++ drop taken bytes
+    pub prefix : bytes ≡ format.units.encode unit ++ drop taken bytes
     pub step : Steps old unit new before after
 
   -- The bytes begin with no complete unit, and nothing was done.
@@ -55,7 +55,7 @@ module _ {V U S O F : Type 0} (format : Format V U) (Breaks : S → U → F → 
     pub unit : U
     pub rest : List ℕ
     pub lawful : format.units.IsLawful unit
-    pub front : bytes ≡ format.units.spell unit ++ rest
+    pub prefix : bytes ≡ format.units.encode unit ++ rest
     pub broken : Breaks old unit fault before after
 
 module _ {V U S O F : Type 0} (format : Format V U) (Steps : S → U → S → O → O → Type 0) (Breaks : S → U → F → O → O → Type 0) where
@@ -65,7 +65,7 @@ module _ {V U S O F : Type 0} (format : Format V U) (Steps : S → U → S → O
     pub left : List ℕ
     pub middle : S
     pub between : O
-    pub begins : bytes ≡ spell_all format.units units ++ left
+    pub begins : bytes ≡ encode_all format.units units ++ left
     pub each : All format.units.IsLawful units
     pub leads : Leads format Steps old before units middle between
     pub breaks : BreaksOff format Breaks left middle fault between after

@@ -63,11 +63,11 @@ pub fn take_from<S: Source, O, T: TakesUnits<O>>(
     ensures cause { Blames (result ≡ Err TakeFault.Read) (S.faults source.old) (S.faults source.new) }
 {
     'units: loop {
-        let front = match taker.take(bytes_of(window.held()), out) {
-            Ok(front) => front,
+        let prefix = match taker.take(bytes_of(window.held()), out) {
+            Ok(prefix) => prefix,
             Err(fault) => return Err(TakeFault::Broken(fault)),
         };
-        match front {
+        match prefix {
             Front::Taken(taken) => window.advance(taken),
             Front::Overlong => return Ok(Ending::Torn(window.place())),
             Front::Short => match read_on(window, source) {

@@ -52,8 +52,8 @@ pub trait TakesUnits<O> {
     /// Takes the unit that the bytes begin with, if it is complete.
     fn take(&mut self, bytes: &[u8], out: &mut O) -> Result<Front, Self::Fault>
         requires ready { (left : ℕ) × (length bytes.now ≤ left) × is_ready self.old left }
-        ensures taken { IfOk result (λ front. IsTaken format steps front bytes.now (state self.old) (state self.new) out.old out.new) }
-        ensures stays { IfOk result (λ front. (left : ℕ) → length bytes.now ≤ left → is_ready self.old left → StaysReady (is_ready self.new) front left) }
+        ensures taken { IfOk result (λ prefix. IsTaken format steps prefix bytes.now (state self.old) (state self.new) out.old out.new) }
+        ensures stays { IfOk result (λ prefix. (left : ℕ) → length bytes.now ≤ left → is_ready self.old left → StaysReady (is_ready self.new) prefix left) }
         ensures broken { IfErr result (λ fault. BreaksOff format breaks bytes.now (state self.old) fault out.old out.new) };
 }
 

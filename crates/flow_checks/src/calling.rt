@@ -1,6 +1,6 @@
 //! A call, over a source and sinks in memory.
 use crate::asked::Asked;
-use crate::telling::{put_end, put_front, put_out};
+use crate::telling::{put_end, put_out, put_prefix};
 use flow_exchange::{Status, flow, flow_limited};
 use flow_io::read_all;
 use memory_streams::{MemorySink, MemorySource};
@@ -96,11 +96,11 @@ fn end_of(alloc: Global, asked: &Asked, input: &[u8], read: u64, write: u64) -> 
 // Appends how a call ended, and how many bytes it wrote, a prefix of `whole` or other bytes.
 fn put_ended(ended: &Ended, whole: &[u8], rows: &mut String) -> Option<()> {
     let out = ended.out.bytes();
-    let is_front = whole.starts_with(out);
-    put_front(
+    let is_prefix = whole.starts_with(out);
+    put_prefix(
         ended.status.exit(),
         out.len(),
-        is_front,
+        is_prefix,
         ended.notes.bytes(),
         rows,
     )

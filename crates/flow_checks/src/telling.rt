@@ -31,15 +31,15 @@ pub(crate) fn put_end(
 }
 
 // Appends the number of the status, how many bytes were written, whether they are a prefix, and the line on standard error.
-pub(crate) fn put_front(
+pub(crate) fn put_prefix(
     exit: u8,
     written: usize,
-    is_front: bool,
+    is_prefix: bool,
     notes: &[u8],
     rows: &mut String,
 ) -> Option<()> {
     write!(rows, " {exit}, {written}").ok()?;
-    rows.push_str(if is_front { " bytes" } else { " other bytes" })
+    rows.push_str(if is_prefix { " bytes" } else { " other bytes" })
         .ok()?;
     put_line(notes, rows)?;
     rows.push('\n').ok()

@@ -1,7 +1,7 @@
 -- The checkpoint form does what the clauses of the program say: it results in the checkpoint of the market at the end of a history.
 use Rattle.std.proofs.Common.{◌≡◌, ◌<◌, ◌+◌, ℕ, List, [], ◌∷◌, ◌++◌, Ok, Err, length, take, refl, ap, ◌∙◌, inl, inr, arith}
 use Rattle.wire_records.specs.Records.{Record}
-use Rattle.wire_records.specs.Grammars.{BeginsWith, spell_all}
+use Rattle.wire_records.specs.Grammars.{BeginsWith, encode_all}
 use Rattle.wire_records.specs.Reading.{End}
 use Rattle.wire_records.specs.Reading as reading
 use Rattle.journal_records.specs.Formats.{journals}
@@ -16,7 +16,7 @@ use Rattle.journal_words.proofs.JournalLaws.{are_legal}
 use Rattle.journal_checkpoint.specs.Checkpointing.{checkpointing, checkpoint}
 use Rattle.journal_checkpoint.proofs.CheckpointLaws.{checkpoint_is_exact}
 use Rattle.history_words.specs.declared.stop.HistoryStop.{HistoryStop}
-use Rattle.history_words.specs.Histories.{behind, plainly, over_history}
+use Rattle.history_words.specs.Histories.{following, plainly, over_history}
 use Rattle.flow_exchange.specs.declared.form.Form.TheVariants.{Checkpoint}
 use Rattle.flow_exchange.specs.declared.status.Status.TheVariants as answer
 use Rattle.flow_exchange.specs.Statuses.{ended_status}
@@ -44,22 +44,22 @@ module _ (limit : ℕ) (bytes text : List ℕ) (start : Start) (body : List ℕ)
   More = limit < length bytes
 
   abbrev first : ℕ
-  first = length (starts.spell start)
+  first = length (starts.encode start)
 
   -- the text is what was written last
   last_only : (ended : Ended ℕ) (way : ComesOn checkpoint More first body (checkpoint_from (market_of start)) ended text) → text ≡ way.last
   last_only ended way = last_alone text way.so_far way.last way.writes (nothing_yet (checkpoint_from (market_of start)) way.state way.units way.so_far way.passes.goes)
 
   stopped : (number : ℕ) → (way : ComesOn checkpoint More first body (checkpoint_from (market_of start)) (Err (word.Stopped number)) text)
-      → Halts checkpoint More (first + length (spell_all journals.units way.units)) way.rest way.state (Err (word.Stopped number)) way.last → CheckpointsTo limit bytes (answer.Rejected number) text
-  stopped number way (inl (bad, more, front, stops)) =
+      → Halts checkpoint More (first + length (encode_all journals.units way.units)) way.rest way.state (Err (word.Stopped number)) way.last → CheckpointsTo limit bytes (answer.Rejected number) text
+  stopped number way (inl (bad, more, prefix, stops)) =
       let are = are_legal checkpointing (checkpoint_from (market_of start)) way.state way.units way.so_far way.passes.each way.passes.goes in
-      let on = judged_some limit bytes body start begins way.units way.rest way.passes.whole way.passes.each are.legal are.parts are.each way.state.market are.steps bad more front stops.0 in
+      let on = judged_some limit bytes body start begins way.units way.rest way.passes.whole way.passes.each are.legal are.parts are.each way.state.market are.steps bad more prefix stops.0 in
       let named : answer.Rejected number ≡ audit_status limit on.1 are.legal (bad ∷ on.0) = ap (λ (k : ℕ). answer.Rejected k) (omega (arith, stops.1.0, are.pairs)) in
       makes_of kept_as limit bytes (answer.Rejected number) text (history_of start are.legal way.state.market (bad ∷ on.0) on.1) on.2 named (last_only (Err (word.Stopped number)) way ∙ stops.1.1)
   stopped number way (inr at) = absurd at.1
 
-  checkpoint_on : (inner : Ended ℕ) → ComesOn checkpoint More first body (checkpoint_from (market_of start)) inner text → CheckpointsTo limit bytes (ended_status limit rejected (behind inner)) text
+  checkpoint_on : (inner : Ended ℕ) → ComesOn checkpoint More first body (checkpoint_from (market_of start)) inner text → CheckpointsTo limit bytes (ended_status limit rejected (following inner)) text
   checkpoint_on (Ok done) way =
       let are = are_legal checkpointing (checkpoint_from (market_of start)) way.state way.units way.so_far way.passes.each way.passes.goes in
       let is = judged_all limit bytes body start begins way.units way.rest way.passes.whole way.passes.each are.legal are.parts are.each way.state.market are.steps End way.halts.0.0 way.halts.0.1 in
@@ -83,13 +83,13 @@ checkpoint_to limit bytes ended text (inl other) = rw other.1 (inl (inl (other.0
 checkpoint_to limit bytes ended text (inr (inl unsound)) = rw unsound.1 (inl (inr (unsound.0, refl), unsound.2))
 checkpoint_to limit bytes ended text (inr (inr (start, body, rest, begins, parts, inner, way, is))) = rw parts (rw is (checkpoint_on limit bytes rest start body begins inner way))
 
-checkpoint_lacks : (limit : ℕ) (bytes : List ℕ) (text : List ℕ) (start : Start) (body : List ℕ) → BeginsWith starts (take limit bytes) start body → LacksOn checkpoint (limit < length bytes) (length (starts.spell start)) body (checkpoint_from (market_of start)) text → CheckpointsShort limit bytes text
+checkpoint_lacks : (limit : ℕ) (bytes : List ℕ) (text : List ℕ) (start : Start) (body : List ℕ) → BeginsWith starts (take limit bytes) start body → LacksOn checkpoint (limit < length bytes) (length (starts.encode start)) body (checkpoint_from (market_of start)) text → CheckpointsShort limit bytes text
 checkpoint_lacks limit bytes text start body begins way =
     let are = are_legal checkpointing (checkpoint_from (market_of start)) way.state way.units text way.passes.each way.passes.goes in
     let none : text ≡ [] = nothing_yet (checkpoint_from (market_of start)) way.state way.units text way.passes.goes in
     elim way.allocates [
-      | inl (next, more, front, allocates) ↦
-          let at = at_pair limit bytes body start begins way.units way.rest way.passes.whole way.passes.each are.legal are.parts are.each way.state.market are.steps next more front in
+      | inl (next, more, prefix, allocates) ↦
+          let at = at_pair limit bytes body start begins way.units way.rest way.passes.whole way.passes.each are.legal are.parts are.each way.state.market are.steps next more prefix in
           elim allocates [
             | inl want ↦ inl (inr (start, are.legal, way.state.market, next, at, want, none))
             | inr other ↦ elim other [ inl seen ↦ absurd seen.2 | inr not_legal ↦ absurd not_legal.1 ]

@@ -5,11 +5,11 @@ use Rattle.wire_records.specs.Grammars.{BeginsWithNone}
 use Rattle.wire_records.specs.Formats.{command_magic_of}
 use Rattle.wire_records.specs.declared.version.Version.{Version}
 use Rattle.wire_records.specs.declared.version.Version.TheVariants.{One, Two, Three, Four}
-use Rattle.wire_records.proofs.Fronts.{no_front-from_overlong}
+use Rattle.wire_records.proofs.Prefixes.{no_prefix-from_overlong}
 use Rattle.wire_fields.specs.Numbers.{unsigned}
 use Rattle.journal_records.specs.Replies.{most_reply_body}
 use Rattle.journal_records.specs.Formats.{journals}
-use Rattle.journal_records.proofs.PairFronts.{no_pair-from_first}
+use Rattle.journal_records.proofs.PairPrefixes.{no_pair-from_first}
 
 -- the second to the fifth byte of a magic, as a length
 abbrev stated : ℕ
@@ -25,4 +25,4 @@ states Four body = (omega arith, 70, omega arith, 77 ∷ 68 ∷ 52 ∷ body, ref
 pub command_files_begin_no_pair : (version : Version) (body : List ℕ) → BeginsWithNone journals.units (command_magic_of version ++ body)
 command_files_begin_no_pair version body =
     let bytes = command_magic_of version ++ body in
-    no_pair-from_first most_body most_reply_body bytes (no_front-from_overlong most_body stated bytes (omega arith) (states version body) (omega arith))
+    no_pair-from_first most_body most_reply_body bytes (no_prefix-from_overlong most_body stated bytes (omega arith) (states version body) (omega arith))

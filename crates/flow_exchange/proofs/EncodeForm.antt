@@ -11,7 +11,7 @@ use Rattle.encode_word.proofs.FirstBytes.{ComeIfMore, GetsFirst, no_bytes, into_
 use Rattle.flow_exchange.specs.declared.form.Form.TheVariants.{Encode}
 use Rattle.flow_exchange.specs.Statuses.{ended_status, unencoded}
 use Rattle.flow_exchange.specs.Program.{ComesToIfMore, GetsTo}
-use Rattle.flow_exchange.proofs.Words.{IsOwn, IsForm, Unwritten, nothing_is_front}
+use Rattle.flow_exchange.proofs.Words.{IsOwn, IsForm, Unwritten, nothing_is_prefix}
 
 module _ (version : Version) where
   -- what first bytes result in, with its status
@@ -29,7 +29,7 @@ module _ (version : Version) where
   -- after a failed write of the output
   cut_short : (limit : ℕ) (bytes text : List ℕ) (before after : Option (List ℕ)) → (text ≡ []) ⊎ EncodesInto version (limit < length bytes) (take limit bytes) text → GrowsByPrefix before after text
       → (other : List ℕ) × GetsTo (Encode version) limit bytes other × GrowsByPrefix before after other
-  cut_short limit bytes text before after (inl none) written = ([], inl (0, if_more [] [] (no_bytes version)), nothing_is_front before after text [] none written)
+  cut_short limit bytes text before after (inl none) written = ([], inl (0, if_more [] [] (no_bytes version)), nothing_is_prefix before after text [] none written)
   cut_short limit bytes text before after (inr into) written = (text, gets limit bytes text (into_gets version (limit < length bytes) (take limit bytes) text into), written)
 
   owns : (why : EncodeStop) → IsOwn (unencoded why)

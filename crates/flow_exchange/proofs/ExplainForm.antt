@@ -2,7 +2,7 @@
 -- invalid entry.
 use Rattle.std.proofs.Common.{◌≡◌, ◌<◌, ◌+◌, ℕ, List, [], ◌∷◌, All, Ok, Err, length, take, refl, sym, ap, ◌∙◌, subst, inl, inr, arith}
 use Rattle.wire_records.specs.Records.{Record}
-use Rattle.wire_records.specs.Grammars.{BeginsWith, spell_all}
+use Rattle.wire_records.specs.Grammars.{BeginsWith, encode_all}
 use Rattle.wire_records.specs.Reading.{End}
 use Rattle.wire_records.specs.Reading as reading
 use Rattle.journal_records.specs.Formats.{journals}
@@ -16,7 +16,7 @@ use Rattle.journal_words.specs.Findings.{IsExplained}
 use Rattle.journal_words.specs.Words.{Counts, counting, explaining, audit, explain}
 use Rattle.journal_words.proofs.JournalLaws.{explain_is_exact}
 use Rattle.history_words.specs.declared.stop.HistoryStop.{HistoryStop}
-use Rattle.history_words.specs.Histories.{behind, plainly, over_history}
+use Rattle.history_words.specs.Histories.{following, plainly, over_history}
 use Rattle.flow_exchange.specs.declared.form.Form.TheVariants.{Explain}
 use Rattle.flow_exchange.specs.declared.status.Status.TheVariants as answer
 use Rattle.flow_exchange.specs.Statuses.{ended_status}
@@ -43,27 +43,27 @@ counted_by market new units text each goes = are_counted (audit_from market) new
 -- ---- what bytes result in
 
 abbrev explained : History → List ℕ → Type 0
-explained history text = Explains history.market history.legal history.behind (audit_text history) text
+explained history text = Explains history.market history.legal history.following (audit_text history) text
 
 module _ (limit : ℕ) (bytes text : List ℕ) (start : Start) (body : List ℕ) (begins : BeginsWith starts (take limit bytes) start body) where
   abbrev More : Type 0
   More = limit < length bytes
 
   abbrev first : ℕ
-  first = length (starts.spell start)
+  first = length (starts.encode start)
 
   explain_stopped : (number : ℕ) → (way : ComesOn explain More first body (audit_from (market_of start)) (Err (word.Stopped number)) text)
-      → Halts explain More (first + length (spell_all journals.units way.units)) way.rest way.state (Err (word.Stopped number)) way.last → ExplainsTo limit bytes (answer.Rejected number) text
-  explain_stopped number way (inl (bad, more, front, stops)) =
+      → Halts explain More (first + length (encode_all journals.units way.units)) way.rest way.state (Err (word.Stopped number)) way.last → ExplainsTo limit bytes (answer.Rejected number) text
+  explain_stopped number way (inl (bad, more, prefix, stops)) =
       let are = counted_by (market_of start) way.state way.units way.so_far way.passes.each way.passes.goes in
-      let on = judged_some limit bytes body start begins way.units way.rest way.passes.whole way.passes.each are.legal are.parts are.each way.state.market are.steps bad more front stops.0 in
+      let on = judged_some limit bytes body start begins way.units way.rest way.passes.whole way.passes.each are.legal are.parts are.each way.state.market are.steps bad more prefix stops.0 in
       let place : way.state.pairs + 1 ≡ length are.legal + 1 = omega (arith, are.pairs) in
       let line : text ≡ way.last = last_alone text way.so_far way.last way.writes are.nothing in
       makes_of explained limit bytes (answer.Rejected number) text (history_of start are.legal way.state.market (bad ∷ on.0) on.1) on.2 (ap (λ (k : ℕ). answer.Rejected k) (stops.1.0 ∙ place))
       (subst (λ (x : List ℕ). IsExplained way.state.market (length are.legal + 1) bad x) (sym line) (subst (λ (k : ℕ). IsExplained way.state.market k bad way.last) place stops.1.1))
   explain_stopped number way (inr at) = absurd at.1
 
-  explain_on : (inner : Ended ℕ) → ComesOn explain More first body (audit_from (market_of start)) inner text → ExplainsTo limit bytes (ended_status limit rejected (behind inner)) text
+  explain_on : (inner : Ended ℕ) → ComesOn explain More first body (audit_from (market_of start)) inner text → ExplainsTo limit bytes (ended_status limit rejected (following inner)) text
   explain_on (Ok done) way =
       let are = counted_by (market_of start) way.state way.units way.so_far way.passes.each way.passes.goes in
       let is = judged_all limit bytes body start begins way.units way.rest way.passes.whole way.passes.each are.legal are.parts are.each way.state.market are.steps End way.halts.0.0 way.halts.0.1 in
@@ -92,12 +92,12 @@ explain_to limit bytes ended text (inr (inr (start, body, rest, begins, parts, i
 
 -- ---- where memory may run out
 
-explain_lacks : (limit : ℕ) (bytes : List ℕ) (text : List ℕ) (start : Start) (body : List ℕ) → BeginsWith starts (take limit bytes) start body → LacksOn explain (limit < length bytes) (length (starts.spell start)) body (audit_from (market_of start)) text → AuditsShort limit bytes text
+explain_lacks : (limit : ℕ) (bytes : List ℕ) (text : List ℕ) (start : Start) (body : List ℕ) → BeginsWith starts (take limit bytes) start body → LacksOn explain (limit < length bytes) (length (starts.encode start)) body (audit_from (market_of start)) text → AuditsShort limit bytes text
 explain_lacks limit bytes text start body begins way =
     let are = counted_by (market_of start) way.state way.units text way.passes.each way.passes.goes in
     elim way.allocates [
-      | inl (next, more, front, allocates) ↦
-          let at = at_pair limit bytes body start begins way.units way.rest way.passes.whole way.passes.each are.legal are.parts are.each way.state.market are.steps next more front in
+      | inl (next, more, prefix, allocates) ↦
+          let at = at_pair limit bytes body start begins way.units way.rest way.passes.whole way.passes.each are.legal are.parts are.each way.state.market are.steps next more prefix in
           elim allocates [
             | inl want ↦ inr (start, are.legal, way.state.market, next, at, want, are.nothing)
             | inr other ↦ elim other [ inl seen ↦ absurd seen.2 | inr not_legal ↦ inr (start, are.legal, way.state.market, next, at, not_legal.1, are.nothing) ]

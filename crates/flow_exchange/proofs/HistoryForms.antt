@@ -5,13 +5,13 @@ use Rattle.std.proofs.lemmas.List.Elements.{All-nil, All-cons, All-head, All-tai
 use Rattle.wire_records.specs.Records.{Record}
 use Rattle.wire_records.specs.Commands.{Answer, Pair}
 use Rattle.wire_records.specs.Versions.{IsReadAs}
-use Rattle.wire_records.specs.Grammars.{BeginsWith, spell_all}
+use Rattle.wire_records.specs.Grammars.{BeginsWith, encode_all}
 use Rattle.wire_records.specs.Reading.{End}
 use Rattle.wire_records.specs.Reading as reading
 use Rattle.flow_orders.specs.Outcomes.{Outcome, IsAdmissibleOutcome}
 use Rattle.journal_records.specs.Pairs.{IsPair}
 use Rattle.journal_records.specs.Formats.{journals, records_of}
-use Rattle.journal_records.proofs.Spelled.{answer_unique}
+use Rattle.journal_records.proofs.Encoded.{answer_unique}
 use Rattle.market_rules.specs.Market.{Market}
 use Rattle.market_rules.specs.Journal.{Follows}
 use Rattle.market_history.specs.Histories.{Start, market_of, starts}
@@ -26,7 +26,7 @@ use Rattle.journal_words.specs.Words.{Counts, audit, report}
 use Rattle.journal_words.proofs.JournalLaws.{audit_is_exact, report_is_exact}
 use Rattle.history_words.specs.declared.stop.HistoryStop.{HistoryStop}
 use Rattle.history_words.specs.declared.stop.HistoryStop.TheVariants as stop
-use Rattle.history_words.specs.Histories.{behind, plainly, over_history}
+use Rattle.history_words.specs.Histories.{following, plainly, over_history}
 use Rattle.flow_exchange.specs.declared.form.Form.TheVariants.{Audit, Report}
 use Rattle.flow_exchange.specs.declared.status.Status.TheVariants as answer
 use Rattle.flow_exchange.specs.Statuses.{ended_status}
@@ -74,13 +74,13 @@ are_counted start new (unit ∷ units) text each goes =
     let rest = are_counted goes.0 new units goes.2 (All-tail journals.units.IsLawful unit units each) goes.4 in
     let pair : Pair Record Outcome = record { asked = unit.0; answer = one.legal.answer } in
     let count = one.sees.0 in
-    let same = answer_unique count.answer one.legal.answer count.spelled.fits one.legal.spelled.fits (sym count.spelled.spelled ∙ one.legal.spelled.spelled) in
+    let same = answer_unique count.answer one.legal.answer count.encoded.fits one.legal.encoded.fits (sym count.encoded.encoded ∙ one.legal.encoded.encoded) in
     let cleared : goes.0.seen.cleared ≡ start.seen.cleared + cleared_by one.legal.answer = count.cleared ∙ ap (λ (a : Answer Outcome). start.seen.cleared + cleared_by a) same in
     let skipped : goes.0.seen.skipped ≡ start.seen.skipped + skipped_by one.legal.answer = count.skipped ∙ ap (λ (a : Answer Outcome). start.seen.skipped + skipped_by a) same in
     record {
       legal = pair ∷ rest.legal;
-      parts = ap (λ xs. unit ∷ xs) rest.parts ∙ ap (λ (r : Record). (unit.0, r) ∷ map records_of rest.legal) one.legal.spelled.spelled;
-      each = All-cons IsPair pair rest.legal (record { asked = lawful.0; answer = one.legal.spelled.fits; answered = rw (← one.legal.spelled.spelled) lawful.1 }) rest.each;
+      parts = ap (λ xs. unit ∷ xs) rest.parts ∙ ap (λ (r : Record). (unit.0, r) ∷ map records_of rest.legal) one.legal.encoded.encoded;
+      each = All-cons IsPair pair rest.legal (record { asked = lawful.0; answer = one.legal.encoded.fits; answered = rw (← one.legal.encoded.encoded) lawful.1 }) rest.each;
       steps = (goes.0.market, one.legal.step, rest.steps);
       pairs = omega (arith, rest.pairs, one.counted);
       cleared = omega (arith, rest.cleared, cleared, cleared_more pair rest.legal);
@@ -111,11 +111,11 @@ are_told start new (unit ∷ units) text each goes =
     let lawful = All-head journals.units.IsLawful unit units each in
     let rest = are_told goes.0 new units goes.2 (All-tail journals.units.IsLawful unit units each) goes.4 in
     let pair : Pair Record Outcome = record { asked = unit.0; answer = one.legal.answer } in
-    let same : unit ≡ records_of pair = ap (λ (r : Record). (unit.0, r)) one.legal.spelled.spelled in
+    let same : unit ≡ records_of pair = ap (λ (r : Record). (unit.0, r)) one.legal.encoded.encoded in
     record {
       legal = pair ∷ rest.legal;
       parts = ap (λ xs. unit ∷ xs) rest.parts ∙ ap (λ (u : Record × Record). u ∷ map records_of rest.legal) same;
-      each = All-cons IsPair pair rest.legal (record { asked = lawful.0; answer = one.legal.spelled.fits; answered = rw (← one.legal.spelled.spelled) lawful.1 }) rest.each;
+      each = All-cons IsPair pair rest.legal (record { asked = lawful.0; answer = one.legal.encoded.fits; answered = rw (← one.legal.encoded.encoded) lawful.1 }) rest.each;
       steps = (goes.0.market, one.legal.step, rest.steps);
       pairs = omega (arith, rest.pairs, one.counted);
       told = (
@@ -152,19 +152,19 @@ module _ (limit : ℕ) (bytes text : List ℕ) (start : Start) (body : List ℕ)
   More = limit < length bytes
 
   abbrev first : ℕ
-  first = length (starts.spell start)
+  first = length (starts.encode start)
 
   audit_stopped : (number : ℕ) → (way : ComesOn audit More first body (audit_from (market_of start)) (Err (word.Stopped number)) text)
-      → Halts audit More (first + length (spell_all journals.units way.units)) way.rest way.state (Err (word.Stopped number)) way.last → AuditsTo limit bytes (answer.Rejected number) text
-  audit_stopped number way (inl (bad, more, front, stops)) =
+      → Halts audit More (first + length (encode_all journals.units way.units)) way.rest way.state (Err (word.Stopped number)) way.last → AuditsTo limit bytes (answer.Rejected number) text
+  audit_stopped number way (inl (bad, more, prefix, stops)) =
       let are = are_counted (audit_from (market_of start)) way.state way.units way.so_far way.passes.each way.passes.goes in
-      let on = judged_some limit bytes body start begins way.units way.rest way.passes.whole way.passes.each are.legal are.parts are.each way.state.market are.steps bad more front stops.0 in
+      let on = judged_some limit bytes body start begins way.units way.rest way.passes.whole way.passes.each are.legal are.parts are.each way.state.market are.steps bad more prefix stops.0 in
       let none : text ≡ [] = last_alone text way.so_far way.last way.writes are.nothing ∙ stops.1.1 in
       let named : answer.Rejected number ≡ audit_status limit on.1 are.legal (bad ∷ on.0) = ap (λ (k : ℕ). answer.Rejected k) (omega (arith, stops.1.0, are.pairs)) in
       makes_of (λ history text. text ≡ audit_text history) limit bytes (answer.Rejected number) text (history_of start are.legal way.state.market (bad ∷ on.0) on.1) on.2 named none
   audit_stopped number way (inr at) = absurd at.1
 
-  audit_on : (inner : Ended ℕ) → ComesOn audit More first body (audit_from (market_of start)) inner text → AuditsTo limit bytes (ended_status limit rejected (behind inner)) text
+  audit_on : (inner : Ended ℕ) → ComesOn audit More first body (audit_from (market_of start)) inner text → AuditsTo limit bytes (ended_status limit rejected (following inner)) text
   audit_on (Ok done) way =
       let are = are_counted (audit_from (market_of start)) way.state way.units way.so_far way.passes.each way.passes.goes in
       let is = judged_all limit bytes body start begins way.units way.rest way.passes.whole way.passes.each are.legal are.parts are.each way.state.market are.steps End way.halts.0.0 way.halts.0.1 in
@@ -191,12 +191,12 @@ audit_to limit bytes ended text (inl other) = rw other.1 (inl (inl (other.0, ref
 audit_to limit bytes ended text (inr (inl unsound)) = rw unsound.1 (inl (inr (unsound.0, refl), unsound.2))
 audit_to limit bytes ended text (inr (inr (start, body, rest, begins, parts, inner, way, is))) = rw parts (rw is (audit_on limit bytes rest start body begins inner way))
 
-audit_lacks : (limit : ℕ) (bytes : List ℕ) (text : List ℕ) (start : Start) (body : List ℕ) → BeginsWith starts (take limit bytes) start body → LacksOn audit (limit < length bytes) (length (starts.spell start)) body (audit_from (market_of start)) text → AuditsShort limit bytes text
+audit_lacks : (limit : ℕ) (bytes : List ℕ) (text : List ℕ) (start : Start) (body : List ℕ) → BeginsWith starts (take limit bytes) start body → LacksOn audit (limit < length bytes) (length (starts.encode start)) body (audit_from (market_of start)) text → AuditsShort limit bytes text
 audit_lacks limit bytes text start body begins way =
     let are = are_counted (audit_from (market_of start)) way.state way.units text way.passes.each way.passes.goes in
     elim way.allocates [
-      | inl (next, more, front, allocates) ↦
-          let at = at_pair limit bytes body start begins way.units way.rest way.passes.whole way.passes.each are.legal are.parts are.each way.state.market are.steps next more front in
+      | inl (next, more, prefix, allocates) ↦
+          let at = at_pair limit bytes body start begins way.units way.rest way.passes.whole way.passes.each are.legal are.parts are.each way.state.market are.steps next more prefix in
           elim allocates [
             | inl want ↦ inr (start, are.legal, way.state.market, next, at, want, are.nothing)
             | inr other ↦ elim other [ inl seen ↦ absurd seen.2 | inr not_legal ↦ absurd not_legal.1 ]
@@ -230,18 +230,18 @@ module _ (limit : ℕ) (bytes text : List ℕ) (start : Start) (body : List ℕ)
   Longer = limit < length bytes
 
   abbrev size : ℕ
-  size = length (starts.spell start)
+  size = length (starts.encode start)
 
   report_stopped : (number : ℕ) → (way : ComesOn report Longer size body (report_from (market_of start)) (Err (word.Stopped number)) text)
-      → Halts report Longer (size + length (spell_all journals.units way.units)) way.rest way.state (Err (word.Stopped number)) way.last → ReportsTo limit bytes (answer.Rejected number) text
-  report_stopped number way (inl (bad, more, front, stops)) =
+      → Halts report Longer (size + length (encode_all journals.units way.units)) way.rest way.state (Err (word.Stopped number)) way.last → ReportsTo limit bytes (answer.Rejected number) text
+  report_stopped number way (inl (bad, more, prefix, stops)) =
       let are = are_told (report_from (market_of start)) way.state way.units way.so_far way.passes.each way.passes.goes in
-      let on = judged_some limit bytes body start begins way.units way.rest way.passes.whole way.passes.each are.legal are.parts are.each way.state.market are.steps bad more front stops.0 in
+      let on = judged_some limit bytes body start begins way.units way.rest way.passes.whole way.passes.each are.legal are.parts are.each way.state.market are.steps bad more prefix stops.0 in
       makes_of reported limit bytes (answer.Rejected number) text (history_of start are.legal way.state.market (bad ∷ on.0) on.1) on.2
       (ap (λ (k : ℕ). answer.Rejected k) (omega (arith, stops.1.0, are.pairs))) (told_as (market_of start) are.legal way.state.market text way.so_far way.last way.writes stops.1.1 are.told)
   report_stopped number way (inr at) = absurd at.1
 
-  report_on : (inner : Ended ℕ) → ComesOn report Longer size body (report_from (market_of start)) inner text → ReportsTo limit bytes (ended_status limit rejected (behind inner)) text
+  report_on : (inner : Ended ℕ) → ComesOn report Longer size body (report_from (market_of start)) inner text → ReportsTo limit bytes (ended_status limit rejected (following inner)) text
   report_on (Ok done) way =
       let are = are_told (report_from (market_of start)) way.state way.units way.so_far way.passes.each way.passes.goes in
       makes_of reported limit bytes answer.Done text (history_of start are.legal way.state.market [] End)
@@ -268,12 +268,12 @@ report_to limit bytes ended text (inl other) = rw other.1 (inl (inl (other.0, re
 report_to limit bytes ended text (inr (inl unsound)) = rw unsound.1 (inl (inr (unsound.0, refl), unsound.2))
 report_to limit bytes ended text (inr (inr (start, body, rest, begins, parts, inner, way, is))) = rw parts (rw is (report_on limit bytes rest start body begins inner way))
 
-report_lacks : (limit : ℕ) (bytes : List ℕ) (text : List ℕ) (start : Start) (body : List ℕ) → BeginsWith starts (take limit bytes) start body → LacksOn report (limit < length bytes) (length (starts.spell start)) body (report_from (market_of start)) text → ReportsShort limit bytes text
+report_lacks : (limit : ℕ) (bytes : List ℕ) (text : List ℕ) (start : Start) (body : List ℕ) → BeginsWith starts (take limit bytes) start body → LacksOn report (limit < length bytes) (length (starts.encode start)) body (report_from (market_of start)) text → ReportsShort limit bytes text
 report_lacks limit bytes text start body begins way =
     let are = are_told (report_from (market_of start)) way.state way.units text way.passes.each way.passes.goes in
     elim way.allocates [
-      | inl (next, more, front, allocates) ↦
-          let at = at_pair limit bytes body start begins way.units way.rest way.passes.whole way.passes.each are.legal are.parts are.each way.state.market are.steps next more front in
+      | inl (next, more, prefix, allocates) ↦
+          let at = at_pair limit bytes body start begins way.units way.rest way.passes.whole way.passes.each are.legal are.parts are.each way.state.market are.steps next more prefix in
           elim allocates [
             | inl want ↦ inr (start, are.legal, way.state.market, next, at, inl want, are.told)
             | inr other ↦ elim other [ inl seen ↦ inr (start, are.legal, way.state.market, next, at, inr (seen.0, seen.1), are.told) | inr not_legal ↦ absurd not_legal.1 ]

@@ -2,7 +2,7 @@
 use Rattle.std.proofs.Common.{◌≡◌, ◌+◌, ◌<◌, ◌↔◌, ℕ, List, [], ◌∷◌, ◌++◌, Ok, Err, length, take, inl, inr, append-nil, length-append, refl, sym, ap, ◌∙◌, subst, arith}
 use Rattle.std.proofs.Math.Seq.{take-append-add}
 use Rattle.std.proofs.lemmas.List.{take_at}
-use Rattle.wire_records.specs.Grammars.{spell_all}
+use Rattle.wire_records.specs.Grammars.{encode_all}
 use Rattle.wire_records.specs.Reading.{Ending, End, EndsAs}
 use Rattle.wire_records.specs.Reading as reading
 use Rattle.wire_records.specs.declared.version.Version.{Version}
@@ -33,9 +33,9 @@ module _ {U S B : Type 0} (w : Word U S B) (P Q : Type 0) (same : P ↔ Q) where
 
   pub comes_alike : (start : Version → S) (bytes : List ℕ) (ended : Ended B) (text : List ℕ) → Comes w start bytes P ended text → Comes w start bytes Q ended text
   comes_alike start bytes ended text (inl none) = inl none
-  comes_alike start bytes ended text (inr (version, body, behind, magic, is, (on, kept))) =
-      let place = length (w.format.magics.spell version) + length (spell_all w.format.units on.units) in
-      let way : ComesOn w Q (length (w.format.magics.spell version)) body (start version) ended behind = record {
+  comes_alike start bytes ended text (inr (version, body, following, magic, is, (on, kept))) =
+      let place = length (w.format.magics.encode version) + length (encode_all w.format.units on.units) in
+      let way : ComesOn w Q (length (w.format.magics.encode version)) body (start version) ended following = record {
         units = on.units;
         rest = on.rest;
         state = on.state;
@@ -45,41 +45,41 @@ module _ {U S B : Type 0} (w : Word U S B) (P Q : Type 0) (same : P ↔ Q) where
         halts = halts_alike place on.rest on.state ended on.last on.halts;
         writes = on.writes;
       } in
-      inr (version, body, behind, magic, is, (way, kept))
+      inr (version, body, following, magic, is, (way, kept))
 
 module _ {U S B : Type 0} (w : Word U S B) (start : Version → S) where
   -- more follow the first bytes
-  more : (first : List ℕ) (next : ℕ) (behind : List ℕ) → Unit {0} ↔ (length first < length (first ++ next ∷ behind))
-  more first next behind = (λ _. omega (arith, length-append first (next ∷ behind)), λ _. tt)
+  more : (first : List ℕ) (next : ℕ) (following : List ℕ) → Unit {0} ↔ (length first < length (first ++ next ∷ following))
+  more first next following = (λ _. omega (arith, length-append first (next ∷ following)), λ _. tt)
 
-  pub comes_if_more : (first : List ℕ) (next : ℕ) (behind : List ℕ) (ended : Ended B) (text : List ℕ) → Comes w start first (Unit {0}) ended text → (task w start).Comes (length first) (first ++ next ∷ behind) ended text
-  comes_if_more first next behind ended text comes =
-      let all = first ++ next ∷ behind in
-      subst (λ (xs : List ℕ). Comes w start xs (length first < length all) ended text) (sym (take_at first (next ∷ behind) (length first) refl))
-      (comes_alike w (Unit {0}) (length first < length all) (more first next behind) start first ended text comes)
+  pub comes_if_more : (first : List ℕ) (next : ℕ) (following : List ℕ) (ended : Ended B) (text : List ℕ) → Comes w start first (Unit {0}) ended text → (task w start).Comes (length first) (first ++ next ∷ following) ended text
+  comes_if_more first next following ended text comes =
+      let all = first ++ next ∷ following in
+      subst (λ (xs : List ℕ). Comes w start xs (length first < length all) ended text) (sym (take_at first (next ∷ following) (length first) refl))
+      (comes_alike w (Unit {0}) (length first < length all) (more first next following) start first ended text comes)
 
-  pub comes_back : (first : List ℕ) (next : ℕ) (behind : List ℕ) (ended : Ended B) (text : List ℕ) → (task w start).Comes (length first) (first ++ next ∷ behind) ended text → Comes w start first (Unit {0}) ended text
-  comes_back first next behind ended text comes =
-      let all = first ++ next ∷ behind in
-      let to = more first next behind in
+  pub comes_back : (first : List ℕ) (next : ℕ) (following : List ℕ) (ended : Ended B) (text : List ℕ) → (task w start).Comes (length first) (first ++ next ∷ following) ended text → Comes w start first (Unit {0}) ended text
+  comes_back first next following ended text comes =
+      let all = first ++ next ∷ following in
+      let to = more first next following in
       comes_alike w (length first < length all) (Unit {0}) (to.1, to.0) start first ended text
-      (subst (λ (xs : List ℕ). Comes w start xs (length first < length all) ended text) (take_at first (next ∷ behind) (length first) refl) comes)
+      (subst (λ (xs : List ℕ). Comes w start xs (length first < length all) ended text) (take_at first (next ∷ following) (length first) refl) comes)
 
   -- what was written when memory ran out is what the bytes before result in if more follow
   pub lacks_begins : IsExact w → (limit : ℕ) (bytes : List ℕ) (text : List ℕ) → (task w start).Lacks limit bytes text → (n : ℕ) × (task w start).Begins limit bytes n text
-  lacks_begins exact limit bytes text (version, body, behind, magic, is, (on, kept)) =
-      let spell = w.format.magics.spell version in
-      let spelled = spell_all w.format.units on.units in
-      let front : take (length spelled) body ≡ spelled = ap (take (length spelled)) on.passes.whole ∙ take_at spelled on.rest (length spelled) refl in
-      let all : take (length spell + length spelled) (take limit bytes) ≡ spell ++ take (length spelled) body = ap (take (length spell + length spelled)) magic.1 ∙ take-append-add spell body (length spelled) in
-      let none : ComesOn w (Unit {0}) (length spell) (take (length spelled) body) (start version) (Err TooLong) behind = record {
+  lacks_begins exact limit bytes text (version, body, following, magic, is, (on, kept)) =
+      let encode = w.format.magics.encode version in
+      let encoded = encode_all w.format.units on.units in
+      let prefix : take (length encoded) body ≡ encoded = ap (take (length encoded)) on.passes.whole ∙ take_at encoded on.rest (length encoded) refl in
+      let all : take (length encode + length encoded) (take limit bytes) ≡ encode ++ take (length encoded) body = ap (take (length encode + length encoded)) magic.1 ∙ take-append-add encode body (length encoded) in
+      let none : ComesOn w (Unit {0}) (length encode) (take (length encoded) body) (start version) (Err TooLong) following = record {
         units = on.units;
         rest = [];
         state = on.state;
-        so_far = behind;
+        so_far = following;
         last = [];
-        passes = record { whole = front ∙ sym (append-nil spelled); each = on.passes.each; goes = on.passes.goes };
+        passes = record { whole = prefix ∙ sym (append-nil encoded); each = on.passes.each; goes = on.passes.goes };
         halts = ((none_in_none w.format.units exact.readable.units, (exact.short, tt)), refl);
-        writes = sym (append-nil behind);
+        writes = sym (append-nil following);
       } in
-      (length spell + length spelled, (Err TooLong, inr (version, take (length spelled) body, behind, (magic.0, all), is, (none, kept))))
+      (length encode + length encoded, (Err TooLong, inr (version, take (length encoded) body, following, (magic.0, all), is, (none, kept))))

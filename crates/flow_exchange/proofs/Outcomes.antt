@@ -105,7 +105,7 @@ one_form words f g a b = some_one f g (sym (form_is words f a) ∙ form_is words
 journals_one : (version : Version) (records : List Record) (m n : Market) (x y : List ℕ) → Journals version records m x → Journals version records n y → x ≡ y
 journals_one version records m n x y a b =
     let one = one_canonical_journal IsReadAs reading_unique version records a.pairs b.pairs m n a.journal_of b.journal_of in
-    a.spelled ∙ ap (journal_in version) one.0 ∙ sym b.spelled
+    a.encoded ∙ ap (journal_in version) one.0 ∙ sym b.encoded
 
 -- one text is written for a reading
 writes_one : (reading : Reading Version Record) (x y : List ℕ) → WritesOf reading x → WritesOf reading y → x ≡ y
@@ -140,7 +140,7 @@ history_one judge Writes one limit bytes s t x y (inr a) (inr b) =
     (a.ends ∙ ap judge same ∙ sym b.ends, one b.history x y (subst (λ (h : History). Writes h x) same a.writes) b.writes)
 
 -- an explanation writes one line of a journal
-explained_once : (market : Market) (legal : List (Pair Record Outcome)) (behind : List (Record × Record)) (line x y : List ℕ) → Explains market legal behind line x → Explains market legal behind line y → x ≡ y
+explained_once : (market : Market) (legal : List (Pair Record Outcome)) (following : List (Record × Record)) (line x y : List ℕ) → Explains market legal following line x → Explains market legal following line y → x ≡ y
 explained_once market legal [] line x y a b = a ∙ sym b
 explained_once market legal (bad ∷ more) line x y a b = one_line market (length legal + 1) bad x y a b
 
@@ -180,7 +180,7 @@ pub one_end : OneEnd
 one_end Run limit bytes s t x y a b = runs_one limit bytes s t x y a b
 one_end Audit limit bytes s t x y a b = history_one (history_status limit) (λ history text. text ≡ audit_text history) (λ history x y a b. a ∙ sym b) limit bytes s t x y a b
 one_end Explain limit bytes s t x y a b =
-    history_one (history_status limit) (λ history text. Explains history.market history.legal history.behind (audit_text history) text) (λ history x y a b. explained_once history.market history.legal history.behind (audit_text history) x y a b) limit bytes s t x y a b
+    history_one (history_status limit) (λ history text. Explains history.market history.legal history.following (audit_text history) text) (λ history x y a b. explained_once history.market history.legal history.following (audit_text history) x y a b) limit bytes s t x y a b
 one_end Report limit bytes s t x y a b =
     history_one (history_status limit) (λ history text. AreReported (market_of history.start) 1 history.legal history.market text)
     (λ history x y a b. one_text (market_of history.start) 1 history.legal history.market history.market x y a b) limit bytes s t x y a b

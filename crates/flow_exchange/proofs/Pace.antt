@@ -19,7 +19,7 @@ module _ (limit : ℕ) where
   near_told None left before after kept = tt
   near_told (Some bytes) None before after kept = tt
   near_told (Some bytes) (Some left) before after (n, taken, counted, few, inl first) = (taken, counted, inl (omega (arith, few, first)))
-  near_told (Some bytes) (Some left) before after (n, taken, counted, few, inr (text, more, (version, body, behind, magic, is, (units, rest, state, passes, keeps, size)), written)) = (
+  near_told (Some bytes) (Some left) before after (n, taken, counted, few, inr (text, more, (version, body, following, magic, is, (units, rest, state, passes, keeps, size)), written)) = (
     taken,
     counted,
     inr (record {
@@ -29,7 +29,7 @@ module _ (limit : ℕ) where
       text = text;
       more = more;
       starts = record { body = body; rest = rest; magic = magic; whole = passes.whole; each = passes.each };
-      writes = journals units state behind text version (run_version (start version) state units behind passes.goes) keeps is;
+      writes = journals units state following text version (run_version (start version) state units following passes.goes) keeps is;
       stands = written;
       near = omega (arith, few, size, run_is_exact.magic version);
     }),

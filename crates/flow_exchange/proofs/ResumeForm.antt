@@ -4,7 +4,7 @@ use Rattle.std.proofs.lemmas.List.{take_at}
 use Rattle.flow_io.specs.Streams.{GrowsByPrefix}
 use Rattle.flow_io.proofs.Growth.{Grows-nothing}
 use Rattle.wire_records.specs.Records.{Record}
-use Rattle.wire_records.specs.Grammars.{spell_all}
+use Rattle.wire_records.specs.Grammars.{encode_all}
 use Rattle.wire_records.specs.Reading as reading
 use Rattle.wire_records.specs.Formats.{commands, command_magic_of}
 use Rattle.wire_records.proofs.RecordCode.{commands_readable}
@@ -27,23 +27,23 @@ use Rattle.flow_exchange.specs.declared.form.Form.TheVariants.{Resume}
 use Rattle.flow_exchange.specs.declared.status.Status.TheVariants as answer
 use Rattle.flow_exchange.specs.Statuses.{unfit_status}
 use Rattle.flow_exchange.specs.Program.{ComesToIfMore, GetsTo}
-use Rattle.flow_exchange.proofs.Words.{IsOwn, IsForm, Unwritten, nothing_is_front}
+use Rattle.flow_exchange.proofs.Words.{IsOwn, IsForm, Unwritten, nothing_is_prefix}
 use Rattle.flow_exchange.proofs.CommandFiles.{command_files_begin_no_pair}
 
 -- The bytes begin with what is resumed from, whatever follows it.
-pub record HasFront (bytes : List ℕ) (origin : Origin) (market : Market) (place : ℕ) (rest : List ℕ) : Type 0 where
-  pub front : List ℕ
-  pub whole : bytes ≡ front ++ rest
-  pub stands : (body : List ℕ) → IsFirst (front ++ (command_magic_of market.version ++ body)) (Whole origin market place (command_magic_of market.version ++ body))
+pub record HasPrefix (bytes : List ℕ) (origin : Origin) (market : Market) (place : ℕ) (rest : List ℕ) : Type 0 where
+  pub prefix : List ℕ
+  pub whole : bytes ≡ prefix ++ rest
+  pub stands : (body : List ℕ) → IsFirst (prefix ++ (command_magic_of market.version ++ body)) (Whole origin market place (command_magic_of market.version ++ body))
 
-pub front_of : (bytes : List ℕ) (origin : Origin) (market : Market) (place : ℕ) (rest : List ℕ) → IsFirst bytes (Whole origin market place rest) → HasFront bytes origin market place rest
-front_of bytes Journal market place rest is = record {
-  front = journal_in is.version is.pairs;
+pub prefix_of : (bytes : List ℕ) (origin : Origin) (market : Market) (place : ℕ) (rest : List ℕ) → IsFirst bytes (Whole origin market place rest) → HasPrefix bytes origin market place rest
+prefix_of bytes Journal market place rest is = record {
+  prefix = journal_in is.version is.pairs;
   whole = is.whole;
   stands = λ body. record { version = is.version; pairs = is.pairs; legal = is.legal; whole = refl; last = command_files_begin_no_pair market.version body; ends = is.ends };
 }
-front_of bytes Checkpoint market place rest is = record {
-  front = is.checkpoint;
+prefix_of bytes Checkpoint market place rest is = record {
+  prefix = is.checkpoint;
   whole = is.whole;
   stands = λ body. record { checkpoint = is.checkpoint; is_one = is.is_one; whole = refl; ends = is.ends };
 }
@@ -60,24 +60,24 @@ if_more first text resumes = λ next more.
 gets : (limit : ℕ) (bytes : List ℕ) (records : List Record) (left : List ℕ) (new : Market) (text : List ℕ) → ResumesFirst (take limit bytes) records left new text → GetsTo Resume limit bytes text
 gets limit bytes records left new text at =
     let magic = command_magic_of at.market.version in
-    let spelled = spell_all commands.units records in
-    let has = front_of (take limit bytes) at.origin at.market at.place at.rest at.stands in
-    let first = has.front ++ (magic ++ spelled) in
+    let encoded = encode_all commands.units records in
+    let has = prefix_of (take limit bytes) at.origin at.market at.place at.rest at.stands in
+    let first = has.prefix ++ (magic ++ encoded) in
     let whole : take limit bytes ≡ first ++ left =
-    has.whole ∙ ap (λ xs. has.front ++ xs) (at.magic ∙ ap (λ xs. magic ++ xs) at.whole ∙ sym (append_assoc magic spelled left)) ∙ sym (append_assoc has.front (magic ++ spelled) left)
+    has.whole ∙ ap (λ xs. has.prefix ++ xs) (at.magic ∙ ap (λ xs. magic ++ xs) at.whole ∙ sym (append_assoc magic encoded left)) ∙ sym (append_assoc has.prefix (magic ++ encoded) left)
     in
     let taken : take (length first) (take limit bytes) ≡ first = ap (take (length first)) whole ∙ take_at first left (length first) refl in
     let comes : (More : Type 0) → More → Resumes More first (Err TooLong) text = λ More more. record {
-      first = Whole at.origin at.market at.place (magic ++ spelled);
-      stands = has.stands spelled;
+      first = Whole at.origin at.market at.place (magic ++ encoded);
+      stands = has.stands encoded;
       comes = (
-        Commands spelled,
+        Commands encoded,
         refl,
         record {
           records = records;
           ending = reading.TooLong;
           new = new;
-          reads = record { rest = []; whole = sym (append-nil spelled); each = at.each; none = none_in_none commands.units commands_readable.units; ends = (run_is_exact.short, more) };
+          reads = record { rest = []; whole = sym (append-nil encoded); each = at.each; none = none_in_none commands.units commands_readable.units; ends = (run_is_exact.short, more) };
           ends = refl;
           writes = at.writes;
         },
@@ -97,7 +97,7 @@ no_bytes = λ next more. (
     Err NotFlow,
     record {
       first = Neither;
-      stands = (λ version rest lawful e. omega (arith, ap length e, length-append (journals.magics.spell version) rest, eight version), λ (rest, e). omega (arith, ap length e, length-append checkpoint_magic rest, eight_bytes));
+      stands = (λ version rest lawful e. omega (arith, ap length e, length-append (journals.magics.encode version) rest, eight version), λ (rest, e). omega (arith, ap length e, length-append checkpoint_magic rest, eight_bytes));
       comes = (refl, refl);
     },
     refl,
@@ -108,7 +108,7 @@ no_bytes = λ next more. (
     eight_bytes = refl
 
 cut_short : (limit : ℕ) (bytes : List ℕ) (text : List ℕ) (before after : Option (List ℕ)) → (text ≡ []) ⊎ ResumesInto (take limit bytes) text → GrowsByPrefix before after text → (other : List ℕ) × GetsTo Resume limit bytes other × GrowsByPrefix before after other
-cut_short limit bytes text before after (inl none) written = ([], inl (0, no_bytes), nothing_is_front before after text [] none written)
+cut_short limit bytes text before after (inl none) written = ([], inl (0, no_bytes), nothing_is_prefix before after text [] none written)
 cut_short limit bytes text before after (inr into) written = (text, gets limit bytes into.records into.left into.new text into.first, written)
 
 owns : (why : Unfit) → IsOwn (unfit_status why)

@@ -6,7 +6,7 @@ use Rattle.std.proofs.lemmas.List.Elements.{All-nil, All-cons, All-head, All-tai
 use Rattle.wire_records.specs.Records.{Record}
 use Rattle.wire_records.specs.Commands.{Command, Answer, Pair}
 use Rattle.wire_records.specs.Versions.{IsReadAs}
-use Rattle.wire_records.specs.Grammars.{BeginsWith, spell_all}
+use Rattle.wire_records.specs.Grammars.{BeginsWith, encode_all}
 use Rattle.wire_records.specs.Reading.{End}
 use Rattle.wire_records.specs.Reading as reading
 use Rattle.wire_records.specs.declared.version.Version.{Version}
@@ -16,7 +16,7 @@ use Rattle.flow_accounts.specs.Balances.{IsAccount}
 use Rattle.flow_orders.specs.Outcomes.{Outcome, IsAdmissibleOutcome}
 use Rattle.journal_records.specs.Pairs.{IsPair}
 use Rattle.journal_records.specs.Formats.{journals, records_of}
-use Rattle.journal_records.proofs.Spelled.{answer_unique}
+use Rattle.journal_records.proofs.Encoded.{answer_unique}
 use Rattle.market_rules.specs.Market.{Market, IsConsistent}
 use Rattle.market_rules.specs.Journal.{Follows}
 use Rattle.market_rules.proofs.LawProofs.{steps_keep_consistency}
@@ -38,7 +38,7 @@ use Rattle.word_driver.specs.Word.{Goes, Halts, ComesOn, LacksOn}
 use Rattle.journal_words.specs.Watching.{Watched}
 use Rattle.history_words.specs.declared.stop.HistoryStop.{HistoryStop}
 use Rattle.history_words.specs.declared.stop.HistoryStop.TheVariants as stop
-use Rattle.history_words.specs.Histories.{Beginning, at_first, behind, over_history_from}
+use Rattle.history_words.specs.Histories.{Beginning, at_first, following, over_history_from}
 use Rattle.statement_word.specs.declared.no_statement.NoStatement.{NoStatement}
 use Rattle.statement_word.specs.declared.no_statement.NoStatement.TheVariants as why
 use Rattle.statement_word.specs.Stating.{Stated, TellsOwn, statement, statement_begins}
@@ -98,25 +98,25 @@ module _ (account : ℕ) where
       let here = seen account start.market step.read one.legal.answer in
       let own : TellsOwn account next.market.version start.market unit goes.1 = subst (λ (s : Stated). TellsOwn s.account next.market.version s.market unit goes.1) is one.sees.1 in
       let version : next.market.version ≡ start.market.version = step_version IsAdmissibleOutcome IsReadAs start.market unit.0 one.legal.answer next.market step in
-      let read : own.read ≡ step.read = reading_unique start.market.version unit.0 own.read step.read (subst (λ (v : Version). IsReadAs v unit.0 own.read) version own.reads) step.spelled in
-      let same : own.answer ≡ one.legal.answer = answer_unique own.answer one.legal.answer own.spelled.fits one.legal.spelled.fits (sym own.spelled.spelled ∙ one.legal.spelled.spelled) in
+      let read : own.read ≡ step.read = reading_unique start.market.version unit.0 own.read step.read (subst (λ (v : Version). IsReadAs v unit.0 own.read) version own.reads) step.encoded in
+      let same : own.answer ≡ one.legal.answer = answer_unique own.answer one.legal.answer own.encoded.fits one.legal.encoded.fits (sym own.encoded.encoded ∙ one.legal.encoded.encoded) in
       record {
         legal = pair ∷ rest.legal;
-        parts = ap (λ xs. unit ∷ xs) rest.parts ∙ ap (λ (r : Record). (unit.0, r) ∷ map records_of rest.legal) one.legal.spelled.spelled;
-        each = All-cons IsPair pair rest.legal (record { asked = lawful.0; answer = one.legal.spelled.fits; answered = rw (← one.legal.spelled.spelled) lawful.1 }) rest.each;
+        parts = ap (λ xs. unit ∷ xs) rest.parts ∙ ap (λ (r : Record). (unit.0, r) ∷ map records_of rest.legal) one.legal.encoded.encoded;
+        each = All-cons IsPair pair rest.legal (record { asked = lawful.0; answer = one.legal.encoded.fits; answered = rw (← one.legal.encoded.encoded) lawful.1 }) rest.each;
         steps = (next.market, step, rest.steps);
         pairs = omega (arith, rest.pairs, one.counted);
         consistent = rest.consistent;
         last = rest.last;
         view = here ++ rest.view;
-        sees = (next.market, step.read, rest.view, step.spelled, step.served, rest.sees, refl);
+        sees = (next.market, step.read, rest.view, step.encoded, step.served, rest.sees, refl);
         lines = λ h held.
             let first : goes.1 ≡ lines_from h here =
             own.lines ∙ ap (λ (r : Result Command BodyFault). lines_from (held_in account start.market) (seen account start.market r own.answer)) read
             ∙ ap (λ (w : Answer Outcome). lines_from (held_in account start.market) (seen account start.market step.read w)) same ∙ sym (lines_are account start.market h held step.read one.legal.answer)
             in
-            let behind : goes.2 ≡ lines_from (after_all h here) rest.view = rest.lines (after_all h here) (told account start.market h consistent held step.read one.legal.answer next.market step.served) in
-            goes.5 ∙ ap (λ (xs : List ℕ). xs ++ goes.2) first ∙ ap (λ (xs : List ℕ). lines_from h here ++ xs) behind ∙ sym (lines_both here h rest.view);
+            let following : goes.2 ≡ lines_from (after_all h here) rest.view = rest.lines (after_all h here) (told account start.market h consistent held step.read one.legal.answer next.market step.served) in
+            goes.5 ∙ ap (λ (xs : List ℕ). xs ++ goes.2) first ∙ ap (λ (xs : List ℕ). lines_from h here ++ xs) following ∙ sym (lines_both here h rest.view);
       }
 
   -- ---- how it begins
@@ -193,17 +193,17 @@ module _ (account : ℕ) where
     More = limit < length bytes
 
     abbrev size : ℕ
-    size = length (starts.spell start)
+    size = length (starts.encode start)
 
     abbrev at_start : Watched Stated
     at_start = begun.starts (market_of start)
 
     -- an entry is invalid
     stopped : (number : ℕ) → (way : ComesOn statement More size body at_start (Err (word.Stopped (why.Rejected number))) rest)
-        → Halts statement More (size + length (spell_all journals.units way.units)) way.rest way.state (Err (word.Stopped (why.Rejected number))) way.last → StatesTo account limit bytes (answer.Rejected number) text
-    stopped number way (inl (bad, more, front, stops)) =
+        → Halts statement More (size + length (encode_all journals.units way.units)) way.rest way.state (Err (word.Stopped (why.Rejected number))) way.last → StatesTo account limit bytes (answer.Rejected number) text
+    stopped number way (inl (bad, more, prefix, stops)) =
         let are = from_first start begins.0 way.state way.units way.so_far way.passes.each way.passes.goes in
-        let on = judged_some limit bytes body start begins way.units way.rest way.passes.whole way.passes.each are.legal are.parts are.each way.state.market are.steps bad more front stops.0 in
+        let on = judged_some limit bytes body start begins way.units way.rest way.passes.whole way.passes.each are.legal are.parts are.each way.state.market are.steps bad more prefix stops.0 in
         makes_by (statement_status account limit) (States account) limit bytes (answer.Rejected number) text (history_of start are.legal way.state.market (bad ∷ on.0) on.1)
         on.2
         (ap (λ (k : ℕ). answer.Rejected k) (rejected_as number (way.state.pairs + 1) stops.1.0 ∙ omega (arith, are.pairs)))
@@ -216,8 +216,8 @@ module _ (account : ℕ) where
 
     -- the history is valid, and there is no such account
     absent : (number : ℕ) → (way : ComesOn statement More size body at_start (Err (word.Stopped (why.NoAccount number))) rest)
-        → Halts statement More (size + length (spell_all journals.units way.units)) way.rest way.state (Err (word.Stopped (why.NoAccount number))) way.last → StatesTo account limit bytes (answer.NoAccount number) text
-    absent number way (inl (bad, more, front, stops)) = absurd (not_named number (way.state.pairs + 1) stops.1.0)
+        → Halts statement More (size + length (encode_all journals.units way.units)) way.rest way.state (Err (word.Stopped (why.NoAccount number))) way.last → StatesTo account limit bytes (answer.NoAccount number) text
+    absent number way (inl (bad, more, prefix, stops)) = absurd (not_named number (way.state.pairs + 1) stops.1.0)
     absent number way (inr at) =
         let are = from_first start begins.0 way.state way.units way.so_far way.passes.each way.passes.goes in
         let named : way.state.seen.account ≡ account = ap (λ (s : Stated). s.account) are.last in
@@ -234,7 +234,7 @@ module _ (account : ℕ) where
               ∙ text_absent way.state.market (statement_from account (market_of start) are.view) none;
         })
 
-    statement_on : (inner : Ended NoStatement) → ComesOn statement More size body at_start inner rest → StatesTo account limit bytes (ended_status limit no_statement (behind inner)) text
+    statement_on : (inner : Ended NoStatement) → ComesOn statement More size body at_start inner rest → StatesTo account limit bytes (ended_status limit no_statement (following inner)) text
     statement_on (Ok done) way =
         let are = from_first start begins.0 way.state way.units way.so_far way.passes.each way.passes.goes in
         let ends = ends_as_told start begins.0 way.state way.units way.so_far way.last are way.halts.1.0 way.halts.1.1 in
@@ -288,8 +288,8 @@ module _ (account : ℕ) where
         let are = from_first start begins.0 way.state way.units rest way.passes.each way.passes.goes in
         let so = are_seen way.state way.units are in
         elim way.allocates [
-          | inl (next, more, front, allocates) ↦
-              let at = at_pair limit bytes body start begins way.units way.rest way.passes.whole way.passes.each are.legal are.parts are.each way.state.market are.steps next more front in
+          | inl (next, more, prefix, allocates) ↦
+              let at = at_pair limit bytes body start begins way.units way.rest way.passes.whole way.passes.each are.legal are.parts are.each way.state.market are.steps next more prefix in
               elim allocates [
                 | inl want ↦ inr (inl (start, are.legal, way.state.market, next, at, inl want, so))
                 | inr other ↦ elim other [ inl legal ↦ inr (inl (start, are.legal, way.state.market, next, at, inr (legal.0, legal.1), so)) | inr not_legal ↦ absurd not_legal.1 ]

@@ -64,8 +64,8 @@ abbrev pub Unwritten : Option (List ℕ) → Option (List ℕ) → Type 0
 Unwritten before after = after ≡ before
 
 -- an empty text is a prefix of any text
-pub nothing_is_front : (before after : Option (List ℕ)) (text other : List ℕ) → text ≡ [] → GrowsByPrefix before after text → GrowsByPrefix before after other
-nothing_is_front before after text other none written =
+pub nothing_is_prefix : (before after : Option (List ℕ)) (text other : List ℕ) → text ≡ [] → GrowsByPrefix before after text → GrowsByPrefix before after other
+nothing_is_prefix before after text other none written =
     (0, omega arith, subst (λ (x : List ℕ). Grows before after x) (ap (take written.0) none ∙ take_nothing written.0) written.2)
   where
     take_nothing : (n : ℕ) → take {A = ℕ} n [] ≡ []

@@ -18,7 +18,7 @@ legal_line legal = counted_line (length legal) (cleared_in legal) (skipped_in le
 
 -- what an audit writes: the line if all was done, and else nothing
 abbrev pub audit_text : History → List ℕ
-audit_text history = if_whole history.behind history.ending (legal_line history.legal) []
+audit_text history = if_whole history.following history.ending (legal_line history.legal) []
 
 -- an audit of the first `limit` bytes results in this status and this text
 abbrev pub AuditsTo : ℕ → List ℕ → Status → List ℕ → Type 0

@@ -9,7 +9,7 @@ use Rattle.flow_exchange.specs.Auditing.{AuditsShort}
 
 -- what is written: the checkpoint of the market at the end if all was done, and else nothing
 abbrev pub checkpoint_text : History → List ℕ
-checkpoint_text history = if_whole history.behind history.ending (checkpoint_bytes history.market) []
+checkpoint_text history = if_whole history.following history.ending (checkpoint_bytes history.market) []
 
 -- the first `limit` bytes result in this status and this text
 abbrev pub CheckpointsTo : ℕ → List ℕ → Status → List ℕ → Type 0

@@ -16,4 +16,4 @@ Explains market legal (bad ∷ more) line text = IsExplained market (length lega
 
 -- the first `limit` bytes result in this status and this text
 abbrev pub ExplainsTo : ℕ → List ℕ → Status → List ℕ → Type 0
-ExplainsTo limit = HistoryTo (λ history text. Explains history.market history.legal history.behind (audit_text history) text) limit
+ExplainsTo limit = HistoryTo (λ history text. Explains history.market history.legal history.following (audit_text history) text) limit

@@ -17,12 +17,12 @@ use Rattle.flow_exchange.specs.declared.status.Status.TheVariants.{NotFlow, BadC
 use Rattle.flow_exchange.specs.JournalFiles.{audit_status}
 
 -- A history as it was read: its beginning, its valid entries, the market that they lead to from the one that it begins in, the entries from
--- the first invalid one on (`behind`), and how the reading ended.
+-- the first invalid one on (`following`), and how the reading ended.
 pub record History : Type 0 where
   pub start : Start
   pub legal : List (Pair Record Outcome)
   pub market : Market
-  pub behind : List (Record × Record)
+  pub following : List (Record × Record)
   pub ending : Ending
 
 -- entries that fit their widths are valid, one after the other, from the market that a history begins in to this one
@@ -34,13 +34,13 @@ pub record AreLegalFrom (start : Start) (legal : List (Pair Record Outcome)) (ma
 pub record IsHistory (limit : ℕ) (bytes : List ℕ) (history : History) : Type 0 where
   pub units : List (Record × Record)
   pub reads : Reads histories limit bytes (File history.start units history.ending)
-  pub parts : units ≡ map records_of history.legal ++ history.behind
+  pub parts : units ≡ map records_of history.legal ++ history.following
   pub legal : AreLegalFrom history.start history.legal history.market
-  pub stops : StopsAt history.market history.behind
+  pub stops : StopsAt history.market history.following
 
 -- the status of a history, which is found as that of a journal
 abbrev pub history_status : ℕ → History → Status
-history_status limit history = audit_status limit history.ending history.legal history.behind
+history_status limit history = audit_status limit history.ending history.legal history.following
 
 -- the status of bytes that begin no history: a bad checkpoint has a status of its own
 abbrev pub IsNoHistory : List ℕ → Status → Type 0

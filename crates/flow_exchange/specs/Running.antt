@@ -3,13 +3,13 @@ use Rattle.std.specs.Prelude.{◌≡◌, ◌⊎◌, ◌+◌, ◌≤◌, ◌++◌
 use Rattle.std.specs.List.{flat_map}
 use Rattle.flow_io.specs.Changes.{Change}
 use Rattle.flow_io.specs.Streams.{Grows, HandsOver}
-use Rattle.wire_records.specs.Records.{Record, spelling}
+use Rattle.wire_records.specs.Records.{Record, encoding}
 use Rattle.wire_records.specs.Commands.{Pair}
 use Rattle.wire_records.specs.Reading.{Reading, NotFlow, File, Reads, StartsWith}
 use Rattle.wire_records.specs.declared.version.Version.{Version}
 use Rattle.wire_records.specs.Formats.{commands}
 use Rattle.flow_orders.specs.Outcomes.{Outcome}
-use Rattle.journal_records.specs.Pairs.{pair_spelling}
+use Rattle.journal_records.specs.Pairs.{pair_encoding}
 use Rattle.journal_records.specs.Formats.{journal_magic_of}
 use Rattle.market_rules.specs.Market.{Market}
 use Rattle.market_rules.specs.Allocating.{RecordMayAllocate}
@@ -54,7 +54,7 @@ pub record IsNearPairs (limit : ℕ) (before after : Option (List ℕ)) (bytes :
   pub starts : StartsWith commands limit bytes version records
   pub writes : Journals version records market text
   pub stands : Grows before after (text ++ more)
-  pub near : taken ≤ 8 + length (flat_map spelling records) + 1030
+  pub near : taken ≤ 8 + length (flat_map encoding records) + 1030
 
 -- How far a run has read that was cut short, by a failed write or because memory ran out: at most 1,030 bytes past the last record whose
 -- entry was written, or past the first eight bytes.
@@ -64,7 +64,7 @@ KeepsPace limit status source out = (status ≡ WriteFault) ⊎ (status ≡ NoMe
 
 -- no piece, or the magic of a journal as one piece, and after it each entry as one
 abbrev pub AreMagicAndPairs : List (List ℕ) → Type 0
-AreMagicAndPairs pieces = (pieces ≡ []) ⊎ ((version : Version) × (pairs : List (Pair Record Outcome)) × (pieces ≡ journal_magic_of version ∷ map pair_spelling pairs))
+AreMagicAndPairs pieces = (pieces ≡ []) ⊎ ((version : Version) × (pairs : List (Pair Record Outcome)) × (pieces ≡ journal_magic_of version ∷ map pair_encoding pairs))
 
 -- What a run hands to the output, by whatever status: the magic by one call, each entry by one call, and nothing besides. If no write
 -- failed, these whole pieces were appended; of the last one a write may have failed.

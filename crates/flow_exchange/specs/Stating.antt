@@ -24,14 +24,14 @@ pub record AskStatement (words : List (List ℕ)) (number : ℕ) : Type 0 where
 -- the status: that of the history, unless all was done and the market at its end has no account of the number
 abbrev pub statement_status : ℕ → ℕ → History → Status
 statement_status account limit history =
-    if_whole history.behind history.ending (if is_there history.market account then Done else NoAccount account) (history_status limit history)
+    if_whole history.following history.ending (if is_there history.market account then Done else NoAccount account) (history_status limit history)
 
 -- what is written, by what the account sees of the valid entries. If all was done: the whole statement that begins in the history's first
 -- market, or nothing if there is no such account at its end. Else: the lines that are carried forward and those of the view, without the
 -- last lines.
 abbrev pub statement_text : ℕ → History → List Event → List ℕ
 statement_text account history view =
-    if_whole history.behind history.ending (if is_there history.market account then statement_from account (market_of history.start) view else [])
+    if_whole history.following history.ending (if is_there history.market account then statement_from account (market_of history.start) view else [])
     (text_from account (market_of history.start) view)
 
 -- The text is what is written of what the account sees of the valid entries.
@@ -53,7 +53,7 @@ pub record AreSeen (account : ℕ) (start : Start) (legal : List (Pair Record Ou
 
 -- all entries of the history are these valid ones, and the account is there at its end
 pub record IsAtEnd (account limit : ℕ) (bytes : List ℕ) (start : Start) (legal : List (Pair Record Outcome)) (market : Market) : Type 0 where
-  pub is : IsHistory limit bytes (record { start = start; legal = legal; market = market; behind = []; ending = End })
+  pub is : IsHistory limit bytes (record { start = start; legal = legal; market = market; following = []; ending = End })
   pub there : IsAccount market.balances account
 
 -- where memory may run out: at a checkpoint, for its market, a copy of what the account has there or the lines that are carried forward; at

@@ -42,7 +42,7 @@ fn orders_of(word: &str) -> Option<u32>
 }
 
 // Returns the second and the third of three arguments, if the first is this one.
-fn behind<'a>(words: &'a [String], first: &str) -> Option<(&'a str, &'a str)>
+fn following<'a>(words: &'a [String], first: &str) -> Option<(&'a str, &'a str)>
     ensures three { IfSome result (λ rest. map string_bytes words.now ≡ first.now ∷ rest.0.now ∷ rest.1.now ∷ []) }
     ensures none { IfNone result (¬ AreThree (map string_bytes words.now) first.now) }
 {
@@ -60,7 +60,7 @@ pub(crate) fn sample_of(words: &[String]) -> Option<(u64, u32)>
     ensures asked { IfSome result (λ sample. AskSample (map string_bytes words.now) sample.0 sample.1) }
     ensures none { IfNone result ((number orders : ℕ) → ¬ AskSample (map string_bytes words.now) number orders) }
 {
-    let (number, orders) = behind(words, "sample")?;
+    let (number, orders) = following(words, "sample")?;
     let number = number_of(number)?;
     let orders = orders_of(orders)?;
     Some((number, orders))

@@ -6,7 +6,7 @@ ghost use Rattle.flow_exchange.specs.Private.{AreTwo};
 use crate::sample_form::number_of;
 
 // Returns the second of two arguments, if the first is this one.
-fn behind<'a>(words: &'a [String], first: &str) -> Option<&'a str>
+fn following<'a>(words: &'a [String], first: &str) -> Option<&'a str>
     ensures two { IfSome result (λ second. map string_bytes words.now ≡ first.now ∷ second.now ∷ []) }
     ensures none { IfNone result (¬ AreTwo (map string_bytes words.now) first.now) }
 {
@@ -24,7 +24,7 @@ pub(crate) fn statement_of(words: &[String]) -> Option<u64>
     ensures asked { IfSome result (λ number. AskStatement (map string_bytes words.now) number) }
     ensures none { IfNone result ((number : ℕ) → ¬ AskStatement (map string_bytes words.now) number) }
 {
-    let number = behind(words, "statement")?;
+    let number = following(words, "statement")?;
     let number = number_of(number)?;
     Some(number)
 }

@@ -31,12 +31,12 @@ GrowsByPrefix-more first second third bytes more a b = (
 )
 
 -- a prefix of the bytes is a prefix of them and more
-pub GrowsByPrefix-front : (first second : Option (List ℕ)) (bytes more : List ℕ) → GrowsByPrefix first second bytes → GrowsByPrefix first second (bytes ++ more)
-GrowsByPrefix-front first second bytes more a = (a.0, omega (arith, length-append bytes more, a.1), let within : a.0 ≤ length bytes = a.1 in rw take-append-le a.2)
+pub GrowsByPrefix-prefix : (first second : Option (List ℕ)) (bytes more : List ℕ) → GrowsByPrefix first second bytes → GrowsByPrefix first second (bytes ++ more)
+GrowsByPrefix-prefix first second bytes more a = (a.0, omega (arith, length-append bytes more, a.1), let within : a.0 ≤ length bytes = a.1 in rw take-append-le a.2)
 
 -- of three pieces the first was written and the second cut
 pub number_cut : (first second third : Option (List ℕ)) (a b c : List ℕ) → Grows first second a → GrowsByPrefix second third b → GrowsByPrefix first third (a ++ b ++ c)
-number_cut first second third a b c written cut = GrowsByPrefix-front first third (a ++ b) c (GrowsByPrefix-more first second third a b written cut)
+number_cut first second third a b c written cut = GrowsByPrefix-prefix first third (a ++ b) c (GrowsByPrefix-more first second third a b written cut)
 
 -- of three pieces two were written, and the third was cut
 pub end_cut : {T E : Type 0} (result : Result T E) (first second third fourth : Option (List ℕ)) (a b c : List ℕ) → Grows first second a → Grows second third b → OnErr result (GrowsByPrefix third fourth c) → OnErr result (GrowsByPrefix first fourth (a ++ b ++ c))

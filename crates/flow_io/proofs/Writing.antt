@@ -19,15 +19,15 @@ HasWritten-more first second third bytes rest count h more = record {
 }
 
 -- what was written so far is a prefix
-HasWritten-front : (before after : Option (List ℕ)) (bytes rest : List ℕ) → HasWritten before after bytes rest → AppendsPrefix before after bytes
-HasWritten-front before after bytes rest h =
+HasWritten-prefix : (before after : Option (List ℕ)) (bytes rest : List ℕ) → HasWritten before after bytes rest → AppendsPrefix before after bytes
+HasWritten-prefix before after bytes rest h =
     let short : length h.done ≤ length bytes = omega (arith, length-append h.done rest, ap length h.split) in
-    let front : take (length h.done) bytes ≡ h.done = rw h.split (take_at h.done rest (length h.done) refl) in
-    (length h.done, short, rw front h.appended)
+    let prefix : take (length h.done) bytes ≡ h.done = rw h.split (take_at h.done rest (length h.done) refl) in
+    (length h.done, short, rw prefix h.appended)
 
 -- what was written after a last write, whatever it returns, is a prefix
 pub HasWritten-last : {E : Type 0} (first second third : Option (List ℕ)) (bytes rest : List ℕ) (result : Result ℕ E) → HasWritten first second bytes rest → WriteAppends second third result rest → AppendsPrefix first third bytes
 HasWritten-last first second third bytes rest (Ok count) h more =
-    HasWritten-front first third bytes _ (HasWritten-more first second third bytes rest count h more)
+    HasWritten-prefix first third bytes _ (HasWritten-more first second third bytes rest count h more)
 HasWritten-last first second third bytes rest (Err _) h kept =
-    HasWritten-front first third bytes rest (record { done = h.done; split = h.split; appended = Appends-kept first second third h.done h.appended kept })
+    HasWritten-prefix first third bytes rest (record { done = h.done; split = h.split; appended = Appends-kept first second third h.done h.appended kept })

@@ -65,7 +65,7 @@ impl Block {
     // Moves the held bytes to the beginning of the block.
     fn move_to_front(&mut self)
         ensures items { items self.new ≡ items self.old }
-        ensures front { self.new.end ≡ length (items self.old) }
+        ensures prefix { self.new.end ≡ length (items self.old) }
         ensures room { vec_len self.new.bytes ≡ vec_len self.old.bytes }
     {
         let (start, end) = (self.start, self.end);

@@ -108,7 +108,7 @@ impl<W: Write> Sink for StdSink<W> {
         // The bytes arrived at the writer once, in their order: all of them, or a prefix after an error.
         ensures whole { OnOk result
             (Appends (W.contents self.old.inner) (W.contents self.new.inner) bytes.now) }
-        ensures front { OnErr result
+        ensures prefix { OnErr result
             (AppendsPrefix (W.contents self.old.inner) (W.contents self.new.inner) bytes.now) }
     {
         let result = write_whole(&mut self.inner, bytes);
@@ -123,7 +123,7 @@ impl<W: Write> Sink for StdSink<W> {
 fn write_whole<W: Write>(writer: &mut W, bytes: &[u8]) -> Result<(), WriteFailed>
     ensures whole { OnOk result
         (Appends (W.contents writer.old) (W.contents writer.new) bytes.now) }
-    ensures front { OnErr result
+    ensures prefix { OnErr result
         (AppendsPrefix (W.contents writer.old) (W.contents writer.new) bytes.now) }
 {
     let mut rest = bytes;

@@ -50,7 +50,7 @@ fn read_up_to<S: Source>(
     ensures full { IfOk result (λ found. found.1 ≡ false → vec_len found.0 ≡ limit) }
     ensures cause { Blames (result ≡ Err ReadAllFault.Read)
         (S.faults source.old) (S.faults source.new) }
-    ensures front { (bytes : List ℕ) × (length bytes ≤ limit) × Takes (S.rest source.old) (S.rest source.new) bytes }
+    ensures prefix { (bytes : List ℕ) × (length bytes ≤ limit) × Takes (S.rest source.old) (S.rest source.new) bytes }
 {
     let mut bytes = Vec::new(alloc);
     let mut window = [0u8; WINDOW];
@@ -77,7 +77,7 @@ fn has_more<S: Source>(source: &mut S) -> Result<bool, ReadAllFault>
     ensures stays { OnErr result (S.rest source.new ≡ S.rest source.old) }
     ensures cause { Blames (result ≡ Err ReadAllFault.Read)
         (S.faults source.old) (S.faults source.new) }
-    ensures front { (bytes : List ℕ) × (length bytes ≤ 1) × Takes (S.rest source.old) (S.rest source.new) bytes }
+    ensures prefix { (bytes : List ℕ) × (length bytes ≤ 1) × Takes (S.rest source.old) (S.rest source.new) bytes }
 {
     let mut window = [0u8; 1];
     let count = source.read(&mut window).map_err(|_| ReadAllFault::Read)?;
@@ -102,7 +102,7 @@ pub fn read_all<S: Source>(
         (IfSome (S.rest source.old) (λ left. S.rest source.new ≡ Some (drop (limit + 1) left))) }
     ensures cause { Blames (result ≡ Err ReadAllFault.Read)
         (S.faults source.old) (S.faults source.new) }
-    ensures front { (bytes : List ℕ) × Takes (S.rest source.old) (S.rest source.new) bytes }
+    ensures prefix { (bytes : List ℕ) × Takes (S.rest source.old) (S.rest source.new) bytes }
     ensures most { TakesAtMost (S.rest source.old) (S.rest source.new) (limit + 1) }
 {
     let (bytes, ended) = read_up_to(alloc, source, limit)?;

@@ -9,16 +9,16 @@ use Rattle.std.proofs.lemmas.List.Elements.{All-head, All-tail, All-map}
 use Rattle.wire_records.specs.Records.{Record}
 use Rattle.wire_records.specs.Commands.{Pair}
 use Rattle.wire_records.specs.Reading.{Ending, End, Torn, TooLong}
-use Rattle.wire_records.specs.Grammars.{spell_all}
+use Rattle.wire_records.specs.Grammars.{encode_all}
 use Rattle.wire_records.specs.declared.version.Version.{Version}
 use Rattle.wire_records.proofs.ReadingLaws.{none_in_none}
 use Rattle.flow_orders.specs.Outcomes.{Outcome}
-use Rattle.journal_records.specs.Pairs.{IsPair, pair_spelling}
+use Rattle.journal_records.specs.Pairs.{IsPair, pair_encoding}
 use Rattle.journal_records.specs.Formats.{journal_magic_of, journals, records_of}
 use Rattle.journal_records.proofs.Files.{journals_readable, short_at_end}
 use Rattle.market_rules.specs.Market.{Market}
 use Rattle.market_snapshot.specs.Checkpoints.{HasCheckpointMagic}
-use Rattle.market_history.specs.Histories.{Start, Empty, Kept, spell_start}
+use Rattle.market_history.specs.Histories.{Start, Empty, Kept, encode_start}
 use Rattle.market_history.proofs.Starting.{kept_magic}
 use Rattle.history_words.proofs.Starts.{other_magics}
 use Rattle.session_resume.specs.Firsts.{BeginsIllegal}
@@ -29,23 +29,23 @@ use Rattle.flow_exchange.specs.HistoryFiles.{History, AreLegalFrom, IsHistory, I
 use Rattle.flow_exchange.specs.Auditing.{legal_line, audit_text}
 use Rattle.flow_exchange.specs.Explaining.{Explains}
 use Rattle.flow_exchange.proofs.HistoryOf.{history_of, makes_of, judged_all, judged_some}
-use Rattle.flow_laws.specs.Laws.{SpellsHistory, SpellsLegal, DoneIsForHistories, DoneForLegalJournals, HasFirstIllegal, RejectedIsFirstIllegal, FirstIllegalOfJournals}
+use Rattle.flow_laws.specs.Laws.{EncodesHistory, EncodesLegal, DoneIsForHistories, DoneForLegalJournals, HasFirstIllegal, RejectedIsFirstIllegal, FirstIllegalOfJournals}
 
 -- ---- what a status tells
 
 -- a status that is Done leaves no entry, and comes of the end
-pub done_all : (limit : ℕ) (ending : Ending) (legal : List (Pair Record Outcome)) (behind : List (Record × Record)) → answer.Done ≡ audit_status limit ending legal behind → (behind ≡ []) × (ending ≡ End)
+pub done_all : (limit : ℕ) (ending : Ending) (legal : List (Pair Record Outcome)) (following : List (Record × Record)) → answer.Done ≡ audit_status limit ending legal following → (following ≡ []) × (ending ≡ End)
 done_all limit End legal [] e = (refl, refl)
 done_all limit (Torn n) legal [] e = absurd cc
 done_all limit TooLong legal [] e = absurd cc
 done_all limit ending legal (bad ∷ more) e = absurd cc
 
 -- `if_whole` is its first value then
-pub all_made : {A : Type 0} (behind : List (Record × Record)) (ending : Ending) (whole broken : A) → (behind ≡ []) × (ending ≡ End) → if_whole behind ending whole broken ≡ whole
-all_made behind ending whole broken all = rw (all.0, all.1) refl
+pub all_made : {A : Type 0} (following : List (Record × Record)) (ending : Ending) (whole broken : A) → (following ≡ []) × (ending ≡ End) → if_whole following ending whole broken ≡ whole
+all_made following ending whole broken all = rw (all.0, all.1) refl
 
 -- `if_whole` is its second value if an entry is rejected
-none_made : {A : Type 0} (limit number : ℕ) (ending : Ending) (legal : List (Pair Record Outcome)) (behind : List (Record × Record)) (whole broken : A) → answer.Rejected number ≡ audit_status limit ending legal behind → if_whole behind ending whole broken ≡ broken
+none_made : {A : Type 0} (limit number : ℕ) (ending : Ending) (legal : List (Pair Record Outcome)) (following : List (Record × Record)) (whole broken : A) → answer.Rejected number ≡ audit_status limit ending legal following → if_whole following ending whole broken ≡ broken
 none_made limit number End legal [] whole broken e = absurd cc
 none_made limit number (Torn n) legal [] whole broken e = refl
 none_made limit number TooLong legal [] whole broken e = refl
@@ -62,11 +62,11 @@ no_history_rejected bytes number (inr unsound) = let no = unsound.1 in cc
 
 -- ---- histories whose entries are all valid
 
--- entries are spelled as their records are
-pub spelled_alike : (pairs : List (Pair Record Outcome)) → flat_map pair_spelling pairs ≡ spell_all journals.units (map records_of pairs)
-unfolding pair_spelling
-spelled_alike [] = refl
-spelled_alike (pair ∷ pairs) = ap (λ xs. pair_spelling pair ++ xs) (spelled_alike pairs)
+-- entries are encoded as their records are
+pub encoded_alike : (pairs : List (Pair Record Outcome)) → flat_map pair_encoding pairs ≡ encode_all journals.units (map records_of pairs)
+unfolding pair_encoding
+encoded_alike [] = refl
+encoded_alike (pair ∷ pairs) = ap (λ xs. pair_encoding pair ++ xs) (encoded_alike pairs)
 
 -- their records are as records of entries are
 pub lawful_pairs : (pairs : List (Pair Record Outcome)) → All IsPair pairs → All journals.units.IsLawful (map records_of pairs)
@@ -77,7 +77,7 @@ short : (limit : ℕ) (bytes : List ℕ) → (limit < length bytes → ⊥) → 
 short limit bytes none = elim (cases_lt limit (length bytes)) [ inl more ↦ absurd (none more) | inr not ↦ not ]
 
 -- a history that is read to its end
-pub to_end : (limit : ℕ) (bytes : List ℕ) (h : History) → (h.behind ≡ []) × (h.ending ≡ End) → IsHistory limit bytes h → SpellsHistory limit bytes h.start h.legal h.market
+pub to_end : (limit : ℕ) (bytes : List ℕ) (h : History) → (h.following ≡ []) × (h.ending ≡ End) → IsHistory limit bytes h → EncodesHistory limit bytes h.start h.legal h.market
 to_end limit bytes h all is =
     let on = is.reads.2 in
     let ends = rw all.1 at on.ends in
@@ -86,17 +86,17 @@ to_end limit bytes h all is =
     record {
       begins = is.reads.1.0;
       legal = is.legal;
-      spelled = sym (take_all limit bytes within) ∙ is.reads.1.1
-          ∙ ap (λ xs. spell_start h.start ++ xs) (on.whole ∙ ap (λ xs. spell_all journals.units is.units ++ xs) ends.2 ∙ append-nil (spell_all journals.units is.units) ∙ ap (spell_all journals.units) same ∙ sym (spelled_alike h.legal));
+      encoded = sym (take_all limit bytes within) ∙ is.reads.1.1
+          ∙ ap (λ xs. encode_start h.start ++ xs) (on.whole ∙ ap (λ xs. encode_all journals.units is.units ++ xs) ends.2 ∙ append-nil (encode_all journals.units is.units) ∙ ap (encode_all journals.units) same ∙ sym (encoded_alike h.legal));
       within = within;
     }
 
-pub from_end : (limit : ℕ) (bytes : List ℕ) (start : Start) (pairs : List (Pair Record Outcome)) (market : Market) → SpellsHistory limit bytes start pairs market → IsHistory limit bytes (history_of start pairs market [] End)
+pub from_end : (limit : ℕ) (bytes : List ℕ) (start : Start) (pairs : List (Pair Record Outcome)) (market : Market) → EncodesHistory limit bytes start pairs market → IsHistory limit bytes (history_of start pairs market [] End)
 from_end limit bytes start pairs market so =
     let units = map records_of pairs in
-    judged_all limit bytes (spell_all journals.units units) start
-    (so.begins, take_all limit bytes so.within ∙ so.spelled ∙ ap (λ xs. spell_start start ++ xs) (spelled_alike pairs))
-    units [] (sym (append-nil (spell_all journals.units units))) (lawful_pairs pairs so.legal.each) pairs refl so.legal.each market so.legal.steps
+    judged_all limit bytes (encode_all journals.units units) start
+    (so.begins, take_all limit bytes so.within ∙ so.encoded ∙ ap (λ xs. encode_start start ++ xs) (encoded_alike pairs))
+    units [] (sym (append-nil (encode_all journals.units units))) (lawful_pairs pairs so.legal.each) pairs refl so.legal.each market so.legal.steps
     End (none_in_none journals.units journals_readable.units) (short_at_end, λ more. omega (arith, more, so.within), refl)
 
 abbrev pub audited : History → List ℕ → Type 0
@@ -109,8 +109,8 @@ done_is_for_histories limit bytes text = (
         | inl none ↦ absurd (no_history_done (take limit bytes) none.0)
         | inr file ↦
             let h = file.history in
-            let all = done_all limit h.ending h.legal h.behind file.ends in
-            (h.start, h.legal, h.market, to_end limit bytes h all file.is, file.writes ∙ all_made h.behind h.ending (legal_line h.legal) [] all)
+            let all = done_all limit h.ending h.legal h.following file.ends in
+            (h.start, h.legal, h.market, to_end limit bytes h all file.is, file.writes ∙ all_made h.following h.ending (legal_line h.legal) [] all)
       ],
   λ (start, pairs, market, so, is). makes_of audited limit bytes answer.Done text (history_of start pairs market [] End) (from_end limit bytes start pairs market so) refl is,
 )
@@ -118,14 +118,14 @@ done_is_for_histories limit bytes text = (
 -- ---- journals among them
 
 -- a valid journal is a history that begins with the empty market
-pub journal_history : (limit : ℕ) (bytes : List ℕ) (version : Version) (pairs : List (Pair Record Outcome)) (market : Market) → SpellsLegal limit bytes version pairs market → SpellsHistory limit bytes (Empty version) pairs market
-journal_history limit bytes version pairs market so = record { begins = tt; legal = record { each = so.journal.each; steps = so.journal.steps }; spelled = so.spelled; within = so.within }
+pub journal_history : (limit : ℕ) (bytes : List ℕ) (version : Version) (pairs : List (Pair Record Outcome)) (market : Market) → EncodesLegal limit bytes version pairs market → EncodesHistory limit bytes (Empty version) pairs market
+journal_history limit bytes version pairs market so = record { begins = tt; legal = record { each = so.journal.each; steps = so.journal.steps }; encoded = so.encoded; within = so.within }
 
 -- and a history that doesn't begin as a checkpoint is one
-pub history_journal : (limit : ℕ) (bytes : List ℕ) (start : Start) (pairs : List (Pair Record Outcome)) (market : Market) → SpellsHistory limit bytes start pairs market → (HasCheckpointMagic bytes → ⊥)
-    → (version : Version) × SpellsLegal limit bytes version pairs market
-history_journal limit bytes (Empty version) pairs market so not = (version, record { journal = record { each = so.legal.each; steps = so.legal.steps }; spelled = so.spelled; within = so.within })
-history_journal limit bytes (Kept kept) pairs market so not = absurd (not (kept_magic kept bytes (flat_map pair_spelling pairs) so.spelled))
+pub history_journal : (limit : ℕ) (bytes : List ℕ) (start : Start) (pairs : List (Pair Record Outcome)) (market : Market) → EncodesHistory limit bytes start pairs market → (HasCheckpointMagic bytes → ⊥)
+    → (version : Version) × EncodesLegal limit bytes version pairs market
+history_journal limit bytes (Empty version) pairs market so not = (version, record { journal = record { each = so.legal.each; steps = so.legal.steps }; encoded = so.encoded; within = so.within })
+history_journal limit bytes (Kept kept) pairs market so not = absurd (not (kept_magic kept bytes (flat_map pair_encoding pairs) so.encoded))
 
 pub done_for_legal : DoneForLegalJournals
 done_for_legal = record {
@@ -149,38 +149,38 @@ first_illegal : (limit number : ℕ) (bytes : List ℕ) (start : Start) (legal :
 first_illegal limit number bytes start legal market bad more ending is counted =
     let on = is.reads.2 in
     let first = map records_of legal in
-    let spell = journals.units.spell in
-    let opened : spell_all journals.units is.units ≡ flat_map pair_spelling legal ++ (spell bad ++ spell_all journals.units more) =
-    ap (spell_all journals.units) is.parts ∙ flat_map-append spell first (bad ∷ more) ∙ ap (λ xs. xs ++ (spell bad ++ spell_all journals.units more)) (sym (spelled_alike legal))
+    let encode = journals.units.encode in
+    let opened : encode_all journals.units is.units ≡ flat_map pair_encoding legal ++ (encode bad ++ encode_all journals.units more) =
+    ap (encode_all journals.units) is.parts ∙ flat_map-append encode first (bad ∷ more) ∙ ap (λ xs. xs ++ (encode bad ++ encode_all journals.units more)) (sym (encoded_alike legal))
     in
     record {
       start = start;
       pairs = legal;
       market = market;
       bad = bad;
-      rest = spell_all journals.units more ++ on.rest;
+      rest = encode_all journals.units more ++ on.rest;
       begins = is.reads.1.0;
       legal = is.legal;
       whole = is.reads.1.1
-          ∙ ap (λ xs. spell_start start ++ xs) (on.whole ∙ ap (λ xs. xs ++ on.rest) opened
-          ∙ append_assoc (flat_map pair_spelling legal) (spell bad ++ spell_all journals.units more) on.rest
-          ∙ ap (λ xs. flat_map pair_spelling legal ++ xs) (append_assoc (spell bad) (spell_all journals.units more) on.rest));
+          ∙ ap (λ xs. encode_start start ++ xs) (on.whole ∙ ap (λ xs. xs ++ on.rest) opened
+          ∙ append_assoc (flat_map pair_encoding legal) (encode bad ++ encode_all journals.units more) on.rest
+          ∙ ap (λ xs. flat_map pair_encoding legal ++ xs) (append_assoc (encode bad) (encode_all journals.units more) on.rest));
       lawful = lawful_at first bad more (rw is.parts at on.each);
       illegal = is.stops;
       counted = counted;
     }
 
 -- a number is that of the first entry after the valid ones
-rejected_file : (limit number : ℕ) (bytes : List ℕ) (start : Start) (legal : List (Pair Record Outcome)) (market : Market) (behind : List (Record × Record)) (ending : Ending) → IsHistory limit bytes (history_of start legal market behind ending)
-    → answer.Rejected number ≡ audit_status limit ending legal behind → HasFirstIllegal limit bytes number
+rejected_file : (limit number : ℕ) (bytes : List ℕ) (start : Start) (legal : List (Pair Record Outcome)) (market : Market) (following : List (Record × Record)) (ending : Ending) → IsHistory limit bytes (history_of start legal market following ending)
+    → answer.Rejected number ≡ audit_status limit ending legal following → HasFirstIllegal limit bytes number
 rejected_file limit number bytes start legal market [] End is e = absurd cc
 rejected_file limit number bytes start legal market [] (Torn n) is e = absurd cc
 rejected_file limit number bytes start legal market [] TooLong is e = absurd cc
 rejected_file limit number bytes start legal market (bad ∷ more) ending is e = first_illegal limit number bytes start legal market bad more ending is cc
 
 -- and the line on it is written
-pub explained_file : (limit number : ℕ) (bytes : List ℕ) (start : Start) (legal : List (Pair Record Outcome)) (market : Market) (behind : List (Record × Record)) (ending : Ending) (line text : List ℕ) → IsHistory limit bytes (history_of start legal market behind ending)
-    → answer.Rejected number ≡ audit_status limit ending legal behind → Explains market legal behind line text → (first : HasFirstIllegal limit bytes number) × IsExplained first.market number first.bad text
+pub explained_file : (limit number : ℕ) (bytes : List ℕ) (start : Start) (legal : List (Pair Record Outcome)) (market : Market) (following : List (Record × Record)) (ending : Ending) (line text : List ℕ) → IsHistory limit bytes (history_of start legal market following ending)
+    → answer.Rejected number ≡ audit_status limit ending legal following → Explains market legal following line text → (first : HasFirstIllegal limit bytes number) × IsExplained first.market number first.bad text
 unfolding first_illegal
 explained_file limit number bytes start legal market [] End line text is e writes = absurd cc
 explained_file limit number bytes start legal market [] (Torn n) line text is e writes = absurd cc
@@ -194,9 +194,9 @@ pub history_first : (limit number : ℕ) (bytes : List ℕ) (first : HasFirstIll
     → (more : List (Record × Record)) × (ending : Ending) × IsHistory limit bytes (history_of first.start first.pairs first.market (first.bad ∷ more) ending)
 history_first limit number bytes first =
     let units = map records_of first.pairs in
-    let left = journals.units.spell first.bad ++ first.rest in
-    judged_some limit bytes (spell_all journals.units units ++ left) first.start
-    (first.begins, first.whole ∙ ap (λ xs. spell_start first.start ++ (xs ++ left)) (spelled_alike first.pairs))
+    let left = journals.units.encode first.bad ++ first.rest in
+    judged_some limit bytes (encode_all journals.units units ++ left) first.start
+    (first.begins, first.whole ∙ ap (λ xs. encode_start first.start ++ (xs ++ left)) (encoded_alike first.pairs))
     units left refl (lawful_pairs first.pairs first.legal.each) first.pairs refl first.legal.each first.market first.legal.steps
     first.bad first.rest (first.lawful, refl) first.illegal
 
@@ -207,8 +207,8 @@ rejected_is_first limit number bytes text = (
         | inl none ↦ absurd (no_history_rejected (take limit bytes) number none.0)
         | inr file ↦
             let h = file.history in (
-              rejected_file limit number bytes h.start h.legal h.market h.behind h.ending file.is file.ends,
-              file.writes ∙ none_made limit number h.ending h.legal h.behind (legal_line h.legal) [] file.ends,
+              rejected_file limit number bytes h.start h.legal h.market h.following h.ending file.is file.ends,
+              file.writes ∙ none_made limit number h.ending h.legal h.following (legal_line h.legal) [] file.ends,
             )
       ],
   λ illegal.
@@ -228,21 +228,21 @@ to_journal limit number bytes first (Empty version) is not =
       bad = first.bad;
       rest = first.rest;
       legal = record { each = legal.each; steps = legal.steps };
-      whole = first.whole ∙ ap (λ (s : Start). spell_start s ++ (flat_map pair_spelling first.pairs ++ (journals.units.spell first.bad ++ first.rest))) is
-          ∙ sym (append_assoc (journal_magic_of version) (flat_map pair_spelling first.pairs) (journals.units.spell first.bad ++ first.rest));
+      whole = first.whole ∙ ap (λ (s : Start). encode_start s ++ (flat_map pair_encoding first.pairs ++ (journals.units.encode first.bad ++ first.rest))) is
+          ∙ sym (append_assoc (journal_magic_of version) (flat_map pair_encoding first.pairs) (journals.units.encode first.bad ++ first.rest));
       lawful = first.lawful;
       illegal = first.illegal;
       counted = first.counted;
     }
 to_journal limit number bytes first (Kept kept) is not =
-    let rest = flat_map pair_spelling first.pairs ++ (journals.units.spell first.bad ++ first.rest) in
-    absurd (not (kept_magic kept (take limit bytes) rest (first.whole ∙ ap (λ (s : Start). spell_start s ++ rest) is)))
+    let rest = flat_map pair_encoding first.pairs ++ (journals.units.encode first.bad ++ first.rest) in
+    absurd (not (kept_magic kept (take limit bytes) rest (first.whole ∙ ap (λ (s : Start). encode_start s ++ rest) is)))
 
 pub first_illegal_of_journals : FirstIllegalOfJournals
 first_illegal_of_journals limit number bytes = (
   λ of.
-      let left = journals.units.spell of.bad ++ of.rest in
-      let whole : take limit bytes ≡ journal_magic_of of.version ++ (flat_map pair_spelling of.pairs ++ left) = of.whole ∙ append_assoc (journal_magic_of of.version) (flat_map pair_spelling of.pairs) left in (
+      let left = journals.units.encode of.bad ++ of.rest in
+      let whole : take limit bytes ≡ journal_magic_of of.version ++ (flat_map pair_encoding of.pairs ++ left) = of.whole ∙ append_assoc (journal_magic_of of.version) (flat_map pair_encoding of.pairs) left in (
         record {
           start = Empty of.version;
           pairs = of.pairs;
@@ -256,7 +256,7 @@ first_illegal_of_journals limit number bytes = (
           illegal = of.illegal;
           counted = of.counted;
         },
-        λ magic. other_magics of.version (take limit bytes) (flat_map pair_spelling of.pairs ++ left) whole magic,
+        λ magic. other_magics of.version (take limit bytes) (flat_map pair_encoding of.pairs ++ left) whole magic,
       ),
   λ first. to_journal limit number bytes first.0 first.0.start refl first.1,
 )

@@ -15,7 +15,7 @@ use Rattle.flow_orders.specs.Orders.{Order}
 use Rattle.flow_orders.specs.Outcomes.{Fill, Outcome, Cleared, Skipped, IsAdmissibleOutcome, trades_of}
 use Rattle.flow_orders.specs.Trades.{Trade, after_fill, is_live, staying}
 use Rattle.flow_orders.proofs.TradeFacts.{All-trades}
-use Rattle.journal_records.specs.Pairs.{pair_spelling}
+use Rattle.journal_records.specs.Pairs.{pair_encoding}
 use Rattle.journal_records.specs.Formats.{journal_magic_of}
 use Rattle.market_rules.specs.Market.{Market, empty_market}
 use Rattle.market_rules.specs.Step.{Accepts, Answers, ServesRead, after_batch, placed}
@@ -31,7 +31,7 @@ use Rattle.flow_exchange.specs.Checkpointing.{checkpoint_text, CheckpointsTo}
 use Rattle.flow_exchange.specs.JournalFiles.{if_whole, audit_status}
 use Rattle.flow_exchange.proofs.HistoryOf.{history_of, makes_of, consistent_start}
 use Rattle.flow_exchange.proofs.Outcomes.{one_end}
-use Rattle.flow_laws.specs.Laws.{SpellsHistory, CheckpointsOfHistories, HistoriesHaveCheckpoints, LegalJournalsHaveCheckpoints}
+use Rattle.flow_laws.specs.Laws.{EncodesHistory, CheckpointsOfHistories, HistoriesHaveCheckpoints, LegalJournalsHaveCheckpoints}
 use Rattle.flow_laws.proofs.AuditLaws.{done_all, all_made, no_history_done, to_end, from_end}
 use Rattle.flow_laws.proofs.GoingOn.{legal_is_consistent, orders_few}
 use Rattle.flow_laws.proofs.RunsAudited.{pairs_long}
@@ -40,15 +40,15 @@ use Rattle.flow_laws.proofs.RunsAudited.{pairs_long}
 
 -- the text is that of the market at the end
 done_to : (limit : ℕ) (bytes text : List ℕ) → CheckpointsTo limit bytes answer.Done text
-    → (start : Start) × (pairs : List (Pair Record Outcome)) × (market : Market) × SpellsHistory limit bytes start pairs market × (text ≡ checkpoint_bytes market)
+    → (start : Start) × (pairs : List (Pair Record Outcome)) × (market : Market) × EncodesHistory limit bytes start pairs market × (text ≡ checkpoint_bytes market)
 done_to limit bytes text (inl none) = absurd (no_history_done (take limit bytes) none.0)
 done_to limit bytes text (inr file) =
     let h = file.history in
-    let all = done_all limit h.ending h.legal h.behind file.ends in
-    (h.start, h.legal, h.market, to_end limit bytes h all file.is, file.writes ∙ all_made h.behind h.ending (checkpoint_bytes h.market) [] all)
+    let all = done_all limit h.ending h.legal h.following file.ends in
+    (h.start, h.legal, h.market, to_end limit bytes h all file.is, file.writes ∙ all_made h.following h.ending (checkpoint_bytes h.market) [] all)
 
 -- nothing is written on another status
-nothing_else : (limit : ℕ) (status : Status) (market : Market) (ending : Ending) (legal : List (Pair Record Outcome)) (behind : List (Record × Record)) → status ≡ audit_status limit ending legal behind → status ≢ answer.Done → if_whole behind ending (checkpoint_bytes market) [] ≡ []
+nothing_else : (limit : ℕ) (status : Status) (market : Market) (ending : Ending) (legal : List (Pair Record Outcome)) (following : List (Record × Record)) → status ≡ audit_status limit ending legal following → status ≢ answer.Done → if_whole following ending (checkpoint_bytes market) [] ≡ []
 nothing_else limit status market End legal [] ends other = absurd (other ends)
 nothing_else limit status market (Torn place) legal [] ends other = refl
 nothing_else limit status market TooLong legal [] ends other = refl
@@ -67,7 +67,7 @@ checkpoints_of_histories = record {
         | inr file ↦ (one_end Audit limit bytes status other (audit_text file.history) line (inr (record { history = file.history; is = file.is; ends = file.ends; writes = refl })) audits).0
       ];
   nothing = λ limit bytes text status comes other.
-      elim comes [ inl none ↦ none.1 | inr file ↦ file.writes ∙ nothing_else limit status file.history.market file.history.ending file.history.legal file.history.behind file.ends other ];
+      elim comes [ inl none ↦ none.1 | inr file ↦ file.writes ∙ nothing_else limit status file.history.market file.history.ending file.history.legal file.history.following file.ends other ];
 }
 
 -- ---- that they are checkpoints
@@ -109,14 +109,14 @@ lasts_read m asked (Err why) a n reads fits served = lasts_by n served.1 fits
 lasts_follow : (m : Market) (pairs : List (Pair Record Outcome)) (n : Market) → LastsFit m.orders → Follows IsReadAs IsAdmissibleOutcome m pairs n → LastsFit n.orders
 lasts_follow m [] n fits follows = lasts_by n follows fits
 lasts_follow m (pair ∷ pairs) n fits (between, step, follows) =
-    lasts_follow between pairs n (lasts_read m pair.asked step.read pair.answer between step.spelled fits step.served) follows
+    lasts_follow between pairs n (lasts_read m pair.asked step.read pair.answer between step.encoded fits step.served) follows
 
 pub legal_journals_have_checkpoints : LegalJournalsHaveCheckpoints
 legal_journals_have_checkpoints version pairs market legal few = record {
   consistent = legal_is_consistent version pairs market legal;
-  next = omega (arith, orders_few (empty_market version) market pairs legal.steps, pairs_long pairs, length-append (journal_magic_of version) (flat_map pair_spelling pairs), few);
+  next = omega (arith, orders_few (empty_market version) market pairs legal.steps, pairs_long pairs, length-append (journal_magic_of version) (flat_map pair_encoding pairs), few);
   last = lasts_follow (empty_market version) pairs market (All-nil (λ (o : Order). o.last < 2 ^ 32)) legal.steps;
-  spelled = refl;
+  encoded = refl;
 }
 
 -- what begins a history is the market of a checkpoint, or the empty one, in which no order is
@@ -129,5 +129,5 @@ histories_have_checkpoints start pairs market begins legal few = record {
   consistent = (journals_stay_consistent (market_of start) pairs market (consistent_start start begins) legal.steps);
   next = omega (arith, orders_few (market_of start) market pairs legal.steps, few);
   last = lasts_follow (market_of start) pairs market (first_lasts start begins) legal.steps;
-  spelled = refl;
+  encoded = refl;
 }

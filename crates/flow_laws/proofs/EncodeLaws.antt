@@ -4,24 +4,24 @@ use Rattle.std.proofs.lemmas.List.{take_all}
 use Rattle.std.proofs.lemmas.List.Elements.{All-map}
 use Rattle.std.proofs.lemmas.List.Folds.{flat_map-map}
 use Rattle.ticker_table.specs.Tickers.{AreTickers}
-use Rattle.wire_records.specs.Records.{Record, IsRecord, spelling, most_body}
+use Rattle.wire_records.specs.Records.{Record, IsRecord, encoding, most_body}
 use Rattle.wire_records.specs.Commands.{Command}
 use Rattle.wire_records.specs.CommandRecords.{record_of, IsCommand, HasShortRow}
-use Rattle.wire_records.specs.Grammars.{spell_all}
+use Rattle.wire_records.specs.Grammars.{encode_all}
 use Rattle.wire_records.specs.Reading.{Reading, File, End, Reads, ReadsOn}
 use Rattle.wire_records.specs.Versions.{IsOfVersion, IsReadAs}
 use Rattle.wire_records.specs.declared.version.Version.{Version}
 use Rattle.wire_records.specs.Formats.{commands, command_magic_of}
-use Rattle.wire_records.proofs.Fronts.{states_none-from_few}
+use Rattle.wire_records.proofs.Prefixes.{states_none-from_few}
 use Rattle.wire_records.proofs.Readings.{command_short}
 use Rattle.wire_records.proofs.ReadingLaws.{file_read, reads_one, reads_on_one, none_in_none}
 use Rattle.wire_records.proofs.RecordCode.{commands_readable}
-use Rattle.journal_records.proofs.PairFronts.{none_over}
+use Rattle.journal_records.proofs.PairPrefixes.{none_over}
 use Rattle.market_rules.specs.Market.{Market}
 use Rattle.market_snapshot.specs.Checkpoints.{IsCheckpoint}
 use Rattle.word_driver.specs.Ended.{Ended}
 use Rattle.word_driver.specs.declared.fault.Fault.TheVariants as fault
-use Rattle.line_records.specs.Lines.{spell_commands}
+use Rattle.line_records.specs.Lines.{encode_commands}
 use Rattle.line_records.proofs.Fitting.{commands_fit, no_tickers}
 use Rattle.encode_word.specs.declared.stop.EncodeStop.{EncodeStop}
 use Rattle.encode_word.specs.declared.stop.EncodeStop.TheVariants as stop
@@ -47,14 +47,14 @@ all_within cs fit short = All-map (IsRecord most_body) record_of cs (λ k d with
 
 -- each record is read as its command
 all_read : (version : Version) (cs : List Command) → All IsCommand cs → All (IsOfVersion version) cs → All (λ c. IsReadAs version (record_of c) (Ok c)) cs
-all_read version cs fit own = λ k d within. (own k d within, record { fits = fit k d within; spelled = refl })
+all_read version cs fit own = λ k d within. (own k d within, record { fits = fit k d within; encoded = refl })
 
 -- the file is read as the records
-file_of : (version : Version) (most : ℕ) (text : List ℕ) (cs : List Command) → All (IsRecord most_body) (map record_of cs) → text ≡ command_magic_of version ++ spell_commands cs → length text ≤ most → Reads commands most text (File version (map record_of cs) End)
+file_of : (version : Version) (most : ℕ) (text : List ℕ) (cs : List Command) → All (IsRecord most_body) (map record_of cs) → text ≡ command_magic_of version ++ encode_commands cs → length text ≤ most → Reads commands most text (File version (map record_of cs) End)
 file_of version most text cs each is fits =
-    let spelled : command_magic_of version ++ spell_all commands.units (map record_of cs) ≡ text = ap (λ xs. command_magic_of version ++ xs) (flat_map-map spelling record_of cs) ∙ sym is in
-    subst (λ (file : List ℕ). Reads commands most file (File version (map record_of cs) End)) spelled
-    (file_read commands commands_readable (λ over. states_none-from_few over.0 [] (omega arith) over.1) most version (map record_of cs) tt each (rw (ap length spelled) fits))
+    let file_equal : command_magic_of version ++ encode_all commands.units (map record_of cs) ≡ text = ap (λ xs. command_magic_of version ++ xs) (flat_map-map encoding record_of cs) ∙ sym is in
+    subst (λ (file : List ℕ). Reads commands most file (File version (map record_of cs) End)) file_equal
+    (file_read commands commands_readable (λ over. states_none-from_few over.0 [] (omega arith) over.1) most version (map record_of cs) tt each (rw (ap length file_equal) fits))
 
 -- the tickers that are known before the first line are tickers
 pub are_known : (version : Version) (More : Type 0) (bytes : List ℕ) (start : Start) (lines : List ℕ) → IsBefore version More bytes start lines → AreTickers (known_after start)
@@ -90,7 +90,7 @@ encoded_is_served version limit most bytes text journal ended ran encoded fits r
 -- all records after a checkpoint and the magic of its version are answered
 module _ (More : Type 0) (no_more : ¬ More) (market : Market) (checkpoint : List ℕ) (is_one : IsCheckpoint market checkpoint) (records : List Record) (each : All (IsRecord most_body) records) where
   abbrev body : List ℕ
-  body = spell_all commands.units records
+  body = encode_all commands.units records
 
   abbrev rest : List ℕ
   rest = command_magic_of market.version ++ body
@@ -107,8 +107,8 @@ module _ (More : Type 0) (no_more : ¬ More) (market : Market) (checkpoint : Lis
       let one = reads_on_one commands commands_readable (length checkpoint + 8) More body serves.records records serves.ending End serves.reads reads in
       (serves.ends ∙ ap ended_by one.1, serves.new, subst (λ (rs : List Record). Continues market rs serves.new text) one.0 serves.writes)
 
-  behind : (what : Rest) (ended : Ended Unfit) (text : List ℕ) → IsRest market.version More rest what → RestComesTo Checkpoint market More (length checkpoint) rest what ended text → (ended ≡ Ok tt) × (new : Market) × Continues market records new text
-  behind what ended text is comes =
+  following : (what : Rest) (ended : Ended Unfit) (text : List ℕ) → IsRest market.version More rest what → RestComesTo Checkpoint market More (length checkpoint) rest what ended text → (ended ≡ Ok tt) × (new : Market) × Continues market records new text
+  following what ended text is comes =
       let one = one_rest market.version More rest what (Commands body) is refl in
       answered ended text (subst (λ (w : Rest). RestComesTo Checkpoint market More (length checkpoint) rest w ended text) one comes)
 
@@ -116,18 +116,18 @@ module _ (More : Type 0) (no_more : ¬ More) (market : Market) (checkpoint : Lis
   resumed ended text resumes =
       let one = one_first (checkpoint ++ rest) resumes.first part resumes.stands stands in
       let comes = subst (λ (first : First). FirstComesTo More first ended text) one resumes.comes in
-      behind comes.0 ended text comes.1 comes.2
+      following comes.0 ended text comes.1 comes.2
 
 pub encoded_is_resumed : EncodedIsResumed
 encoded_is_resumed version limit most bytes text checkpoint entries ended resumed_as market encoded kept is_one fits (end, resumes, is) =
     let cs = encoded.comes.commands in
     let fit = encoded_fit version (limit < length bytes) (take limit bytes) text ended encoded in
     let before = subst (λ (start : Start). IsBefore version (limit < length bytes) (take limit bytes) start encoded.lines) kept encoded.begins in
-    let spelled : text ≡ command_magic_of market.version ++ spell_all commands.units (map record_of cs) =
-    encoded.comes.writes ∙ ap (λ (v : Version). command_magic_of v ++ spell_commands cs) (sym before.of_version) ∙ ap (λ xs. command_magic_of market.version ++ xs) (sym (flat_map-map spelling record_of cs))
+    let file_equal : text ≡ command_magic_of market.version ++ encode_all commands.units (map record_of cs) =
+    encoded.comes.writes ∙ ap (λ (v : Version). command_magic_of v ++ encode_commands cs) (sym before.of_version) ∙ ap (λ xs. command_magic_of market.version ++ xs) (sym (flat_map-map encoding record_of cs))
     in
     let no_more : ¬ (most < length (checkpoint ++ text)) = λ more. omega (arith, more, fits) in
-    let here = subst (λ (xs : List ℕ). Resumes (most < length (checkpoint ++ text)) xs end entries) (take_all most (checkpoint ++ text) fits ∙ ap (λ xs. checkpoint ++ xs) spelled) resumes in
+    let here = subst (λ (xs : List ℕ). Resumes (most < length (checkpoint ++ text)) xs end entries) (take_all most (checkpoint ++ text) fits ∙ ap (λ xs. checkpoint ++ xs) file_equal) resumes in
     let done = resumed (most < length (checkpoint ++ text)) no_more market checkpoint is_one (map record_of cs) (all_within cs fit.0 fit.1) end entries here in
     (is ∙ ap (ended_status most unfit_status) done.0, done.1, done.2)
 

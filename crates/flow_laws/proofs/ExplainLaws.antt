@@ -18,8 +18,8 @@ use Rattle.flow_laws.specs.Laws.{ExplainIsAudit, RejectedIsExplained}
 use Rattle.flow_laws.proofs.AuditLaws.{no_history_rejected, history_first, explained_file}
 
 -- the line of the audit is written if no entry is rejected
-explained_alike : (limit : ℕ) (market : Market) (legal : List (Pair Record Outcome)) (behind : List (Record × Record)) (ending : Ending) (status : Status) (line text : List ℕ) → status ≡ audit_status limit ending legal behind → ((number : ℕ) → status ≢ answer.Rejected number)
-    → Explains market legal behind line text → text ≡ line
+explained_alike : (limit : ℕ) (market : Market) (legal : List (Pair Record Outcome)) (following : List (Record × Record)) (ending : Ending) (status : Status) (line text : List ℕ) → status ≡ audit_status limit ending legal following → ((number : ℕ) → status ≢ answer.Rejected number)
+    → Explains market legal following line text → text ≡ line
 explained_alike limit market legal [] ending status line text ends not writes = writes
 explained_alike limit market legal (bad ∷ more) ending status line text ends not writes = absurd (not (length legal + 1) ends)
 
@@ -31,7 +31,7 @@ explain_is_audit limit bytes text line status other (inr file) audits =
     let h = file.history in
     let told = audit_text h in
     let same = one_end Audit limit bytes status other told line (inr (record { history = h; is = file.is; ends = file.ends; writes = refl })) audits in
-    (same.0, λ not. explained_alike limit h.market h.legal h.behind h.ending status told text file.ends not file.writes ∙ same.1)
+    (same.0, λ not. explained_alike limit h.market h.legal h.following h.ending status told text file.ends not file.writes ∙ same.1)
 
 pub rejected_is_explained : RejectedIsExplained
 rejected_is_explained limit number bytes text = (
@@ -40,11 +40,11 @@ rejected_is_explained limit number bytes text = (
         | inl none ↦ absurd (no_history_rejected (take limit bytes) number none.0)
         | inr file ↦
             let h = file.history in
-            explained_file limit number bytes h.start h.legal h.market h.behind h.ending (audit_text h) text file.is file.ends file.writes
+            explained_file limit number bytes h.start h.legal h.market h.following h.ending (audit_text h) text file.is file.ends file.writes
       ],
   λ illegal.
       let first = illegal.0 in
       let all = history_first limit number bytes first in
-      makes_of (λ history text. Explains history.market history.legal history.behind (audit_text history) text) limit bytes (answer.Rejected number) text (history_of first.start first.pairs first.market (first.bad ∷ all.0) all.1) all.2
+      makes_of (λ history text. Explains history.market history.legal history.following (audit_text history) text) limit bytes (answer.Rejected number) text (history_of first.start first.pairs first.market (first.bad ∷ all.0) all.1) all.2
       (ap (λ (n : ℕ). answer.Rejected n) first.counted) (subst (λ (n : ℕ). IsExplained first.market n first.bad text) first.counted illegal.1),
 )

@@ -12,7 +12,7 @@ use Rattle.wire_records.specs.declared.version.Version.{Version}
 use Rattle.wire_records.proofs.Readings.{reading_unique, read_own}
 use Rattle.flow_orders.specs.Outcomes.{Outcome, IsAdmissibleOutcome}
 use Rattle.canonical_rule.specs.Canonical.{IsCanonicalOutcome}
-use Rattle.journal_records.specs.Pairs.{IsPair, pair_spelling}
+use Rattle.journal_records.specs.Pairs.{IsPair, pair_encoding}
 use Rattle.journal_records.specs.Formats.{journal_magic_of, journal_in}
 use Rattle.market_rules.specs.Market.{Market, IsConsistent, empty_market}
 use Rattle.market_rules.specs.Journal.{Follows, IsJournal}
@@ -36,7 +36,7 @@ use Rattle.flow_laws.proofs.RunsAudited.{pairs_short, journal}
 
 -- what a run makes of records from a market on
 answers : (old new : Market) (records : List Record) (text : List ℕ) → Goes run old records new text → Continues old records new text
-answers old new [] text goes = record { pairs = []; answered = record { asked = refl; steps = goes.0 }; fits = λ few. All-nil IsPair; spelled = goes.1 }
+answers old new [] text goes = record { pairs = []; answered = record { asked = refl; steps = goes.0 }; fits = λ few. All-nil IsPair; encoded = goes.1 }
 answers old new (r ∷ records) text goes =
     let next = goes.0 in
     let one = goes.3 in
@@ -47,7 +47,7 @@ answers old new (r ∷ records) text goes =
       pairs = pair ∷ rest.pairs;
       answered = record { asked = ap (λ xs. r ∷ xs) rest.answered.asked; steps = (next, one.step, rest.answered.steps) };
       fits = λ few. All-cons IsPair pair rest.pairs (one.fits (omega (arith, rise, few))) (rest.fits (omega (arith, rise, few)));
-      spelled = goes.5 ∙ ap (λ xs. xs ++ goes.2) one.spelled ∙ ap (λ xs. pair_spelling pair ++ xs) rest.spelled;
+      encoded = goes.5 ∙ ap (λ xs. xs ++ goes.2) one.encoded ∙ ap (λ xs. pair_encoding pair ++ xs) rest.encoded;
     }
 
 -- valid entries give at most as many numbers to orders as they are
@@ -57,11 +57,11 @@ orders_few old new (pair ∷ pairs) (between, step, follows) =
     omega (arith, legal_steps_number_one old pair.asked pair.answer between step, orders_few between new pairs follows)
 
 -- the encoding of two lists of entries, one after the other
-joined : (version : Version) (pairs more : List (Pair Record Outcome)) (bytes text : List ℕ) → bytes ≡ journal_in version pairs → text ≡ flat_map pair_spelling more → bytes ++ text ≡ journal_in version (pairs ++ more)
-joined version pairs more bytes text before behind =
+joined : (version : Version) (pairs more : List (Pair Record Outcome)) (bytes text : List ℕ) → bytes ≡ journal_in version pairs → text ≡ flat_map pair_encoding more → bytes ++ text ≡ journal_in version (pairs ++ more)
+joined version pairs more bytes text before following =
     let magic = journal_magic_of version in
-    ap (λ xs. xs ++ text) before ∙ append_assoc magic (flat_map pair_spelling pairs) text
-    ∙ ap (λ xs. magic ++ xs) (ap (λ xs. flat_map pair_spelling pairs ++ xs) behind ∙ sym (flat_map-append pair_spelling pairs more))
+    ap (λ xs. xs ++ text) before ∙ append_assoc magic (flat_map pair_encoding pairs) text
+    ∙ ap (λ xs. magic ++ xs) (ap (λ xs. flat_map pair_encoding pairs ++ xs) following ∙ sym (flat_map-append pair_encoding pairs more))
 
 -- the market of a valid journal is consistent
 pub legal_is_consistent : (version : Version) (pairs : List (Pair Record Outcome)) (market : Market) → IsLegalJournal version pairs market → IsConsistent market
@@ -74,8 +74,8 @@ module _ (most : ℕ) (version : Version) (pairs : List (Pair Record Outcome)) (
   more_fit : All IsPair so.pairs
   more_fit =
       let few = orders_few (empty_market version) old pairs legal.steps in
-      let first = length-append (journal_magic_of version) (flat_map pair_spelling pairs) in
-      so.fits (omega (arith, few, pairs_short pairs, pairs_short so.pairs, ap length before, first, eight version, ap length so.spelled, length-append bytes text, wide, within))
+      let first = length-append (journal_magic_of version) (flat_map pair_encoding pairs) in
+      so.fits (omega (arith, few, pairs_short pairs, pairs_short so.pairs, ap length before, first, eight version, ap length so.encoded, length-append bytes text, wide, within))
 
   all_legal : IsLegalJournal version (pairs ++ so.pairs) new
   all_legal = record {
@@ -86,18 +86,18 @@ module _ (most : ℕ) (version : Version) (pairs : List (Pair Record Outcome)) (
 
   pub one_journal : IsOneJournal most bytes records new text
   one_journal =
-      let whole = joined version pairs so.pairs bytes text before so.spelled in
+      let whole = joined version pairs so.pairs bytes text before so.encoded in
       record {
         version = version;
         pairs = pairs;
         more = so.pairs;
         before = before;
         asked = so.answered.asked;
-        behind = so.spelled;
+        following = so.encoded;
         whole = whole;
         legal = all_legal;
         replayed = (markets_are (bytes ++ text) new).1 (version, pairs ++ so.pairs, all_legal, whole);
-        audited = done_for_legal.done most (bytes ++ text) version (pairs ++ so.pairs) new (record { journal = all_legal; spelled = whole; within = within });
+        audited = done_for_legal.done most (bytes ++ text) version (pairs ++ so.pairs) new (record { journal = all_legal; encoded = whole; within = within });
       }
 
 legal : (most : ℕ) (bytes text : List ℕ) (old new : Market) (records : List Record) → IsReplayed bytes (Ok old) → Goes run old records new text
@@ -131,18 +131,18 @@ module _ (most : ℕ) (version : Version) (bytes text : List ℕ) (old new : Mar
   canonical_journal =
       let short : length bytes ≤ most = omega (arith, length-append bytes text, within) in
       let before = (journal most version first old bytes writes wide short).0 in
-      let legal = all_legal most version writes.pairs bytes text old new records before writes.spelled so wide within in
+      let legal = all_legal most version writes.pairs bytes text old new records before writes.encoded so wide within in
       record {
         pairs = all_pairs;
         journal_of = all_answered;
         fits = λ _. legal.each;
-        spelled = joined version writes.pairs so.pairs bytes text writes.spelled so.spelled;
+        encoded = joined version writes.pairs so.pairs bytes text writes.encoded so.encoded;
       }
 
   pub same_journal : (whole : List ℕ) (last : Market) → Journals version (first ++ records) last whole → (whole ≡ bytes ++ text) × (last ≡ new)
   same_journal whole last other =
       let one = one_canonical_journal IsReadAs reading_unique version (first ++ records) other.pairs all_pairs last new other.journal_of all_answered in
-      (other.spelled ∙ ap (journal_in version) one.0 ∙ sym (joined version writes.pairs so.pairs bytes text writes.spelled so.spelled), one.1)
+      (other.encoded ∙ ap (journal_in version) one.0 ∙ sym (joined version writes.pairs so.pairs bytes text writes.encoded so.encoded), one.1)
 
 -- a replay of a run's journal answers its market
 module _ (most : ℕ) (version : Version) (bytes text : List ℕ) (at old new : Market) (first records : List Record) (writes : Journals version first at bytes)
@@ -151,7 +151,7 @@ module _ (most : ℕ) (version : Version) (bytes text : List ℕ) (at old new : 
   was =
       let short : length bytes ≤ most = omega (arith, length-append bytes text, within) in
       let legal = (journal most version first at bytes writes wide short).0 in
-      same_market at old (one_replay bytes (made at) (made old) (λ e. absurd cc) (λ e. absurd cc) ((markets_are bytes at).1 (version, writes.pairs, legal, writes.spelled)) replayed)
+      same_market at old (one_replay bytes (made at) (made old) (λ e. absurd cc) (λ e. absurd cc) ((markets_are bytes at).1 (version, writes.pairs, legal, writes.encoded)) replayed)
 
   wrote : Journals version first old bytes
   wrote = subst (λ (m : Market). Journals version first m bytes) was writes

@@ -3,7 +3,7 @@ use Rattle.std.proofs.Common.{◌≡◌, ◌≢◌, ◌⊎◌, ◌+◌, ◌^◌,
 use Rattle.std.proofs.lemmas.List.{take_all}
 use Rattle.wire_records.specs.Records.{Record}
 use Rattle.wire_records.specs.Commands.{Pair}
-use Rattle.wire_records.specs.Grammars.{BeginsWithNone, spell_all}
+use Rattle.wire_records.specs.Grammars.{BeginsWithNone, encode_all}
 use Rattle.wire_records.specs.Reading.{Ending, End, Torn, TooLong, EndsAs}
 use Rattle.wire_records.specs.Formats.{commands, command_magic_of}
 use Rattle.wire_records.specs.declared.version.Version.{Version}
@@ -40,10 +40,10 @@ use Rattle.flow_laws.proofs.Resumed.{goes_from}
 new_one : (version : Version) (rest : List ℕ) (records others : List Record) → NewRecords version rest records → NewRecords version rest others → records ≡ others
 new_one version rest records others (inl a) (inl b) =
     let magic = command_magic_of version in
-    let parts = commands_readable.magics.one version version (spell_all commands.units records ++ a.left) (spell_all commands.units others ++ b.left) tt tt (sym a.whole ∙ b.whole) in
+    let parts = commands_readable.magics.one version version (encode_all commands.units records ++ a.left) (encode_all commands.units others ++ b.left) tt tt (sym a.whole ∙ b.whole) in
     (values_unique commands.units commands_readable.units records others a.left b.left a.each b.each a.last b.last parts.1).0
-new_one version rest records others (inl a) (inr b) = absurd (b.0 (spell_all commands.units records ++ a.left) a.whole)
-new_one version rest records others (inr a) (inl b) = absurd (a.0 (spell_all commands.units others ++ b.left) b.whole)
+new_one version rest records others (inl a) (inr b) = absurd (b.0 (encode_all commands.units records ++ a.left) a.whole)
+new_one version rest records others (inr a) (inl b) = absurd (a.0 (encode_all commands.units others ++ b.left) b.whole)
 new_one version rest records others (inr a) (inr b) = a.1 ∙ sym b.1
 
 text_one : (market : Market) (rest x y : List ℕ) → GoesOn market rest x → GoesOn market rest y → x ≡ y
@@ -68,25 +68,25 @@ module _ (M N : Type 0) (not_here : ¬ M) (not_there : ¬ N) (rest : List ℕ) w
   endings_alike here there TooLong f a b = absurd (not_here a.1)
 
 -- places after a magic
-behind_magic : (place count : ℕ) → place + 8 + count ≡ place + (8 + count)
-behind_magic place count = omega arith
+after_magic : (place count : ℕ) → place + 8 + count ≡ place + (8 + count)
+after_magic place count = omega arith
 
 module _ (market : Market) (M N : Type 0) (not_here : ¬ M) (not_there : ¬ N) (here there : ℕ) (rest : List ℕ) where
   serves_alike : (body : List ℕ) (e f : Ended Unfit) (x y : List ℕ) → ServesAll market M (here + 8) body e x → ServesAll market N (there + 8) body f y → Alike here there e f
   serves_alike body e f x y a b =
       let parts = values_unique commands.units commands_readable.units a.records b.records a.reads.rest b.reads.rest a.reads.each b.reads.each a.reads.none b.reads.none (sym a.reads.whole ∙ b.reads.whole) in
-      let count = length (spell_all commands.units a.records) in
+      let count = length (encode_all commands.units a.records) in
       let other : EndsAs commands N a.reads.rest (there + 8 + count) b.ending =
-      subst (λ (rs : List Record). EndsAs commands N a.reads.rest (there + 8 + length (spell_all commands.units rs)) b.ending) (sym parts.0)
-      (subst (λ (xs : List ℕ). EndsAs commands N xs (there + 8 + length (spell_all commands.units b.records)) b.ending) (sym parts.1) b.reads.ends)
+      subst (λ (rs : List Record). EndsAs commands N a.reads.rest (there + 8 + length (encode_all commands.units rs)) b.ending) (sym parts.0)
+      (subst (λ (xs : List ℕ). EndsAs commands N xs (there + 8 + length (encode_all commands.units b.records)) b.ending) (sym parts.1) b.reads.ends)
       in
       elim (endings_alike M N not_here not_there a.reads.rest (here + 8 + count) (there + 8 + count) a.ending b.ending a.reads.ends other) [
         | inl done ↦ inl (a.ends ∙ ap ended_by done.0, b.ends ∙ ap ended_by done.1)
         | inr torn ↦
             inr (
               8 + count,
-              a.ends ∙ ap ended_by torn.0 ∙ ap (λ (k : ℕ). torn_at k) (behind_magic here count),
-              b.ends ∙ ap ended_by torn.1 ∙ ap (λ (k : ℕ). torn_at k) (behind_magic there count),
+              a.ends ∙ ap ended_by torn.0 ∙ ap (λ (k : ℕ). torn_at k) (after_magic here count),
+              b.ends ∙ ap ended_by torn.1 ∙ ap (λ (k : ℕ). torn_at k) (after_magic there count),
             )
       ]
     where
@@ -148,12 +148,12 @@ module _ (version : Version) (pairs : List (Pair Record Outcome)) (market : Mark
   ends limit most x y s t here there a b =
       let bytes = journal ++ rest in
       let others = checkpoint ++ rest in
-      let front = take_all limit bytes here in
+      let prefix = take_all limit bytes here in
       let back = take_all most others there in (
-        texts limit most bytes others x y s t front back a b,
+        texts limit most bytes others x y s t prefix back a b,
         status_alike (length journal) (length checkpoint) limit most a.0 b.0 s t
             (ends_alike market (limit < length bytes) (most < length others) (λ more. omega (arith, more, here)) (λ more. omega (arith, more, there)) (length journal) (length checkpoint) rest origin.Journal origin.Checkpoint a.0 b.0 x y
-            (comes_from (limit < length bytes) (take limit bytes) a.0 x (Whole origin.Journal market (length journal) rest) (journal_first (take limit bytes) front) a.1)
+            (comes_from (limit < length bytes) (take limit bytes) a.0 x (Whole origin.Journal market (length journal) rest) (journal_first (take limit bytes) prefix) a.1)
             (comes_from (most < length others) (take most others) b.0 y (Whole origin.Checkpoint market (length checkpoint) rest) (checkpoint_first (take most others) back) b.1))
             a.2
             b.2,
@@ -168,12 +168,12 @@ written limit most within journal checkpoint rest x y s t done not last wide her
     let is = history_journal within journal of.0 pairs market of.3 not in
     let version = is.0 in
     let legal = is.1 in
-    let short : length (journal_in version pairs) < 2 ^ 64 = omega (arith, ap length legal.spelled, length-append journal rest, here, wide) in
+    let short : length (journal_in version pairs) < 2 ^ 64 = omega (arith, ap length legal.encoded, length-append journal rest, here, wide) in
     let is_one : IsCheckpoint market checkpoint = subst (IsCheckpoint market) (sym of.4) (legal_journals_have_checkpoints version pairs market legal.journal short) in
-    let spelled = legal.spelled in
+    let encoded = legal.encoded in
     let so = ends version pairs market checkpoint rest legal.journal last is_one limit most x y s t
-    (subst (λ (j : List ℕ). length (j ++ rest) ≤ limit) spelled here) there (subst (λ (j : List ℕ). ComesTo Resume limit (j ++ rest) s x) spelled a) b in
-    (so.0, subst (λ (j : List ℕ). EndAlike (length j) (length checkpoint) s t) (sym spelled) so.1)
+    (subst (λ (j : List ℕ). length (j ++ rest) ≤ limit) encoded here) there (subst (λ (j : List ℕ). ComesTo Resume limit (j ++ rest) s x) encoded a) b in
+    (so.0, subst (λ (j : List ℕ). EndAlike (length j) (length checkpoint) s t) (sym encoded) so.1)
 
 pub go_on_alike : GoOnAlike
 go_on_alike = record {

@@ -21,7 +21,7 @@ use Rattle.journal_checkpoint.specs.Checkpointing.{checkpoint}
 use Rattle.journal_checkpoint.proofs.CheckpointLaws.{checkpoint_has_next}
 use Rattle.history_words.specs.declared.stop.HistoryStop.{HistoryStop}
 use Rattle.history_words.specs.declared.stop.HistoryStop.TheVariants.{NoCheckpoint}
-use Rattle.history_words.specs.Histories.{behind, Beginning, at_first, ComesFrom, over_history_from}
+use Rattle.history_words.specs.Histories.{following, Beginning, at_first, ComesFrom, over_history_from}
 use Rattle.history_words.proofs.Starts.{magic_or_not, one_start, moved}
 use Rattle.statement_word.specs.Stating.{statement, statement_begins}
 use Rattle.statement_word.proofs.StatementLaws.{statement_has_next}
@@ -46,11 +46,11 @@ module _ {S B : Type 0} (w : Word (Record × Record) S B) (begins : Beginning S)
   later_begins opening early words text begun parts all_parts (rest, is) =
       (rest, all_parts ∙ ap (λ xs. opening ++ xs) is ∙ sym (append_assoc opening early rest) ∙ ap (λ xs. xs ++ rest) (sym parts))
 
-  pub history_front : (bytes : List ℕ) (n : ℕ) (More : Type 0) (e f : Ended (HistoryStop B)) (begun text : List ℕ) → ComesFrom w begins (take n bytes) (Unit {0}) e begun → ComesFrom w begins bytes More f text → Begins text begun
-  history_front bytes n More e f begun text (inl other) all = nothing_begins text begun other.2
-  history_front bytes n More e f begun text (inr (inl unsound)) all = nothing_begins text begun unsound.2
-  history_front bytes n More e f begun text (inr (inr (start, body, early, first, parts, inner, on, is))) all =
-      let whole : bytes ≡ starts.spell start ++ (body ++ drop n bytes) = sym (take-append-drop n bytes) ∙ ap (λ xs. xs ++ drop n bytes) first.1 ∙ append_assoc (starts.spell start) body (drop n bytes) in
+  pub history_prefix : (bytes : List ℕ) (n : ℕ) (More : Type 0) (e f : Ended (HistoryStop B)) (begun text : List ℕ) → ComesFrom w begins (take n bytes) (Unit {0}) e begun → ComesFrom w begins bytes More f text → Begins text begun
+  history_prefix bytes n More e f begun text (inl other) all = nothing_begins text begun other.2
+  history_prefix bytes n More e f begun text (inr (inl unsound)) all = nothing_begins text begun unsound.2
+  history_prefix bytes n More e f begun text (inr (inr (start, body, early, first, parts, inner, on, is))) all =
+      let whole : bytes ≡ starts.encode start ++ (body ++ drop n bytes) = sym (take-append-drop n bytes) ∙ ap (λ xs. xs ++ drop n bytes) first.1 ∙ append_assoc (starts.encode start) body (drop n bytes) in
       elim all [
         | inl other ↦ absurd (other.0.0 start (body ++ drop n bytes) first.0 whole)
         | inr begun_so ↦
@@ -58,10 +58,10 @@ module _ {S B : Type 0} (w : Word (Record × Record) S B) (begins : Beginning S)
               | inl unsound ↦ absurd (unsound.0.0 start (body ++ drop n bytes) first.0 whole)
               | inr (other, later, words, starting, all_parts, ended, goes, also) ↦
                   let one = one_start start other (body ++ drop n bytes) later first.0 starting.0 (sym whole ∙ starting.1) in
-                  let front = begins_on w (λ (version : Version). begins.starts (empty_market version)) exact More (length (starts.spell start)) body (drop n bytes) (begins.starts (market_of start)) inner ended early words on
+                  let prefix = begins_on w (λ (version : Version). begins.starts (empty_market version)) exact More (length (starts.encode start)) body (drop n bytes) (begins.starts (market_of start)) inner ended early words on
                   (moved w begins exact start other (body ++ drop n bytes) later bytes More ended words (first.0, whole) starting goes)
                   in
-                  later_begins (begins.opens (market_of start)) early words text begun parts (all_parts ∙ ap (λ (s : Start). begins.opens (market_of s) ++ words) (sym one.0)) front
+                  later_begins (begins.opens (market_of start)) early words text begun parts (all_parts ∙ ap (λ (s : Start). begins.opens (market_of s) ++ words) (sym one.0)) prefix
             ]
       ]
 
@@ -70,8 +70,8 @@ module _ {S B : Type 0} (w : Word (Record × Record) S B) (begins : Beginning S)
   some_history_end next limit bytes none =
       one_of ((start : Start) × (body : List ℕ) × BeginsWith starts (take limit bytes) start body) (λ told. elim told [
         | inl (start, body, first) ↦
-            comes_to_some w (λ (version : Version). begins.starts (market_of start)) exact (next (market_of start) (consistent_start start first.0)) One (limit < length bytes) (length (starts.spell start)) body (more_or_not limit (length bytes))
-            (λ found. none (behind found.0) (begins.opens (market_of start) ++ found.1) (inr (inr (start, body, found.1, first, refl, found.0, found.2, refl))))
+            comes_to_some w (λ (version : Version). begins.starts (market_of start)) exact (next (market_of start) (consistent_start start first.0)) One (limit < length bytes) (length (starts.encode start)) body (more_or_not limit (length bytes))
+            (λ found. none (following found.0) (begins.opens (market_of start) ++ found.1) (inr (inr (start, body, found.1, first, refl, found.0, found.2, refl))))
         | inr not ↦
             elim (magic_or_not (take limit bytes)) [
               | inl magic ↦ none (Err (Stopped NoCheckpoint)) [] (inr (inl ((λ start rest lawful e. not (start, rest, (lawful, e)), magic), refl, refl)))

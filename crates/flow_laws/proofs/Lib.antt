@@ -1,6 +1,6 @@
 mod AuditLaws
 mod NoneBegins
-mod MagicsBehind
+mod MagicsAfter
 mod EncodeLaws
 mod ExplainLaws
 mod TickersAgree
@@ -11,7 +11,7 @@ mod HistoryEnds
 mod SomeEnd
 mod StatementsAreOne
 mod ResumeCuts
-mod Fronts
+mod Prefixes
 mod CheckpointLaws
 mod CutHistories
 mod DaysTogether

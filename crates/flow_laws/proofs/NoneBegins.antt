@@ -24,13 +24,13 @@ use Rattle.flow_laws.specs.Laws.{BadIsUnsound}
 use Rattle.flow_laws.proofs.AuditLaws.{audited}
 
 -- an audit of a history has neither status
-not_bad : (limit : ℕ) (ending : Ending) (legal : List (Pair Record Outcome)) (behind : List (Record × Record)) → answer.BadCheckpoint ≡ audit_status limit ending legal behind → ⊥
+not_bad : (limit : ℕ) (ending : Ending) (legal : List (Pair Record Outcome)) (following : List (Record × Record)) → answer.BadCheckpoint ≡ audit_status limit ending legal following → ⊥
 not_bad limit End legal [] e = cc
 not_bad limit (Torn n) legal [] e = cc
 not_bad limit TooLong legal [] e = cc
 not_bad limit ending legal (bad ∷ more) e = cc
 
-not_other : (limit : ℕ) (ending : Ending) (legal : List (Pair Record Outcome)) (behind : List (Record × Record)) → answer.NotFlow ≡ audit_status limit ending legal behind → ⊥
+not_other : (limit : ℕ) (ending : Ending) (legal : List (Pair Record Outcome)) (following : List (Record × Record)) → answer.NotFlow ≡ audit_status limit ending legal following → ⊥
 not_other limit End legal [] e = cc
 not_other limit (Torn n) legal [] e = cc
 not_other limit TooLong legal [] e = cc
@@ -38,9 +38,9 @@ not_other limit ending legal (bad ∷ more) e = cc
 
 -- where no history begins, no checkpoint and no magic of a journal is first
 no_checkpoint : (bytes : List ℕ) → BeginsWithNone starts bytes → BeginsWithNoCheckpoint bytes
-no_checkpoint bytes none market front rest is_one e =
-    let spelled = is_one.spelled in
-    none (Kept market) rest (rw spelled at is_one) (e ∙ ap (λ xs. xs ++ rest) spelled)
+no_checkpoint bytes none market prefix rest is_one e =
+    let encoded = is_one.encoded in
+    none (Kept market) rest (rw encoded at is_one) (e ∙ ap (λ xs. xs ++ rest) encoded)
 
 no_journal : (bytes : List ℕ) → BeginsWithNone starts bytes → BeginsWithNone journals.magics bytes
 no_journal bytes none version rest lawful e = none (Empty version) rest tt e
@@ -54,7 +54,7 @@ unsound : (bytes : List ℕ) → HasCheckpointMagic bytes → BeginsWithNoCheckp
 unsound bytes magic none = (unstarted bytes (λ version rest lawful e. other_magics version bytes rest e magic) none, magic)
 
 otherwise : (bytes : List ℕ) → BeginsWithNone journals.magics bytes → (¬ HasCheckpointMagic bytes) → BeginsOtherwise bytes
-otherwise bytes none not = (unstarted bytes none (λ market front rest is_one e. not (kept_magic market bytes rest (e ∙ ap (λ xs. xs ++ rest) is_one.spelled))), not)
+otherwise bytes none not = (unstarted bytes none (λ market prefix rest is_one e. not (kept_magic market bytes rest (e ∙ ap (λ xs. xs ++ rest) is_one.encoded))), not)
 
 -- a subcommand that judges a history by neither status
 module _ (judge : History → Status) (never_bad : (history : History) → answer.BadCheckpoint ≡ judge history → ⊥) (never_other : (history : History) → answer.NotFlow ≡ judge history → ⊥) (Writes : History → List ℕ → Type 0) (limit : ℕ) (bytes text : List ℕ) where
@@ -80,7 +80,7 @@ module _ (judge : History → Status) (never_bad : (history : History) → answe
 
 -- what each of these writes of a history
 abbrev explained : History → List ℕ → Type 0
-explained history text = Explains history.market history.legal history.behind (audit_text history) text
+explained history text = Explains history.market history.legal history.following (audit_text history) text
 
 abbrev reported : History → List ℕ → Type 0
 reported history text = AreReported (market_of history.start) 1 history.legal history.market text
@@ -90,10 +90,10 @@ checkpointed history text = text ≡ checkpoint_text history
 
 -- the statuses of a history, and those of a statement, which may also miss the account
 audit_bad : (limit : ℕ) (history : History) → answer.BadCheckpoint ≡ history_status limit history → ⊥
-audit_bad limit history = not_bad limit history.ending history.legal history.behind
+audit_bad limit history = not_bad limit history.ending history.legal history.following
 
 audit_other : (limit : ℕ) (history : History) → answer.NotFlow ≡ history_status limit history → ⊥
-audit_other limit history = not_other limit history.ending history.legal history.behind
+audit_other limit history = not_other limit history.ending history.legal history.following
 
 bad_there : (account : ℕ) (b : Bool) → answer.BadCheckpoint ≡ (if b then answer.Done else answer.NoAccount account) → ⊥
 bad_there account true e = cc
@@ -103,13 +103,13 @@ other_there : (account : ℕ) (b : Bool) → answer.NotFlow ≡ (if b then answe
 other_there account true e = cc
 other_there account false e = cc
 
-statement_bad : (account limit : ℕ) (b : Bool) (ending : Ending) (legal : List (Pair Record Outcome)) (behind : List (Record × Record)) → answer.BadCheckpoint ≡ if_whole behind ending (if b then answer.Done else answer.NoAccount account) (audit_status limit ending legal behind) → ⊥
+statement_bad : (account limit : ℕ) (b : Bool) (ending : Ending) (legal : List (Pair Record Outcome)) (following : List (Record × Record)) → answer.BadCheckpoint ≡ if_whole following ending (if b then answer.Done else answer.NoAccount account) (audit_status limit ending legal following) → ⊥
 statement_bad account limit b End legal [] e = bad_there account b e
 statement_bad account limit b (Torn n) legal [] e = cc
 statement_bad account limit b TooLong legal [] e = cc
 statement_bad account limit b ending legal (bad ∷ more) e = cc
 
-statement_other : (account limit : ℕ) (b : Bool) (ending : Ending) (legal : List (Pair Record Outcome)) (behind : List (Record × Record)) → answer.NotFlow ≡ if_whole behind ending (if b then answer.Done else answer.NoAccount account) (audit_status limit ending legal behind) → ⊥
+statement_other : (account limit : ℕ) (b : Bool) (ending : Ending) (legal : List (Pair Record Outcome)) (following : List (Record × Record)) → answer.NotFlow ≡ if_whole following ending (if b then answer.Done else answer.NoAccount account) (audit_status limit ending legal following) → ⊥
 statement_other account limit b End legal [] e = other_there account b e
 statement_other account limit b (Torn n) legal [] e = cc
 statement_other account limit b TooLong legal [] e = cc
@@ -122,7 +122,7 @@ bad_is_unsound = record {
   report = record { bad = λ limit. bad (history_status limit) (audit_bad limit) (audit_other limit) reported limit; not_flow = λ limit. not_flow (history_status limit) (audit_bad limit) (audit_other limit) reported limit };
   checkpoint = record { bad = λ limit. bad (history_status limit) (audit_bad limit) (audit_other limit) checkpointed limit; not_flow = λ limit. not_flow (history_status limit) (audit_bad limit) (audit_other limit) checkpointed limit };
   statement = λ account. record {
-    bad = λ limit. bad (statement_status account limit) (λ h. statement_bad account limit (is_there h.market account) h.ending h.legal h.behind) (λ h. statement_other account limit (is_there h.market account) h.ending h.legal h.behind) (States account) limit;
-    not_flow = λ limit. not_flow (statement_status account limit) (λ h. statement_bad account limit (is_there h.market account) h.ending h.legal h.behind) (λ h. statement_other account limit (is_there h.market account) h.ending h.legal h.behind) (States account) limit;
+    bad = λ limit. bad (statement_status account limit) (λ h. statement_bad account limit (is_there h.market account) h.ending h.legal h.following) (λ h. statement_other account limit (is_there h.market account) h.ending h.legal h.following) (States account) limit;
+    not_flow = λ limit. not_flow (statement_status account limit) (λ h. statement_bad account limit (is_there h.market account) h.ending h.legal h.following) (λ h. statement_other account limit (is_there h.market account) h.ending h.legal h.following) (States account) limit;
   };
 }

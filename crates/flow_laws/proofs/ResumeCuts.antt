@@ -1,7 +1,7 @@
 -- What a resumption results in for first bytes if more follow: nothing, or the entries of the first new records.
 use Rattle.std.proofs.Common.{◌≡◌, ◌<◌, ◌⊎◌, ℕ, List, [], ◌∷◌, ◌++◌, length, take, drop, inl, inr, append_assoc, refl, sym, ap, subst, ◌∙◌}
 use Rattle.std.proofs.lemmas.List.{take-append-drop, take_at}
-use Rattle.wire_records.specs.Grammars.{spell_all}
+use Rattle.wire_records.specs.Grammars.{encode_all}
 use Rattle.wire_records.specs.Formats.{commands, command_magic_of}
 use Rattle.market_rules.specs.Market.{Market}
 use Rattle.word_driver.specs.Ended.{Ended}
@@ -12,19 +12,19 @@ use Rattle.session_resume.specs.Rests.{Rest, Cut, Nothing, Commands, Other, IsRe
 use Rattle.session_resume.specs.Resuming.{FirstComesTo, Resumes, ResumesInto}
 use Rattle.flow_exchange.specs.declared.form.Form.TheVariants.{Resume}
 use Rattle.flow_exchange.specs.Program.{ComesToIfMore}
-use Rattle.flow_exchange.proofs.ResumeForm.{front_of}
+use Rattle.flow_exchange.proofs.ResumeForm.{prefix_of}
 
 module _ (More : Type 0) (first later : List ℕ) (ended : Ended Unfit) (text : List ℕ) where
-  by_rest : (origin : Origin) (market : Market) (place : ℕ) (rest : List ℕ) → IsFirst first (Whole origin market place rest) → (behind : Rest) → IsRest market.version More rest behind → RestComesTo origin market More place rest behind ended text → (text ≡ []) ⊎ ResumesInto (first ++ later) text
+  by_rest : (origin : Origin) (market : Market) (place : ℕ) (rest : List ℕ) → IsFirst first (Whole origin market place rest) → (following : Rest) → IsRest market.version More rest following → RestComesTo origin market More place rest following ended text → (text ≡ []) ⊎ ResumesInto (first ++ later) text
   by_rest origin market place rest stands Cut is comes = inl comes.1
   by_rest origin market place rest stands Nothing is comes = inl comes.1
   by_rest origin market place rest stands Other is comes = inl comes.1
   by_rest origin market place rest stands (Commands body) is serves =
       let magic = command_magic_of market.version in
-      let spelled = spell_all commands.units serves.records in
-      let has = front_of first origin market place rest stands in
-      let whole : first ++ later ≡ has.front ++ (magic ++ (body ++ later)) =
-      ap (λ xs. xs ++ later) (has.whole ∙ ap (λ xs. has.front ++ xs) is) ∙ append_assoc has.front (magic ++ body) later ∙ ap (λ xs. has.front ++ xs) (append_assoc magic body later)
+      let encoded = encode_all commands.units serves.records in
+      let has = prefix_of first origin market place rest stands in
+      let whole : first ++ later ≡ has.prefix ++ (magic ++ (body ++ later)) =
+      ap (λ xs. xs ++ later) (has.whole ∙ ap (λ xs. has.prefix ++ xs) is) ∙ append_assoc has.prefix (magic ++ body) later ∙ ap (λ xs. has.prefix ++ xs) (append_assoc magic body later)
       in
       inr (record {
         records = serves.records;
@@ -38,7 +38,7 @@ module _ (More : Type 0) (first later : List ℕ) (ended : Ended Unfit) (text : 
           body = body ++ later;
           stands = subst (λ (xs : List ℕ). IsFirst xs (Whole origin market place (magic ++ (body ++ later)))) (sym whole) (has.stands (body ++ later));
           magic = refl;
-          whole = ap (λ xs. xs ++ later) serves.reads.whole ∙ append_assoc spelled serves.reads.rest later;
+          whole = ap (λ xs. xs ++ later) serves.reads.whole ∙ append_assoc encoded serves.reads.rest later;
           each = serves.reads.each;
           writes = serves.writes;
         };

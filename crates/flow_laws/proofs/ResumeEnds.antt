@@ -6,14 +6,14 @@ use Rattle.std.proofs.lemmas.List.{take_all}
 use Rattle.std.specs.List.{flat_map}
 use Rattle.wire_records.specs.Records.{Record}
 use Rattle.wire_records.specs.Commands.{Pair}
-use Rattle.wire_records.specs.Grammars.{spell_all}
+use Rattle.wire_records.specs.Grammars.{encode_all}
 use Rattle.wire_records.specs.Reading.{Ending, End, Torn, TooLong}
 use Rattle.wire_records.specs.Formats.{commands, command_magic_of}
 use Rattle.wire_records.proofs.ReadingLaws.{none_in_none}
 use Rattle.wire_records.proofs.RecordCode.{commands_readable}
 use Rattle.flow_orders.specs.Outcomes.{Outcome}
-use Rattle.journal_records.specs.Pairs.{pair_spelling}
-use Rattle.journal_records.proofs.PairFronts.{none_over}
+use Rattle.journal_records.specs.Pairs.{pair_encoding}
+use Rattle.journal_records.proofs.PairPrefixes.{none_over}
 use Rattle.market_rules.specs.Market.{Market}
 use Rattle.word_driver.specs.Ended.{Ended}
 use Rattle.word_driver.specs.declared.fault.Fault.TheVariants as fault
@@ -87,10 +87,10 @@ is_no_flow limit (Err (fault.Stopped unfit.NoCheckpoint)) e = absurd cc
 -- ---- a complete input
 
 -- what follows what is resumed from, and what is written for that
-record Behind (market : Market) (More : Type 0) (rest text : List ℕ) : Type 0 where
+record After (market : Market) (More : Type 0) (rest text : List ℕ) : Type 0 where
   records : List Record
   new : Market
-  is : ((rest ≡ []) × (records ≡ [])) ⊎ ((rest ≡ command_magic_of market.version ++ spell_all commands.units records) × All commands.units.IsLawful records)
+  is : ((rest ≡ []) × (records ≡ [])) ⊎ ((rest ≡ command_magic_of market.version ++ encode_all commands.units records) × All commands.units.IsLawful records)
   no_more : ¬ More
   continues : Continues market records new text
 
@@ -100,14 +100,14 @@ is_end (Torn n) e = absurd cc
 is_end TooLong e = absurd cc
 
 module _ (kind : Origin) (market : Market) (More : Type 0) (place : ℕ) (rest : List ℕ) where
-  served : (body text : List ℕ) → rest ≡ command_magic_of market.version ++ body → (serves : ServesAll market More (place + 8) body (Ok tt) text) → Behind market More rest text
+  served : (body text : List ℕ) → rest ≡ command_magic_of market.version ++ body → (serves : ServesAll market More (place + 8) body (Ok tt) text) → After market More rest text
   served body text magic serves =
       let last = is_end serves.ending serves.ends in
       let ends = rw last at serves.reads.ends in
       record {
         records = serves.records;
         new = serves.new;
-        is = inr (magic ∙ ap (λ xs. command_magic_of market.version ++ xs) (serves.reads.whole ∙ ap (λ xs. spell_all commands.units serves.records ++ xs) ends.2 ∙ append-nil (spell_all commands.units serves.records)), serves.reads.each);
+        is = inr (magic ∙ ap (λ xs. command_magic_of market.version ++ xs) (serves.reads.whole ∙ ap (λ xs. encode_all commands.units serves.records ++ xs) ends.2 ∙ append-nil (encode_all commands.units serves.records)), serves.reads.each);
         no_more = ends.1;
         continues = serves.writes;
       }
@@ -116,17 +116,17 @@ module _ (kind : Origin) (market : Market) (More : Type 0) (place : ℕ) (rest :
   no_file Journal some (ending, ends, is) = let last = is_end ending is in some (rw last at ends).2
   no_file Checkpoint some is = cc
 
-  behind : (what : Rest) (text : List ℕ) → IsRest market.version More rest what → RestComesTo kind market More place rest what (Ok tt) text → Behind market More rest text
-  behind Cut text is comes = absurd (let no = comes.0 in cc)
-  behind Nothing text is comes = record {
+  following : (what : Rest) (text : List ℕ) → IsRest market.version More rest what → RestComesTo kind market More place rest what (Ok tt) text → After market More rest text
+  following Cut text is comes = absurd (let no = comes.0 in cc)
+  following Nothing text is comes = record {
     records = [];
     new = market;
     is = inl (is.0, refl);
     no_more = is.1;
     continues = subst (Continues market [] market) (sym comes.1) (none_continues market);
   }
-  behind (Commands body) text is comes = served body text is comes
-  behind Other text is comes = absurd (no_file kind is.1 comes.0)
+  following (Commands body) text is comes = served body text is comes
+  following Other text is comes = absurd (no_file kind is.1 comes.0)
 
 not_more : (limit n : ℕ) → (¬ (limit < n)) → n ≤ limit
 not_more limit n none = elim (cases_lt limit n) [ inl more ↦ absurd (none more) | inr not ↦ not ]
@@ -135,23 +135,23 @@ module _ (limit : ℕ) (bytes : List ℕ) where
   abbrev More : Type 0
   More = limit < length bytes
 
-  abbrev front : List ℕ
-  front = take limit bytes
+  abbrev prefix : List ℕ
+  prefix = take limit bytes
 
   abbrev WholeInput : List ℕ → Type 0
   WholeInput text = (market : Market) × (records : List Record) × (new : Market) × IsWholeInput limit bytes market records × Continues market records new text
 
-  done_first : (text : List ℕ) (first : First) → IsFirst front first → FirstComesTo More first (Ok tt) text → WholeInput text
+  done_first : (text : List ℕ) (first : First) → IsFirst prefix first → FirstComesTo More first (Ok tt) text → WholeInput text
   done_first text Neither stands comes = absurd (let no = comes.0 in cc)
   done_first text NoCheckpoint stands comes = absurd (elim comes.0 [ inl long ↦ (let no = long.1 in cc) | inr bad ↦ (let no = bad.1 in cc) ])
   done_first text (Illegal number) stands comes = absurd (let no = comes.0 in cc)
   done_first text (Whole kind market place rest) stands comes =
-      let after = behind kind market More place rest comes.0 text comes.1 comes.2 in
+      let after = following kind market More place rest comes.0 text comes.1 comes.2 in
       let within = not_more limit (length bytes) after.no_more in (
         market,
         after.records,
         after.new,
-        record { origin = kind; place = place; rest = rest; within = within; first = subst (λ (xs : List ℕ). IsFirst xs (Whole kind market place rest)) (take_all limit bytes within) stands; behind = after.is },
+        record { origin = kind; place = place; rest = rest; within = within; first = subst (λ (xs : List ℕ). IsFirst xs (Whole kind market place rest)) (take_all limit bytes within) stands; following = after.is },
         after.continues,
       )
 
@@ -160,24 +160,24 @@ module _ (limit : ℕ) (bytes : List ℕ) where
 
   -- nothing is written for no records
   nothing : (market new : Market) (records : List Record) (text : List ℕ) → records ≡ [] → Continues market records new text → text ≡ []
-  nothing market new records text none writes = writes.spelled ∙ ap (flat_map pair_spelling) (no_pairs writes.pairs (writes.answered.asked ∙ none))
+  nothing market new records text none writes = writes.encoded ∙ ap (flat_map pair_encoding) (no_pairs writes.pairs (writes.answered.asked ∙ none))
     where
       no_pairs : (pairs : List (Pair Record Outcome)) → map (λ (pair : Pair Record Outcome). pair.asked) pairs ≡ [] → pairs ≡ []
       no_pairs [] e = refl
       no_pairs (pair ∷ pairs) e = absurd cc
 
-  whole_behind : (kind : Origin) (market new : Market) (records : List Record) (place : ℕ) (rest text : List ℕ) → (¬ More)
-      → ((rest ≡ []) × (records ≡ [])) ⊎ ((rest ≡ command_magic_of market.version ++ spell_all commands.units records) × All commands.units.IsLawful records)
+  whole_after : (kind : Origin) (market new : Market) (records : List Record) (place : ℕ) (rest text : List ℕ) → (¬ More)
+      → ((rest ≡ []) × (records ≡ [])) ⊎ ((rest ≡ command_magic_of market.version ++ encode_all commands.units records) × All commands.units.IsLawful records)
       → Continues market records new text → FirstComesTo More (Whole kind market place rest) (Ok tt) text
-  whole_behind kind market new records place rest text no_more (inl none) writes = (Nothing, (none.0, no_more), (refl, nothing market new records text none.1 writes))
-  whole_behind kind market new records place rest text no_more (inr file) writes = (
-    Commands (spell_all commands.units records),
+  whole_after kind market new records place rest text no_more (inl none) writes = (Nothing, (none.0, no_more), (refl, nothing market new records text none.1 writes))
+  whole_after kind market new records place rest text no_more (inr file) writes = (
+    Commands (encode_all commands.units records),
     file.0,
     record {
       records = records;
       ending = End;
       new = new;
-      reads = record { rest = []; whole = sym (append-nil (spell_all commands.units records)); each = file.1; none = none_in_none commands.units commands_readable.units; ends = (none_over 1024 [] refl, no_more, refl) };
+      reads = record { rest = []; whole = sym (append-nil (encode_all commands.units records)); each = file.1; none = none_in_none commands.units commands_readable.units; ends = (none_over 1024 [] refl, no_more, refl) };
       ends = refl;
       writes = writes;
     },
@@ -189,7 +189,7 @@ module _ (limit : ℕ) (bytes : List ℕ) where
     record {
       first = Whole input.origin market input.place input.rest;
       stands = subst (λ (xs : List ℕ). IsFirst xs (Whole input.origin market input.place input.rest)) (sym (take_all limit bytes input.within)) input.first;
-      comes = whole_behind input.origin market new records input.place input.rest text (λ more. omega (arith, more, input.within)) input.behind writes;
+      comes = whole_after input.origin market new records input.place input.rest text (λ more. omega (arith, more, input.within)) input.following writes;
     },
     refl,
   )
@@ -222,22 +222,22 @@ module _ (limit : ℕ) (bytes : List ℕ) where
   flows (inr (inl long)) = cc
   flows (inr (inr torn)) = let no = torn.1 in cc
 
-  illegal_first : (number : ℕ) (text : List ℕ) (first : First) → IsFirst front first → FirstComesTo More first (why_of (unfit.Illegal number)) text → IsFirst front (Illegal number) × (text ≡ [])
+  illegal_first : (number : ℕ) (text : List ℕ) (first : First) → IsFirst prefix first → FirstComesTo More first (why_of (unfit.Illegal number)) text → IsFirst prefix (Illegal number) × (text ≡ [])
   illegal_first number text Neither stands comes = absurd (let no = comes.0 in cc)
   illegal_first number text NoCheckpoint stands comes = absurd (elim comes.0 [ inl long ↦ (let no = long.1 in cc) | inr bad ↦ (let no = bad.1 in cc) ])
   illegal_first number text (Illegal other) stands comes =
       let e = comes.0 in
       let same : number ≡ other = cc in
-      (subst (λ (k : ℕ). IsFirst front (Illegal k)) (sym same) stands, comes.1)
+      (subst (λ (k : ℕ). IsFirst prefix (Illegal k)) (sym same) stands, comes.1)
   illegal_first number text (Whole kind market place rest) stands comes = absurd (stops_not (unfit.Illegal number) (through kind market place rest comes.0 (why_of (unfit.Illegal number)) text comes.2))
 
-  bad_first : (text : List ℕ) (first : First) → IsFirst front first → FirstComesTo More first (why_of unfit.NoCheckpoint) text → IsFirst front NoCheckpoint × (¬ More) × (text ≡ [])
+  bad_first : (text : List ℕ) (first : First) → IsFirst prefix first → FirstComesTo More first (why_of unfit.NoCheckpoint) text → IsFirst prefix NoCheckpoint × (¬ More) × (text ≡ [])
   bad_first text Neither stands comes = absurd (let no = comes.0 in cc)
   bad_first text NoCheckpoint stands comes = elim comes.0 [ inl long ↦ absurd (let no = long.1 in cc) | inr bad ↦ (stands, bad.0, comes.1) ]
   bad_first text (Illegal other) stands comes = absurd (let no = comes.0 in cc)
   bad_first text (Whole kind market place rest) stands comes = absurd (stops_not unfit.NoCheckpoint (through kind market place rest comes.0 (why_of unfit.NoCheckpoint) text comes.2))
 
-  no_flow_first : (text : List ℕ) (first : First) → IsFirst front first → FirstComesTo More first no_flow text → IsFirst front Neither × (text ≡ [])
+  no_flow_first : (text : List ℕ) (first : First) → IsFirst prefix first → FirstComesTo More first no_flow text → IsFirst prefix Neither × (text ≡ [])
   no_flow_first text Neither stands comes = (stands, comes.1)
   no_flow_first text NoCheckpoint stands comes = absurd (elim comes.0 [ inl long ↦ (let no = long.1 in cc) | inr bad ↦ (let no = bad.1 in cc) ])
   no_flow_first text (Illegal other) stands comes = absurd (let no = comes.0 in cc)
@@ -245,7 +245,7 @@ module _ (limit : ℕ) (bytes : List ℕ) where
 
   -- the end that a status comes from is that of the beginning of the input
   told : (status : Status) (text : List ℕ) (end : Ended Unfit) (Claim : Type 0) → ((ended : Ended Unfit) → status ≡ ended_status limit unfit_status ended → ended ≡ end)
-      → ((first : First) → IsFirst front first → FirstComesTo More first end text → Claim) → ResumesTo limit bytes status text → Claim
+      → ((first : First) → IsFirst prefix first → FirstComesTo More first end text → Claim) → ResumesTo limit bytes status text → Claim
   told status text end Claim is_end claims (ended, all, is) =
       claims all.first all.stands (subst (λ (e : Ended Unfit). FirstComesTo More all.first e text) (is_end ended is) all.comes)
 

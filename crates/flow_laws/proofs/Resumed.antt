@@ -40,7 +40,7 @@ use Rattle.flow_laws.proofs.GoingOn.{one_journal, canonical_journal, same_journa
 
 -- no records are answered
 pub none_continues : (market : Market) → Continues market [] market []
-none_continues market = record { pairs = []; answered = record { asked = refl; steps = refl }; fits = λ few. All-nil IsPair; spelled = refl }
+none_continues market = record { pairs = []; answered = record { asked = refl; steps = refl }; fits = λ few. All-nil IsPair; encoded = refl }
 
 none : (market : Market) (rest text : List ℕ) → ((body : List ℕ) → rest ≢ command_magic_of market.version ++ body) → text ≡ [] → GoesOn market rest text
 none market rest text no_file empty = record { records = []; new = market; are_new = inr (no_file, refl); continues = subst (Continues market [] market) (sym empty) (none_continues market) }
@@ -49,7 +49,7 @@ few_bytes : (version : Version) (rest body : List ℕ) → length rest < 8 → r
 few_bytes version rest body few magic = omega (arith, few, ap length magic, length-append (command_magic_of version) body, eight version)
 
 module _ (kind : Origin) (market : Market) (More : Type 0) (place : ℕ) (rest : List ℕ) where
-  goes : (behind : Rest) (ended : Ended Unfit) (text : List ℕ) → IsRest market.version More rest behind → RestComesTo kind market More place rest behind ended text → GoesOn market rest text
+  goes : (following : Rest) (ended : Ended Unfit) (text : List ℕ) → IsRest market.version More rest following → RestComesTo kind market More place rest following ended text → GoesOn market rest text
   goes Cut ended text is comes = none market rest text (λ body. few_bytes market.version rest body is.0) comes.1
   goes Nothing ended text is comes = none market rest text (λ body. few_bytes market.version rest body (rw is.0 (omega arith))) comes.1
   goes (Commands body) ended text is comes = record {

@@ -1,16 +1,16 @@
 -- What a run writes is a valid journal, of which an audit is done.
 use Rattle.std.proofs.Common.{◌≡◌, ◌≢◌, ◌+◌, ◌*◌, ◌^◌, ◌<◌, ◌≤◌, ℕ, List, [], ◌∷◌, length, inl, inr, ap, length-append, arith}
 use Rattle.std.specs.List.{flat_map}
-use Rattle.wire_records.specs.Records.{Record, spelling}
+use Rattle.wire_records.specs.Records.{Record, encoding}
 use Rattle.wire_records.specs.Commands.{Pair}
 use Rattle.wire_records.specs.Versions.{IsReadAs}
 use Rattle.wire_records.specs.Reading.{Reading, NotFlow, File}
 use Rattle.wire_records.specs.declared.version.Version.{Version}
-use Rattle.wire_records.proofs.Spelled.{length-spelling}
+use Rattle.wire_records.proofs.Encoded.{length-encoding}
 use Rattle.flow_orders.specs.Outcomes.{Outcome}
 use Rattle.canonical_rule.specs.Canonical.{IsCanonicalOutcome}
 use Rattle.journal_records.specs.Replies.{answer_record}
-use Rattle.journal_records.specs.Pairs.{pair_spelling}
+use Rattle.journal_records.specs.Pairs.{pair_encoding}
 use Rattle.journal_records.specs.Formats.{journal_magic_of}
 use Rattle.market_rules.specs.Market.{Market, empty_market}
 use Rattle.market_rules.specs.Journal.{Follows}
@@ -31,16 +31,16 @@ use Rattle.flow_laws.specs.Laws.{RunsAreAudited}
 use Rattle.flow_laws.proofs.AuditLaws.{done_for_legal}
 
 -- an entry takes at least ten bytes
-pair_long : (pair : Pair Record Outcome) → 10 ≤ length (pair_spelling pair)
-unfolding pair_spelling
-pair_long pair = omega (arith, length-append (spelling pair.asked) (spelling (answer_record pair.answer)), length-spelling pair.asked, length-spelling (answer_record pair.answer))
+pair_long : (pair : Pair Record Outcome) → 10 ≤ length (pair_encoding pair)
+unfolding pair_encoding
+pair_long pair = omega (arith, length-append (encoding pair.asked) (encoding (answer_record pair.answer)), length-encoding pair.asked, length-encoding (answer_record pair.answer))
 
-pub pairs_long : (pairs : List (Pair Record Outcome)) → 10 * length pairs ≤ length (flat_map pair_spelling pairs)
+pub pairs_long : (pairs : List (Pair Record Outcome)) → 10 * length pairs ≤ length (flat_map pair_encoding pairs)
 pairs_long [] = omega arith
-pairs_long (pair ∷ pairs) = omega (arith, pair_long pair, pairs_long pairs, length-append (pair_spelling pair) (flat_map pair_spelling pairs))
+pairs_long (pair ∷ pairs) = omega (arith, pair_long pair, pairs_long pairs, length-append (pair_encoding pair) (flat_map pair_encoding pairs))
 
 -- entries are at most as many as their bytes
-pub pairs_short : (pairs : List (Pair Record Outcome)) → length pairs ≤ length (flat_map pair_spelling pairs)
+pub pairs_short : (pairs : List (Pair Record Outcome)) → length pairs ≤ length (flat_map pair_encoding pairs)
 pairs_short pairs = omega (arith, pairs_long pairs)
 
 pub orders_few : (old new : Market) (pairs : List (Pair Record Outcome)) → Follows IsReadAs IsCanonicalOutcome old pairs new → new.next_order ≤ old.next_order + length pairs
@@ -51,8 +51,8 @@ orders_few old new (pair ∷ pairs) (between, step, follows) =
 numbers_fit : (most : ℕ) (version : Version) (records : List Record) (market : Market) (text : List ℕ) (writes : Journals version records market text) → most < 2 ^ 64 → length text ≤ most → market.next_order < 2 ^ 64
 numbers_fit most version records market text writes wide within =
     let few = orders_few (empty_market version) market writes.pairs writes.journal_of.steps in
-    let long = length-append (journal_magic_of version) (flat_map pair_spelling writes.pairs) in
-    omega (arith, few, pairs_short writes.pairs, ap length writes.spelled, long, eight version, wide, within)
+    let long = length-append (journal_magic_of version) (flat_map pair_encoding writes.pairs) in
+    omega (arith, few, pairs_short writes.pairs, ap length writes.encoded, long, eight version, wide, within)
 
 pub journal : (most : ℕ) (version : Version) (records : List Record) (market : Market) (text : List ℕ) (writes : Journals version records market text)
     → most < 2 ^ 64 → length text ≤ most → IsLegalJournal version writes.pairs market × ComesTo Audit most text answer.Done (legal_line writes.pairs)
@@ -61,7 +61,7 @@ journal most version records market text writes wide within =
       each = writes.fits (numbers_fit most version records market text writes wide within);
       steps = (canonical_journals_are_legal version records writes.pairs market writes.journal_of).steps;
     } in
-    (legal, done_for_legal.done most text version writes.pairs market (record { journal = legal; spelled = writes.spelled; within = within }))
+    (legal, done_for_legal.done most text version writes.pairs market (record { journal = legal; encoded = writes.encoded; within = within }))
 
 -- an audit of a run's journal is done, with some line
 audited : (most : ℕ) (version : Version) (records : List Record) (market : Market) (text : List ℕ) → Journals version records market text

@@ -1,13 +1,13 @@
 -- A sample's file is run and its journal audited, and there is some line on it.
 use Rattle.std.proofs.Common.{◌≡◌, ◌+◌, ◌*◌, ◌≤◌, ℕ, List, [], ◌∷◌, map, length, refl, sym, ap, ◌∙◌, length-append, arith}
 use Rattle.std.proofs.lemmas.List.{length-map}
-use Rattle.wire_records.specs.Records.{Record, spelling}
+use Rattle.wire_records.specs.Records.{Record, encoding}
 use Rattle.wire_records.specs.Formats.{command_magic_of}
 use Rattle.wire_records.specs.Commands.{Command, Pair}
 use Rattle.wire_records.specs.CommandRecords.{record_of}
 use Rattle.wire_records.specs.Reading.{File, End}
 use Rattle.wire_records.specs.declared.version.Version.TheVariants.{One}
-use Rattle.wire_records.proofs.Spelled.{length-spelling}
+use Rattle.wire_records.proofs.Encoded.{length-encoding}
 use Rattle.flow_orders.specs.Outcomes.{Outcome}
 use Rattle.market_rules.specs.Market.{empty_market}
 use Rattle.canonical_journals.proofs.LawProofs.{canonical_journals_are_legal}
@@ -15,7 +15,7 @@ use Rattle.journal_replay.specs.Audits.{cleared_in, skipped_in}
 use Rattle.word_driver.proofs.SomeEnds.{some_end}
 use Rattle.exchange_session.specs.Running.{run}
 use Rattle.exchange_session.proofs.RunLaws.{run_is_exact, run_is_kept, run_has_next}
-use Rattle.sample_market.specs.Files.{sample, spell_commands, sample_file}
+use Rattle.sample_market.specs.Files.{sample, encode_commands, sample_file}
 use Rattle.sample_market.proofs.LawProofs.{samples_are_read}
 use Rattle.sample_market.proofs.Short.{samples_are_short}
 use Rattle.sample_summary.specs.Summary.{units_in, summary_line}
@@ -38,18 +38,18 @@ samples_are_run number orders limit most bytes line status comes within =
       pairs = pairs;
       journal = sum.journal;
       run = record { reading = File One (map record_of (sample number orders)) End; reads = samples_are_read most number orders within; ends = refl; writes = (sum.market, sum.writes) };
-      audit = λ fits. done_for_legal.done most sum.journal One pairs sum.market (record { journal = sum.legal; spelled = sum.writes.spelled; within = fits });
+      audit = λ fits. done_for_legal.done most sum.journal One pairs sum.market (record { journal = sum.legal; encoded = sum.writes.encoded; within = fits });
       told = sum.told;
     }
 
 -- commands are at most as many as their bytes
-commands_few : (commands : List Command) → length commands ≤ length (spell_commands commands)
+commands_few : (commands : List Command) → length commands ≤ length (encode_commands commands)
 commands_few [] = omega arith
-commands_few (c ∷ commands) = omega (arith, length-append (spelling (record_of c)) (spell_commands commands), length-spelling (record_of c), commands_few commands)
+commands_few (c ∷ commands) = omega (arith, length-append (encoding (record_of c)) (encode_commands commands), length-encoding (record_of c), commands_few commands)
 
 sample_few : (number orders : ℕ) → length (sample number orders) ≤ 11284 + 56 * orders
 unfolding sample_file
-sample_few number orders = omega (arith, samples_are_short number orders, commands_few (sample number orders), length-append (command_magic_of One) (spell_commands (sample number orders)))
+sample_few number orders = omega (arith, samples_are_short number orders, commands_few (sample number orders), length-append (command_magic_of One) (encode_commands (sample number orders)))
 
 pub some_sample : (number orders : ℕ) → orders ≤ 16384 → ((status : Status) (line : List ℕ) → ¬ SamplesTo number orders status line) → ⊥
 some_sample number orders few none =

@@ -9,7 +9,7 @@ use Rattle.wire_records.specs.Reading as reading
 use Rattle.wire_records.specs.declared.version.Version.{Version}
 use Rattle.flow_accounts.specs.Balances.{IsAccount}
 use Rattle.flow_orders.specs.Outcomes.{Outcome}
-use Rattle.journal_records.specs.Pairs.{pair_spelling}
+use Rattle.journal_records.specs.Pairs.{pair_encoding}
 use Rattle.market_rules.specs.Market.{Market, IsConsistent, empty_market}
 use Rattle.market_snapshot.specs.Checkpoints.{HasCheckpointMagic}
 use Rattle.market_history.specs.Histories.{Start, Empty, Kept, market_of}
@@ -30,7 +30,7 @@ use Rattle.flow_exchange.specs.Stating.{statement_status, States}
 use Rattle.flow_exchange.specs.Program.{ComesTo}
 use Rattle.flow_exchange.proofs.HistoryOf.{history_of, makes_by, consistent_start}
 use Rattle.flow_exchange.proofs.Outcomes.{one_end}
-use Rattle.flow_laws.specs.Laws.{SpellsHistory, SpellsLegal, StatementsOfHistories, StatementsOfLegalJournals, OneViewOneStatement, StatementsGoOn}
+use Rattle.flow_laws.specs.Laws.{EncodesHistory, EncodesLegal, StatementsOfHistories, StatementsOfLegalJournals, OneViewOneStatement, StatementsGoOn}
 use Rattle.flow_laws.proofs.AuditLaws.{all_made, to_end, from_end, journal_history}
 
 -- the status, by whether the account is there
@@ -42,19 +42,19 @@ abbrev text_there : List ℕ → Bool → List ℕ
 text_there text there = if there then text else []
 
 -- what a valid history results in
-made : (account limit : ℕ) (bytes : List ℕ) (start : Start) (pairs : List (Pair Record Outcome)) (market : Market) (view : List Event) → SpellsHistory limit bytes start pairs market → Sees account (market_of start) pairs view market
+made : (account limit : ℕ) (bytes : List ℕ) (start : Start) (pairs : List (Pair Record Outcome)) (market : Market) (view : List Event) → EncodesHistory limit bytes start pairs market → Sees account (market_of start) pairs view market
     → ComesTo (Statement account) limit bytes (by_there account (is_there market account)) (text_there (statement_from account (market_of start) view) (is_there market account))
 made account limit bytes start pairs market view so sees =
     makes_by (statement_status account limit) (States account) limit bytes (by_there account (is_there market account)) (text_there (statement_from account (market_of start) view) (is_there market account))
     (history_of start pairs market [] End) (from_end limit bytes start pairs market so) refl (record { view = view; sees = sees; writes = refl })
 
 -- where the account is there, and where it isn't
-made_there : (account limit : ℕ) (bytes : List ℕ) (start : Start) (pairs : List (Pair Record Outcome)) (market : Market) (view : List Event) → SpellsHistory limit bytes start pairs market → Sees account (market_of start) pairs view market
+made_there : (account limit : ℕ) (bytes : List ℕ) (start : Start) (pairs : List (Pair Record Outcome)) (market : Market) (view : List Event) → EncodesHistory limit bytes start pairs market → Sees account (market_of start) pairs view market
     → IsAccount market.balances account → ComesTo (Statement account) limit bytes answer.Done (statement_from account (market_of start) view)
 made_there account limit bytes start pairs market view so sees there =
     subst (λ (b : Bool). ComesTo (Statement account) limit bytes (by_there account b) (text_there (statement_from account (market_of start) view) b)) (there_is market account there) (made account limit bytes start pairs market view so sees)
 
-made_absent : (account limit : ℕ) (bytes : List ℕ) (start : Start) (pairs : List (Pair Record Outcome)) (market : Market) (view : List Event) → SpellsHistory limit bytes start pairs market → Sees account (market_of start) pairs view market
+made_absent : (account limit : ℕ) (bytes : List ℕ) (start : Start) (pairs : List (Pair Record Outcome)) (market : Market) (view : List Event) → EncodesHistory limit bytes start pairs market → Sees account (market_of start) pairs view market
     → (IsAccount market.balances account → ⊥) → ComesTo (Statement account) limit bytes (answer.NoAccount account) []
 made_absent account limit bytes start pairs market view so sees absent =
     let not_there = false_from_ne_true (is_there market account) (λ there. absent (is_account market account there)) in
@@ -63,8 +63,8 @@ made_absent account limit bytes start pairs market view so sees absent =
 -- ---- when they are done
 
 -- a status by whether the account is there is that of a history whose entries are all valid
-all_legal : (account limit number : ℕ) (m : Market) (ending : Ending) (pairs : List (Pair Record Outcome)) (behind : List (Record × Record)) (status : Status)
-    → (status ≡ answer.Done) ⊎ (status ≡ answer.NoAccount number) → status ≡ if_whole behind ending (by_there account (is_there m account)) (audit_status limit ending pairs behind) → (behind ≡ []) × (ending ≡ End)
+all_legal : (account limit number : ℕ) (m : Market) (ending : Ending) (pairs : List (Pair Record Outcome)) (following : List (Record × Record)) (status : Status)
+    → (status ≡ answer.Done) ⊎ (status ≡ answer.NoAccount number) → status ≡ if_whole following ending (by_there account (is_there m account)) (audit_status limit ending pairs following) → (following ≡ []) × (ending ≡ End)
 all_legal account limit number m End pairs [] status is e = (refl, refl)
 all_legal account limit number m (reading.Torn place) pairs [] status (inl is) e = absurd (let no : answer.Done ≡ answer.Torn place = sym is ∙ e in cc)
 all_legal account limit number m (reading.Torn place) pairs [] status (inr is) e = absurd (let no : answer.NoAccount number ≡ answer.Torn place = sym is ∙ e in cc)
@@ -83,15 +83,15 @@ absent_so account number false e = (refl, cc)
 
 -- a history whose entries are all valid
 legal_file : (account limit number : ℕ) (bytes : List ℕ) (status : Status) (text : List ℕ) (file : MakesOfHistory limit bytes (statement_status account limit) (States account) status text) → (status ≡ answer.Done) ⊎ (status ≡ answer.NoAccount number)
-    → SpellsHistory limit bytes file.history.start file.history.legal file.history.market
+    → EncodesHistory limit bytes file.history.start file.history.legal file.history.market
     × (status ≡ by_there account (is_there file.history.market account)) × (text ≡ text_there (statement_from account (market_of file.history.start) file.writes.view) (is_there file.history.market account))
 legal_file account limit number bytes status text file is =
     let h = file.history in
-    let all = all_legal account limit number h.market h.ending h.legal h.behind status is file.ends in
+    let all = all_legal account limit number h.market h.ending h.legal h.following status is file.ends in
     let whole = text_there (statement_from account (market_of h.start) file.writes.view) (is_there h.market account) in (
       to_end limit bytes h all file.is,
-      file.ends ∙ all_made h.behind h.ending (by_there account (is_there h.market account)) (audit_status limit h.ending h.legal h.behind) all,
-      file.writes.writes ∙ all_made h.behind h.ending whole (text_from account (market_of h.start) file.writes.view) all,
+      file.ends ∙ all_made h.following h.ending (by_there account (is_there h.market account)) (audit_status limit h.ending h.legal h.following) all,
+      file.writes.writes ∙ all_made h.following h.ending whole (text_from account (market_of h.start) file.writes.view) all,
     )
 
 pub statements_of_histories : StatementsOfHistories
@@ -137,17 +137,17 @@ statements_of_legal = record {
       of_journal account limit bytes text start pairs market view so sees there is not;
 }
   where
-    of_journal : (account limit : ℕ) (bytes text : List ℕ) (start : Start) (pairs : List (Pair Record Outcome)) (market : Market) (view : List Event) → SpellsHistory limit bytes start pairs market → Sees account (market_of start) pairs view market
+    of_journal : (account limit : ℕ) (bytes text : List ℕ) (start : Start) (pairs : List (Pair Record Outcome)) (market : Market) (view : List Event) → EncodesHistory limit bytes start pairs market → Sees account (market_of start) pairs view market
         → IsAccount market.balances account → text ≡ statement_from account (market_of start) view → (HasCheckpointMagic bytes → ⊥)
-        → (version : Version) × (pairs' : List (Pair Record Outcome)) × (market' : Market) × (view' : List Event) × SpellsLegal limit bytes version pairs' market' × Sees account (empty_market version) pairs' view' market' × IsAccount market'.balances account × (text ≡ statement view')
+        → (version : Version) × (pairs' : List (Pair Record Outcome)) × (market' : Market) × (view' : List Event) × EncodesLegal limit bytes version pairs' market' × Sees account (empty_market version) pairs' view' market' × IsAccount market'.balances account × (text ≡ statement view')
     of_journal account limit bytes text (Empty version) pairs market view so sees there is not =
-        (version, pairs, market, view, record { journal = record { each = so.legal.each; steps = so.legal.steps }; spelled = so.spelled; within = so.within }, sees, there, is ∙ journals_carry_nothing.whole account version view)
-    of_journal account limit bytes text (Kept kept) pairs market view so sees there is not = absurd (not (kept_magic kept bytes (flat_map pair_spelling pairs) so.spelled))
+        (version, pairs, market, view, record { journal = record { each = so.legal.each; steps = so.legal.steps }; encoded = so.encoded; within = so.within }, sees, there, is ∙ journals_carry_nothing.whole account version view)
+    of_journal account limit bytes text (Kept kept) pairs market view so sees there is not = absurd (not (kept_magic kept bytes (flat_map pair_encoding pairs) so.encoded))
 
 -- ---- one view, one statement
 
 one_of_histories : (account limit most : ℕ) (bytes others x y : List ℕ) (one other : Start) (pairs more : List (Pair Record Outcome)) (view : List Event) (m n : Market) (s t : Status)
-    → SpellsHistory limit bytes one pairs m → SpellsHistory most others other more n → IsHeld account (market_of other) (held_in account (market_of one))
+    → EncodesHistory limit bytes one pairs m → EncodesHistory most others other more n → IsHeld account (market_of other) (held_in account (market_of one))
     → Sees account (market_of one) pairs view m → Sees account (market_of other) more view n
     → ComesTo (Statement account) limit bytes s x → ComesTo (Statement account) most others t y → (s ≡ t) × (x ≡ y)
 one_of_histories account limit most bytes others x y one other pairs more view m n s t so so_too held sees sees_too a b =
@@ -181,7 +181,7 @@ one_view_one_statement = record {
 -- ---- a history that is cut in two
 
 module _ (account limit most within : ℕ) (whole first second : List ℕ) (start : Start) (pairs more : List (Pair Record Outcome)) (mid new : Market)
-    (all : SpellsHistory limit whole start (pairs ++ more) new) (before : SpellsHistory most first start pairs mid) (after : SpellsHistory within second (Kept mid) more new) where
+    (all : EncodesHistory limit whole start (pairs ++ more) new) (before : EncodesHistory most first start pairs mid) (after : EncodesHistory within second (Kept mid) more new) where
   v : (view : List Event) × Sees account (market_of start) pairs view mid
   v = one_view.some account (market_of start) pairs mid before.legal.steps
 
@@ -205,8 +205,8 @@ module _ (account limit most within : ℕ) (whole first second : List ℕ) (star
       by (inl is) = is_account new account is
       by (inr not) = absurd (true≢false (sym (there_is mid account there) ∙ all_stay w.0 (held_in account mid) (held.opened ∙ not)))
 
-  go_on : IsAccount mid.balances account → (front : List ℕ) × (carried : List ℕ) × (rest : List ℕ) × ComesTo (Statement account) most first answer.Done (front ++ carried)
-      × ComesTo (Statement account) within second answer.Done (carried ++ rest) × ComesTo (Statement account) limit whole answer.Done (front ++ rest)
+  go_on : IsAccount mid.balances account → (prefix : List ℕ) × (carried : List ℕ) × (rest : List ℕ) × ComesTo (Statement account) most first answer.Done (prefix ++ carried)
+      × ComesTo (Statement account) within second answer.Done (carried ++ rest) × ComesTo (Statement account) limit whole answer.Done (prefix ++ rest)
   go_on there =
       let at_end = on_there there in
       let parts = statements_join.whole account (market_of start) mid new pairs more v.0 w.0 consistent v.1 w.1 at_end in

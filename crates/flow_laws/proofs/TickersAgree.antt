@@ -4,7 +4,7 @@ use Rattle.std.proofs.lemmas.List.Elements.{All-head, All-tail}
 use Rattle.ticker_table.specs.Adding.{IsAddable}
 use Rattle.wire_records.specs.Records.{Record}
 use Rattle.wire_records.specs.Commands.{Command, AddAsset, RunBatch, Answer, Pair}
-use Rattle.wire_records.specs.CommandRecords.{record_of, IsCommand, Spells}
+use Rattle.wire_records.specs.CommandRecords.{record_of, IsCommand, Encodes}
 use Rattle.wire_records.specs.Versions.{IsOfVersion, IsReadAs}
 use Rattle.wire_records.specs.declared.version.Version.{Version}
 use Rattle.wire_records.specs.declared.reply.Refusal.{Refusal}
@@ -78,9 +78,9 @@ module _ (Rule : BatchRule) where
   served_tickers m command answer new served = answered_tickers m command served.first answer new served.refused served.answered
 
   -- a step of a command's record leaves the tickers that its line leaves
-  pub step_tickers : (m : Market) (command : Command) (asked : Record) (answer : Answer Outcome) (new : Market) → IsOfVersion m.version command → Spells command asked → Step IsReadAs Rule m asked answer new → Leaves m.tickers command new.tickers
-  step_tickers m command asked answer new of spells step =
-      let served = subst (λ (read : Result Command BodyFault). ServesRead Rule m read answer new) (command_read m.version command asked step.read of spells step.spelled) step.served in
+  pub step_tickers : (m : Market) (command : Command) (asked : Record) (answer : Answer Outcome) (new : Market) → IsOfVersion m.version command → Encodes command asked → Step IsReadAs Rule m asked answer new → Leaves m.tickers command new.tickers
+  step_tickers m command asked answer new of encodes step =
+      let served = subst (λ (read : Result Command BodyFault). ServesRead Rule m read answer new) (command_read m.version command asked step.read of encodes step.encoded) step.served in
       served_tickers m command answer new served
 
   -- equal lists have the same first record and the same rest
@@ -95,7 +95,7 @@ module _ (Rule : BatchRule) where
   steps_tickers version (command ∷ commands) after m market [] of leaves fit own asked steps = absurd cc
   steps_tickers version (command ∷ commands) after m market (pair ∷ pairs) of leaves fit own asked steps =
       let both = heads pair.asked (record_of command) (map (λ (p : Pair Record Outcome). p.asked) pairs) (map record_of commands) asked in
-      let left = step_tickers m command pair.asked pair.answer steps.0 (subst (λ (v : Version). IsOfVersion v command) (sym of) (All-head (IsOfVersion version) command commands own)) (record { fits = All-head IsCommand command commands fit; spelled = both.0 }) steps.1 in
+      let left = step_tickers m command pair.asked pair.answer steps.0 (subst (λ (v : Version). IsOfVersion v command) (sym of) (All-head (IsOfVersion version) command commands own)) (record { fits = All-head IsCommand command commands fit; encoded = both.0 }) steps.1 in
       let same : leaves.0 ≡ steps.0.tickers = one_table m.tickers (command ∷ []) leaves.0 steps.0.tickers (leaves.0, leaves.1, refl) (steps.0.tickers, left, refl) in
       steps_tickers version commands after steps.0 market pairs (step_version Rule IsReadAs m pair.asked pair.answer steps.0 steps.1 ∙ of) (subst (λ tickers. Leave tickers commands after) same leaves.2) (All-tail IsCommand command commands fit) (All-tail (IsOfVersion version) command commands own) both.1 steps.2
 

@@ -5,12 +5,12 @@ use Rattle.wire_records.specs.Commands.{Pair}
 use Rattle.wire_records.specs.Records.{Record}
 use Rattle.wire_records.specs.Versions.{IsReadAs}
 use Rattle.flow_orders.specs.Outcomes.{Outcome}
-use Rattle.journal_records.specs.Pairs.{pair_spelling}
+use Rattle.journal_records.specs.Pairs.{pair_encoding}
 use Rattle.market_rules.specs.Market.{Market}
 use Rattle.market_rules.specs.Deposits.{HoldsDeposits}
 use Rattle.market_rules.specs.Promises.{KeepsPromises}
 use Rattle.market_snapshot.specs.Checkpoints.{checkpoint_bytes}
-use Rattle.market_history.specs.Histories.{Start, CanStart, market_of, spell_start}
+use Rattle.market_history.specs.Histories.{Start, CanStart, market_of, encode_start}
 use Rattle.flow_exchange.specs.declared.form.Form.TheVariants.{Checkpoint}
 use Rattle.flow_exchange.specs.declared.status.Status.TheVariants.{Done}
 use Rattle.flow_exchange.specs.HistoryFiles.{AreLegalFrom}
@@ -29,14 +29,14 @@ pub record AreOneHistory (start : Start) (days : List (List ℕ)) (ends : List �
   pub pairs : List (Pair Record Outcome)
   pub market : Market
   pub legal : AreLegalFrom start pairs market
-  pub spelled : concat days ≡ flat_map pair_spelling pairs
+  pub encoded : concat days ≡ flat_map pair_encoding pairs
   pub ends_in : ends ≡ checkpoint_bytes market
   pub deposits : HoldsDeposits IsReadAs (market_of start) pairs market
   pub keeps : KeepsPromises IsReadAs (market_of start) pairs
-  pub whole : (most : ℕ) → length (spell_start start ++ concat days) ≤ most → ComesTo Checkpoint most (spell_start start ++ concat days) Done ends
+  pub whole : (most : ℕ) → length (encode_start start ++ concat days) ≤ most → ComesTo Checkpoint most (encode_start start ++ concat days) Done ends
 
 -- days of which each is checked so are one history, while the number of the next order at their beginning and their bytes are together
 -- below 2^63
 abbrev pub DaysAreOneHistory : Type 0
 DaysAreOneHistory = (limit : ℕ) (start : Start) (day : List ℕ) (days : List (List ℕ)) (ends : List ℕ) → CanStart start
-    → (market_of start).next_order + length (concat (day ∷ days)) < 2 ^ 63 → AreDays limit (spell_start start) (day ∷ days) ends → AreOneHistory start (day ∷ days) ends
+    → (market_of start).next_order + length (concat (day ∷ days)) < 2 ^ 63 → AreDays limit (encode_start start) (day ∷ days) ends → AreOneHistory start (day ∷ days) ends

@@ -7,17 +7,17 @@ use Rattle.wire_records.specs.CommandRecords.{record_of}
 use Rattle.wire_records.specs.Versions.{IsReadAs}
 use Rattle.wire_records.specs.Reading.{Reads, File, End}
 use Rattle.wire_records.specs.declared.version.Version.{Version}
-use Rattle.wire_records.specs.Grammars.{BeginsWithNone, spell_all}
+use Rattle.wire_records.specs.Grammars.{BeginsWithNone, encode_all}
 use Rattle.wire_records.specs.Formats.{commands, command_magic_of}
 use Rattle.flow_orders.specs.Outcomes.{Outcome}
-use Rattle.journal_records.specs.Pairs.{pair_spelling}
+use Rattle.journal_records.specs.Pairs.{pair_encoding}
 use Rattle.journal_records.specs.Formats.{journals, journal_magic_of, journal_in}
 use Rattle.flow_accounts.specs.Balances.{IsAccount}
 use Rattle.market_rules.specs.Market.{Market, empty_market, IsConsistent}
 use Rattle.market_rules.specs.Deposits.{HoldsDeposits}
 use Rattle.market_rules.specs.Laws.{Leads}
 use Rattle.market_snapshot.specs.Checkpoints.{checkpoint_magic, checkpoint_bytes, IsCheckpoint, HasCheckpointMagic, BeginsWithNoCheckpoint}
-use Rattle.market_history.specs.Histories.{Start, Kept, CanStart, market_of, spell_start}
+use Rattle.market_history.specs.Histories.{Start, Kept, CanStart, market_of, encode_start}
 use Rattle.batch_audit.specs.Legal.{IsLegalJournal, IsIllegalPair}
 use Rattle.journal_replay.specs.Replays.{IsReplayed}
 use Rattle.word_driver.specs.Ended.{Ended}
@@ -49,30 +49,30 @@ use Rattle.flow_exchange.specs.Promising.{AreCanonicallyKept}
 use Rattle.flow_exchange.specs.Program.{ComesTo, GetsTo}
 
 -- The bytes are what begins a history and then these valid entries, which lead to this market, and nothing is past the limit.
-pub record SpellsHistory (limit : ℕ) (bytes : List ℕ) (start : Start) (pairs : List (Pair Record Outcome)) (market : Market) : Type 0 where
+pub record EncodesHistory (limit : ℕ) (bytes : List ℕ) (start : Start) (pairs : List (Pair Record Outcome)) (market : Market) : Type 0 where
   pub begins : CanStart start
   pub legal : AreLegalFrom start pairs market
-  pub spelled : bytes ≡ spell_start start ++ flat_map pair_spelling pairs
+  pub encoded : bytes ≡ encode_start start ++ flat_map pair_encoding pairs
   pub within : length bytes ≤ limit
 
 -- the bytes are this valid journal of a version, and nothing is past the limit
-pub record SpellsLegal (limit : ℕ) (bytes : List ℕ) (version : Version) (pairs : List (Pair Record Outcome)) (market : Market) : Type 0 where
+pub record EncodesLegal (limit : ℕ) (bytes : List ℕ) (version : Version) (pairs : List (Pair Record Outcome)) (market : Market) : Type 0 where
   pub journal : IsLegalJournal version pairs market
-  pub spelled : bytes ≡ journal_in version pairs
+  pub encoded : bytes ≡ journal_in version pairs
   pub within : length bytes ≤ limit
 
 -- an audit is done exactly for a history whose entries are all valid, with nothing past the limit, and the line counts them
 abbrev pub DoneIsForHistories : Type 0
 DoneIsForHistories = (limit : ℕ) (bytes text : List ℕ)
     → ComesTo Audit limit bytes Done text
-    ↔ ((start : Start) × (pairs : List (Pair Record Outcome)) × (market : Market) × SpellsHistory limit bytes start pairs market × (text ≡ legal_line pairs))
+    ↔ ((start : Start) × (pairs : List (Pair Record Outcome)) × (market : Market) × EncodesHistory limit bytes start pairs market × (text ≡ legal_line pairs))
 
 -- A valid journal of any version is such a history, and of bytes that don't begin as a checkpoint nothing else is.
 pub record DoneForLegalJournals : Type 0 where
   pub done : (limit : ℕ) (bytes : List ℕ) (version : Version) (pairs : List (Pair Record Outcome)) (market : Market)
-      → SpellsLegal limit bytes version pairs market → ComesTo Audit limit bytes Done (legal_line pairs)
+      → EncodesLegal limit bytes version pairs market → ComesTo Audit limit bytes Done (legal_line pairs)
   pub only : (limit : ℕ) (bytes text : List ℕ) → (¬ HasCheckpointMagic bytes) → ComesTo Audit limit bytes Done text
-      → (version : Version) × (pairs : List (Pair Record Outcome)) × (market : Market) × SpellsLegal limit bytes version pairs market × (text ≡ legal_line pairs)
+      → (version : Version) × (pairs : List (Pair Record Outcome)) × (market : Market) × EncodesLegal limit bytes version pairs market × (text ≡ legal_line pairs)
 
 -- The first `limit` bytes are what begins a history, valid entries, then two records that are no step of the market at their end, and some
 -- rest; the two have this number, counted from 1.
@@ -84,7 +84,7 @@ pub record HasFirstIllegal (limit : ℕ) (bytes : List ℕ) (number : ℕ) : Typ
   pub rest : List ℕ
   pub begins : CanStart start
   pub legal : AreLegalFrom start pairs market
-  pub whole : take limit bytes ≡ spell_start start ++ (flat_map pair_spelling pairs ++ (journals.units.spell bad ++ rest))
+  pub whole : take limit bytes ≡ encode_start start ++ (flat_map pair_encoding pairs ++ (journals.units.encode bad ++ rest))
   pub lawful : journals.units.IsLawful bad
   pub illegal : IsIllegalPair market bad
   pub counted : number ≡ length pairs + 1
@@ -122,7 +122,7 @@ IsMagic magic = (magic ≡ checkpoint_magic) ⊎ (((version : Version) × (magic
 -- a magic after the entries of a history is no entry: an audit ends there as Torn, at its place in the whole input
 abbrev pub TornAtMagics : Type 0
 TornAtMagics = (limit : ℕ) (bytes magic more : List ℕ) (start : Start) (pairs : List (Pair Record Outcome)) (market : Market) → CanStart start → AreLegalFrom start pairs market → IsMagic magic
-    → take limit bytes ≡ (spell_start start ++ flat_map pair_spelling pairs) ++ (magic ++ more) → ComesTo Audit limit bytes (Torn (length (spell_start start ++ flat_map pair_spelling pairs))) []
+    → take limit bytes ≡ (encode_start start ++ flat_map pair_encoding pairs) ++ (magic ++ more) → ComesTo Audit limit bytes (Torn (length (encode_start start ++ flat_map pair_encoding pairs))) []
 
 -- an explanation results in the status of an audit, and in its line unless an entry is rejected
 abbrev pub ExplainIsAudit : Type 0
@@ -176,30 +176,30 @@ pub record RunsAreAudited : Type 0 where
 -- sees from there on. There is no account exactly for those in whose market it isn't, and nothing is written.
 pub record StatementsOfHistories : Type 0 where
   pub done : (account limit : ℕ) (bytes text : List ℕ) → ComesTo (Statement account) limit bytes Done text
-      ↔ ((start : Start) × (pairs : List (Pair Record Outcome)) × (market : Market) × (view : List Event) × SpellsHistory limit bytes start pairs market
+      ↔ ((start : Start) × (pairs : List (Pair Record Outcome)) × (market : Market) × (view : List Event) × EncodesHistory limit bytes start pairs market
       × Sees account (market_of start) pairs view market × IsAccount market.balances account × (text ≡ statement_from account (market_of start) view))
   pub absent : (account number limit : ℕ) (bytes text : List ℕ) → ComesTo (Statement account) limit bytes (NoAccount number) text
-      ↔ ((start : Start) × (pairs : List (Pair Record Outcome)) × (market : Market) × SpellsHistory limit bytes start pairs market
+      ↔ ((start : Start) × (pairs : List (Pair Record Outcome)) × (market : Market) × EncodesHistory limit bytes start pairs market
       × (¬ IsAccount market.balances account) × (number ≡ account) × (text ≡ []))
 
 -- Of a valid journal it is the statement of the view, to which nothing is carried forward; and of bytes that don't begin as a checkpoint it is
 -- done for nothing else.
 pub record StatementsOfLegalJournals : Type 0 where
-  pub done : (account limit : ℕ) (bytes : List ℕ) (version : Version) (pairs : List (Pair Record Outcome)) (market : Market) (view : List Event) → SpellsLegal limit bytes version pairs market
+  pub done : (account limit : ℕ) (bytes : List ℕ) (version : Version) (pairs : List (Pair Record Outcome)) (market : Market) (view : List Event) → EncodesLegal limit bytes version pairs market
       → Sees account (empty_market version) pairs view market → IsAccount market.balances account → ComesTo (Statement account) limit bytes Done (statement view)
   pub only : (account limit : ℕ) (bytes text : List ℕ) → (¬ HasCheckpointMagic bytes) → ComesTo (Statement account) limit bytes Done text
-      → (version : Version) × (pairs : List (Pair Record Outcome)) × (market : Market) × (view : List Event) × SpellsLegal limit bytes version pairs market
+      → (version : Version) × (pairs : List (Pair Record Outcome)) × (market : Market) × (view : List Event) × EncodesLegal limit bytes version pairs market
       × Sees account (empty_market version) pairs view market × IsAccount market.balances account × (text ≡ statement view)
 
 -- Two histories of which an account sees the same, from markets on in which it has the same, result in the same statement of it, whatever else
 -- is in them; so do two valid journals of which it sees the same.
 pub record OneViewOneStatement : Type 0 where
   pub histories : (account limit most : ℕ) (bytes others x y : List ℕ) (one other : Start) (pairs more : List (Pair Record Outcome)) (view : List Event) (m n : Market) (s t : Status)
-      → SpellsHistory limit bytes one pairs m → SpellsHistory most others other more n → IsHeld account (market_of other) (held_in account (market_of one))
+      → EncodesHistory limit bytes one pairs m → EncodesHistory most others other more n → IsHeld account (market_of other) (held_in account (market_of one))
       → Sees account (market_of one) pairs view m → Sees account (market_of other) more view n
       → ComesTo (Statement account) limit bytes s x → ComesTo (Statement account) most others t y → (s ≡ t) × (x ≡ y)
   pub journals : (account limit most : ℕ) (bytes others x y : List ℕ) (one other : Version) (pairs more : List (Pair Record Outcome)) (view : List Event) (m n : Market) (s t : Status)
-      → SpellsLegal limit bytes one pairs m → SpellsLegal most others other more n
+      → EncodesLegal limit bytes one pairs m → EncodesLegal most others other more n
       → Sees account (empty_market one) pairs view m → Sees account (empty_market other) more view n
       → ComesTo (Statement account) limit bytes s x → ComesTo (Statement account) most others t y → (s ≡ t) × (x ≡ y)
 
@@ -209,11 +209,11 @@ pub record OneViewOneStatement : Type 0 where
 -- the whole.
 pub record StatementsGoOn : Type 0 where
   pub there : (account limit most within : ℕ) (whole first second : List ℕ) (start : Start) (pairs more : List (Pair Record Outcome)) (mid new : Market)
-      → SpellsHistory limit whole start (pairs ++ more) new → SpellsHistory most first start pairs mid → SpellsHistory within second (Kept mid) more new → IsAccount mid.balances account
-      → (front : List ℕ) × (carried : List ℕ) × (rest : List ℕ) × ComesTo (Statement account) most first Done (front ++ carried)
-      × ComesTo (Statement account) within second Done (carried ++ rest) × ComesTo (Statement account) limit whole Done (front ++ rest)
+      → EncodesHistory limit whole start (pairs ++ more) new → EncodesHistory most first start pairs mid → EncodesHistory within second (Kept mid) more new → IsAccount mid.balances account
+      → (prefix : List ℕ) × (carried : List ℕ) × (rest : List ℕ) × ComesTo (Statement account) most first Done (prefix ++ carried)
+      × ComesTo (Statement account) within second Done (carried ++ rest) × ComesTo (Statement account) limit whole Done (prefix ++ rest)
   pub absent : (account limit most within : ℕ) (whole first second : List ℕ) (start : Start) (pairs more : List (Pair Record Outcome)) (mid new : Market)
-      → SpellsHistory limit whole start (pairs ++ more) new → SpellsHistory most first start pairs mid → SpellsHistory within second (Kept mid) more new → (¬ IsAccount mid.balances account)
+      → EncodesHistory limit whole start (pairs ++ more) new → EncodesHistory most first start pairs mid → EncodesHistory within second (Kept mid) more new → (¬ IsAccount mid.balances account)
       → ComesTo (Statement account) most first (NoAccount account) []
       × ((status : Status) (text : List ℕ) → ComesTo (Statement account) within second status text ↔ ComesTo (Statement account) limit whole status text)
 
@@ -255,7 +255,7 @@ pub record IsOneJournal (most : ℕ) (bytes : List ℕ) (records : List Record) 
   pub more : List (Pair Record Outcome)
   pub before : bytes ≡ journal_in version pairs
   pub asked : map (λ (pair : Pair Record Outcome). pair.asked) more ≡ records
-  pub behind : text ≡ flat_map pair_spelling more
+  pub following : text ≡ flat_map pair_encoding more
   pub whole : bytes ++ text ≡ journal_in version (pairs ++ more)
   pub legal : IsLegalJournal version (pairs ++ more) market
   pub replayed : IsReplayed (bytes ++ text) (Ok market)
@@ -277,7 +277,7 @@ pub record SessionsGoOn : Type 0 where
 -- The rest begins with the command magic of the version, and these are all the complete records after it.
 pub record AreNew (version : Version) (rest : List ℕ) (records : List Record) : Type 0 where
   pub left : List ℕ
-  pub whole : rest ≡ command_magic_of version ++ (spell_all commands.units records ++ left)
+  pub whole : rest ≡ command_magic_of version ++ (encode_all commands.units records ++ left)
   pub each : All commands.units.IsLawful records
   pub last : BeginsWithNone commands.units left
 
@@ -291,7 +291,7 @@ NewRecords version rest records = AreNew version rest records ⊎ (((body : List
 -- its end. Its status is that of an audit, and nothing is written unless it is done.
 pub record CheckpointsOfHistories : Type 0 where
   pub done : (limit : ℕ) (bytes text : List ℕ) → ComesTo Checkpoint limit bytes Done text
-      ↔ ((start : Start) × (pairs : List (Pair Record Outcome)) × (market : Market) × SpellsHistory limit bytes start pairs market × (text ≡ checkpoint_bytes market))
+      ↔ ((start : Start) × (pairs : List (Pair Record Outcome)) × (market : Market) × EncodesHistory limit bytes start pairs market × (text ≡ checkpoint_bytes market))
   pub audited : (limit : ℕ) (bytes text line : List ℕ) (status other : Status) → ComesTo Checkpoint limit bytes status text → ComesTo Audit limit bytes other line → status ≡ other
   pub nothing : (limit : ℕ) (bytes text : List ℕ) (status : Status) → ComesTo Checkpoint limit bytes status text → status ≢ Done → text ≡ []
 
@@ -307,7 +307,7 @@ pub record HistoriesGoOn : Type 0 where
   pub cut : (start : Start) (pairs more : List (Pair Record Outcome)) (old new : Market) → AreLegalFrom start pairs old
       → AreLegalFrom (Kept old) more new ↔ AreLegalFrom start (pairs ++ more) new
   pub kept : (limit most within : ℕ) (history checkpoint rest text : List ℕ) (start : Start) (pairs : List (Pair Record Outcome)) (market : Market)
-      → SpellsHistory within history start pairs market → IsCheckpoint market checkpoint → length (history ++ rest) ≤ limit → length (checkpoint ++ rest) ≤ most
+      → EncodesHistory within history start pairs market → IsCheckpoint market checkpoint → length (history ++ rest) ≤ limit → length (checkpoint ++ rest) ≤ most
       → ComesTo Checkpoint limit (history ++ rest) Done text ↔ ComesTo Checkpoint most (checkpoint ++ rest) Done text
 
 -- the market of each valid journal whose length is below 2^64 has a checkpoint: the market's bytes
@@ -329,7 +329,7 @@ pub record IsWholeInput (limit : ℕ) (bytes : List ℕ) (market : Market) (reco
   pub rest : List ℕ
   pub within : length bytes ≤ limit
   pub first : IsFirst bytes (Whole origin market place rest)
-  pub behind : ((rest ≡ []) × (records ≡ [])) ⊎ ((rest ≡ command_magic_of market.version ++ spell_all commands.units records) × All commands.units.IsLawful records)
+  pub following : ((rest ≡ []) × (records ≡ [])) ⊎ ((rest ≡ command_magic_of market.version ++ encode_all commands.units records) × All commands.units.IsLawful records)
 
 -- How a resumption ends. Done: exactly if the input is complete, and the text is that of the entries of its records. Rejected: exactly at the
 -- first invalid entry. BadCheckpoint and NotFlow: exactly if there is nothing to resume from. After these three nothing is written.

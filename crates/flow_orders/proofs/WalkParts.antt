@@ -10,8 +10,8 @@ module _ {P : Type 0} (n : ℕ) (unsettled : P → ℕ → Bool) (move : P → �
 
   -- two valid walks, one from the end of the other, are one valid walk
   pub legal-append : (p : P) (v w : List ℕ) → IsLegal n unsettled move p v → IsLegal n unsettled move (walk_end move p v) w → IsLegal n unsettled move p (v ++ w)
-  legal-append p [] w front back = back
-  legal-append p (a ∷ v) w front back = (front.0, front.1, legal-append (move p a) v w front.2 back)
+  legal-append p [] w prefix back = back
+  legal-append p (a ∷ v) w prefix back = (prefix.0, prefix.1, legal-append (move p a) v w prefix.2 back)
 
   pub legal_parts : (p : P) (v w : List ℕ) → IsLegal n unsettled move p (v ++ w) → IsLegal n unsettled move p v × IsLegal n unsettled move (walk_end move p v) w
   legal_parts p [] w legal = (tt, legal)

@@ -13,14 +13,14 @@ use Rattle.journal_records.proofs.Files.{journals_readable}
 use Rattle.market_rules.specs.Market.{Market, empty_market}
 use Rattle.market_snapshot.specs.Checkpoints.{checkpoint_magic, checkpoint_bytes, HasCheckpointMagic}
 use Rattle.market_snapshot.proofs.OneMarket.{one_market}
-use Rattle.market_history.specs.Histories.{Start, Empty, Kept, CanStart, market_of, spell_start, starts}
+use Rattle.market_history.specs.Histories.{Start, Empty, Kept, CanStart, market_of, encode_start, starts}
 use Rattle.market_history.proofs.Starting.{kept_magic}
 use Rattle.word_driver.specs.Ended.{Ended}
 use Rattle.word_driver.specs.Word.{Word, ComesOn}
 use Rattle.word_driver.specs.Laws.{IsExact}
 use Rattle.word_driver.proofs.OneEnds.{comes_on_one}
 use Rattle.history_words.specs.declared.stop.HistoryStop.{HistoryStop}
-use Rattle.history_words.specs.Histories.{behind, Beginning, ComesFrom}
+use Rattle.history_words.specs.Histories.{following, Beginning, ComesFrom}
 
 -- no journal begins as a checkpoint: the fifth byte of its magic is J
 fifth : (version : Version) (body : List ℕ) → get_or (journal_magic_of version ++ body) 4 0 ≡ 74
@@ -43,7 +43,7 @@ magic_or_not bytes =
     magic_by bytes (bytes_eq (take 8 bytes) checkpoint_magic) is.0 is.1
 
 -- bytes begin with at most one beginning of a history, and leave one rest
-pub one_start : (a b : Start) (x y : List ℕ) → CanStart a → CanStart b → spell_start a ++ x ≡ spell_start b ++ y → (a ≡ b) × (x ≡ y)
+pub one_start : (a b : Start) (x y : List ℕ) → CanStart a → CanStart b → encode_start a ++ x ≡ encode_start b ++ y → (a ≡ b) × (x ≡ y)
 one_start (Empty v) (Empty u) x y p q e =
     let one = journals_readable.magics.one v u x y tt tt e in
     (ap (λ (z : Version). Empty z) one.0, one.1)
@@ -56,11 +56,11 @@ one_start (Kept m) (Empty u) x y p q e = absurd (other_magics u (journal_magic_o
 module _ {S B : Type 0} (w : Word (Record × Record) S B) (begins : Beginning S) (exact : IsExact w) where
   -- two beginnings of a history are one, and so what follows results in the same
   pub moved : (a b : Start) (x y bytes : List ℕ) (More : Type 0) (inner : Ended B) (text : List ℕ) → BeginsWith starts bytes a x → BeginsWith starts bytes b y
-      → ComesOn w More (length (starts.spell b)) y (begins.starts (market_of b)) inner text → ComesOn w More (length (starts.spell a)) x (begins.starts (market_of a)) inner text
+      → ComesOn w More (length (starts.encode b)) y (begins.starts (market_of b)) inner text → ComesOn w More (length (starts.encode a)) x (begins.starts (market_of a)) inner text
   moved a b x y bytes More inner text here there on =
       let one = one_start a b x y here.0 there.0 (sym here.1 ∙ there.1) in
-      subst (λ (z : Start). ComesOn w More (length (starts.spell z)) x (begins.starts (market_of z)) inner text) (sym one.0)
-      (subst (λ (xs : List ℕ). ComesOn w More (length (starts.spell b)) xs (begins.starts (market_of b)) inner text) (sym one.1) on)
+      subst (λ (z : Start). ComesOn w More (length (starts.encode z)) x (begins.starts (market_of z)) inner text) (sym one.0)
+      (subst (λ (xs : List ℕ). ComesOn w More (length (starts.encode b)) xs (begins.starts (market_of b)) inner text) (sym one.1) on)
 
   pub comes_one : (bytes : List ℕ) (More : Type 0) (e f : Ended (HistoryStop B)) (x y : List ℕ) → ComesFrom w begins bytes More e x → ComesFrom w begins bytes More f y → (e ≡ f) × (x ≡ y)
   comes_one bytes More e f x y (inl a) (inl b) = (a.1 ∙ sym b.1, a.2 ∙ sym b.2)
@@ -73,5 +73,5 @@ module _ {S B : Type 0} (w : Word (Record × Record) S B) (begins : Beginning S)
   comes_one bytes More e f x y (inr (inr (start, body, rest, begin, words, inner, on, is))) (inr (inl b)) = absurd (b.0.0 start body begin.0 begin.1)
   comes_one bytes More e f x y (inr (inr (v, body, rest, first, text, inner, on, is))) (inr (inr (u, other, words, begin, also_text, also, goes, there))) =
       let begun = one_start v u body other first.0 begin.0 (sym first.1 ∙ begin.1) in
-      let same = comes_on_one w (λ (version : Version). begins.starts (empty_market version)) exact More (length (starts.spell v)) body (begins.starts (market_of v)) inner also rest words on (moved v u body other bytes More also words first begin goes) in
-      (is ∙ ap behind same.0 ∙ sym there, text ∙ ap (λ (z : Start). begins.opens (market_of z) ++ rest) begun.0 ∙ ap (λ (xs : List ℕ). begins.opens (market_of u) ++ xs) same.1 ∙ sym also_text)
+      let same = comes_on_one w (λ (version : Version). begins.starts (empty_market version)) exact More (length (starts.encode v)) body (begins.starts (market_of v)) inner also rest words on (moved v u body other bytes More also words first begin goes) in
+      (is ∙ ap following same.0 ∙ sym there, text ∙ ap (λ (z : Start). begins.opens (market_of z) ++ rest) begun.0 ∙ ap (λ (xs : List ℕ). begins.opens (market_of u) ++ xs) same.1 ∙ sym also_text)

@@ -14,15 +14,15 @@ use Rattle.history_words.specs.declared.stop.HistoryStop.{HistoryStop}
 use Rattle.history_words.specs.declared.stop.HistoryStop.TheVariants.{NoCheckpoint, AtPairs}
 
 -- how a subcommand over a history ends, by how it ends over the entries
-abbrev pub behind : {B : Type 0} → Ended B → Ended (HistoryStop B)
-behind (Ok done) = Ok done
-behind (Err Read) = Err Read
-behind (Err Write) = Err Write
-behind (Err Memory) = Err Memory
-behind (Err NotFlow) = Err NotFlow
-behind (Err (Torn place)) = Err (Torn place)
-behind (Err TooLong) = Err TooLong
-behind (Err (Stopped why)) = Err (Stopped (AtPairs why))
+abbrev pub following : {B : Type 0} → Ended B → Ended (HistoryStop B)
+following (Ok done) = Ok done
+following (Err Read) = Err Read
+following (Err Write) = Err Write
+following (Err Memory) = Err Memory
+following (Err NotFlow) = Err NotFlow
+following (Err (Torn place)) = Err (Torn place)
+following (Err TooLong) = Err TooLong
+following (Err (Stopped why)) = Err (Stopped (AtPairs why))
 
 -- How a subcommand over entries begins in the market that a history begins in: its state there, the text that it writes before the
 -- first entry, and whether it may allocate for that.
@@ -49,7 +49,7 @@ module _ {S B : Type 0} (w : Word (Record × Record) S B) (begins : Beginning S)
       (BeginsOtherwise bytes × (ended ≡ Err NotFlow) × (text ≡ []))
       ⊎ (BeginsUnsound bytes × (ended ≡ Err (Stopped NoCheckpoint)) × (text ≡ []))
       ⊎ ((start : Start) × (body : List ℕ) × (rest : List ℕ) × BeginsWith starts bytes start body × (text ≡ begins.opens (market_of start) ++ rest)
-      × (inner : Ended B) × ComesOn w More (length (starts.spell start)) body (begins.starts (market_of start)) inner rest × (ended ≡ behind inner))
+      × (inner : Ended B) × ComesOn w More (length (starts.encode start)) body (begins.starts (market_of start)) inner rest × (ended ≡ following inner))
 
   -- memory may run out, and this text was written: none at a checkpoint, none as the subcommand begins in the history's market, or what it
   -- wrote at its beginning and for the entries before
@@ -58,7 +58,7 @@ module _ {S B : Type 0} (w : Word (Record × Record) S B) (begins : Beginning S)
       (HasCheckpointMagic bytes × (text ≡ []))
       ⊎ ((start : Start) × (body : List ℕ) × BeginsWith starts bytes start body × begins.Allocates (market_of start) × (text ≡ []))
       ⊎ ((start : Start) × (body : List ℕ) × (rest : List ℕ) × BeginsWith starts bytes start body × (text ≡ begins.opens (market_of start) ++ rest)
-      × LacksOn w More (length (starts.spell start)) body (begins.starts (market_of start)) rest)
+      × LacksOn w More (length (starts.encode start)) body (begins.starts (market_of start)) rest)
 
   -- the subcommand over a history as a task; a checkpoint is read to its length before anything is written, so all bytes may be taken by then
   abbrev pub over_history_from : Task (HistoryStop B)

@@ -7,7 +7,7 @@ ghost use Rattle.market_rules.specs.Market.{Market};
 ghost use Rattle.word_driver.specs.Laws.{IsExact};
 ghost use Rattle.word_driver.specs.Does.{Does};
 ghost use Rattle.journal_words.specs.Watching.{over_pairs};
-ghost use Rattle.history_words.specs.Histories.{behind, at_first, over_history, over_history_from};
+ghost use Rattle.history_words.specs.Histories.{following, at_first, over_history, over_history_from};
 
 use crate::on_history::{OnHistory, Plainly};
 use crate::stop::HistoryStop;
@@ -18,8 +18,8 @@ use std::alloc::Global;
 use word_driver::{Fault, ServesWord, go_on};
 
 // Returns how a subcommand over a history ended, by how it ended over the entries.
-fn ended_behind<B: Copy>(ended: Result<(), Fault<B>>) -> Result<(), Fault<HistoryStop<B>>>
-    ensures { result ≡ behind ended }
+fn ended_after<B: Copy>(ended: Result<(), Fault<B>>) -> Result<(), Fault<HistoryStop<B>>>
+    ensures { result ≡ following ended }
 {
     match ended {
         Ok(()) => Ok(()),
@@ -92,7 +92,7 @@ pub fn go_history_from<S: Source, K: Sink, P: OnPair + Drop, H: OnHistory<P> + D
         Err(_) => return Err(Fault::Write),
     }
     let pairs = Pairs::over(alloc, market, on);
-    ended_behind(go_on(window, source, pairs, text, out))
+    ended_after(go_on(window, source, pairs, text, out))
 }
 
 /// Reads a history and hands its entries to the subcommand as [`go_history_from`] does, and with the same errors and costs, but writes

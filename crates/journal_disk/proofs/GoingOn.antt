@@ -41,7 +41,7 @@ module _ (head : Head) (pairs : List RecordPair) (place : ℕ) (rest : List ℕ)
   -- the next entry is one more that the disk holds
   over_entry : (pair : RecordPair) (left : List ℕ) (next : ℕ) → HasEntryAt place pair left (entries head pairs ++ rest) → next ≡ place + (5 + length (pair_bytes pair)) → Holds head (pairs ++ pair ∷ []) next left disk
   over_entry pair left next has moves =
-      let after : rest ≡ entry pair ++ left = sym at_place ∙ has.spelled in
+      let after : rest ≡ entry pair ++ left = sym at_place ∙ has.encoded in
       let whole : entries head pairs ++ rest ≡ entries head (pairs ++ pair ∷ []) ++ left =
       ap (λ (l : List ℕ). entries head pairs ++ l) after ∙ sym (append_assoc (entries head pairs) (entry pair) left) ∙ ap (λ (l : List ℕ). l ++ left) (sym (entries_more head pairs pair)) in
       record {

@@ -11,14 +11,14 @@ size_known ahead (Some bytes) is = is.long
 
 -- a part of the piece is that part of the bytes
 pub in_piece : (ahead : AheadState) (bytes : List ℕ) (place count : ℕ) → IsPiece ahead bytes → ahead.from ≤ place → place + count ≤ ahead.from + length ahead.held → take count (drop (place - ahead.from) ahead.held) ≡ take count (drop place bytes)
-in_piece ahead bytes place count is behind within =
+in_piece ahead bytes place count is following within =
     let first = place - ahead.from in
     let all = length ahead.held in
-    let parts : all ≡ first + (all - first) = omega (arith, behind, within) in
+    let parts : all ≡ first + (all - first) = omega (arith, following, within) in
     ap (λ (l : List ℕ). take count (drop first l)) (is.piece ∙ ap (λ (n : ℕ). take n (drop ahead.from bytes)) parts)
     ∙ ap (take count) (drop-take first (all - first) (drop ahead.from bytes))
-    ∙ take-take count (all - first) (drop first (drop ahead.from bytes)) (omega (arith, behind, within))
-    ∙ ap (take count) (drop-drop first ahead.from bytes ∙ ap (λ (n : ℕ). drop n bytes) (omega (arith, behind)))
+    ∙ take-take count (all - first) (drop first (drop ahead.from bytes)) (omega (arith, following, within))
+    ∙ ap (take count) (drop-drop first ahead.from bytes ∙ ap (λ (n : ℕ). drop n bytes) (omega (arith, following)))
 
 -- a slice of as many bytes
 pub copied : (items now : List ℕ) (first count : ℕ) → now ≡ items → take (first + count - first) (drop first now) ≡ take count (drop first items)

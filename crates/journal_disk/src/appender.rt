@@ -8,7 +8,7 @@ ghost use Rattle.journal_disk.specs.Lengths.{ReachesAtMost};
 ghost use Rattle.flow_io.specs.Faults.{Blames};
 
 use crate::DiskFault;
-use crate::calls::{clear, make_new, open_gate, write_synced};
+use crate::calls::{clear, make_new, set_commit, write_synced};
 use crate::pairs::LONGEST_PAIR;
 use disk_edge::Disk;
 use std::alloc::{AllocError, Global};
@@ -111,7 +111,7 @@ impl Appender {
     {
         fill(&mut self.entry, pair);
         write_synced(disk, self.place + 1, &self.entry)?;
-        open_gate(disk, self.place)?;
+        set_commit(disk, self.place)?;
         self.place += 5 + pair.len() as u64;
         Ok(())
     }

@@ -39,7 +39,7 @@ pub(crate) fn write_synced<D: Disk>(
 }
 
 // Sets the commit byte at a place. At Ok that outlasts a crash.
-pub(crate) fn open_gate<D: Disk>(disk: &mut D, place: u64) -> Result<(), DiskFailed>
+pub(crate) fn set_commit<D: Disk>(disk: &mut D, place: u64) -> Result<(), DiskFailed>
     requires { IfSome (D.state disk.old).content
         (λ held. (place ≤ length held) × (place + 1 ≤ 2 ^ 62)) }
     ensures written { OnOk result
@@ -106,22 +106,22 @@ pub(crate) fn read_from<D: Disk>(
 #[derive(Clone, Copy)]
 pub(crate) struct Front {
     pub(crate) version: Option<Version>,
-    pub(crate) gate: u8,
+    pub(crate) commit: u8,
 }
 
 // Returns what the disk begins with, which has 9 bytes at least.
-pub(crate) fn front_of<D: Disk>(disk: &mut D) -> Result<Front, DiskFailed>
+pub(crate) fn prefix_of<D: Disk>(disk: &mut D) -> Result<Front, DiskFailed>
     requires { IfSome (D.state disk.old).content (λ bytes. 9 ≤ length bytes) }
-    ensures magic { IfOk result (λ front. IfSome (D.state disk.old).content (IsMagicOf front.version)) }
-    ensures gate { IfOk result (λ front. IfSome (D.state disk.old).content (λ bytes. front.gate ≡ slice_index bytes 8)) }
+    ensures magic { IfOk result (λ prefix. IfSome (D.state disk.old).content (IsMagicOf prefix.version)) }
+    ensures commit { IfOk result (λ prefix. IfSome (D.state disk.old).content (λ bytes. prefix.commit ≡ slice_index bytes 8)) }
     ensures looks { OnlyLooks (D.state disk.old) (D.state disk.new) }
     ensures cause { Blames (IsErr result) (D.state disk.old).faults (D.state disk.new).faults }
 {
-    let mut front = [0; 9];
-    read_from(disk, 0, &mut front)?;
+    let mut prefix = [0; 9];
+    read_from(disk, 0, &mut prefix)?;
     Ok(Front {
-        version: disk_version(&front),
-        gate: front[8],
+        version: disk_version(&prefix),
+        commit: prefix[8],
     })
 }
 

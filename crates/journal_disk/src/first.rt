@@ -11,7 +11,7 @@ ghost use Rattle.journal_disk.specs.Stepping.{FindsFirst};
 
 use crate::ahead::Ahead;
 use crate::appender::Appender;
-use crate::calls::{OPEN, open_gate, write_synced};
+use crate::calls::{OPEN, set_commit, write_synced};
 use crate::fault::DiskFault;
 use crate::journal::{DiskJournal, MOST_BYTES};
 use crate::reading::{byte_at, number_at};
@@ -57,7 +57,7 @@ impl Appender {
         ensures cause { Blames (IsErrOf result DiskFault.Failed) (D.state disk.old).faults (D.state disk.new).faults }
     {
         write_synced(disk, self.place + 1, stored)?;
-        open_gate(disk, self.place)?;
+        set_commit(disk, self.place)?;
         self.place += stored.len() as u64;
         Ok(())
     }

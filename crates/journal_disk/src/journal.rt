@@ -11,7 +11,7 @@ ghost use Rattle.journal_disk.specs.Recovering.{IsForeign, IsFound};
 
 use crate::ahead::Ahead;
 use crate::appender::Appender;
-use crate::calls::{MOST_NEW, OPEN, cut_synced, front_of, synced_length};
+use crate::calls::{MOST_NEW, OPEN, cut_synced, prefix_of, synced_length};
 use crate::fault::{DiskFault, Step};
 use crate::pairs::whole_pair;
 use crate::reading::{byte_at, stated_at};
@@ -42,10 +42,10 @@ pub fn recover<D: Disk>(disk: &mut D) -> Result<Option<Version>, DiskFault>
     if length > MOST_BYTES {
         return Err(DiskFault::NotDisk);
     }
-    let front = front_of(disk)?;
-    match front.version {
+    let prefix = prefix_of(disk)?;
+    match prefix.version {
         Some(version) => {
-            if front.gate != OPEN {
+            if prefix.commit != OPEN {
                 return Ok(None);
             }
             Ok(Some(version))
@@ -72,7 +72,7 @@ impl Model for DiskJournal {
 
 impl DiskJournal {
     /// Begins the reading of a disk that was recovered as one of a version, before its first entry.
-    pub fn behind_magic() -> DiskJournal
+    pub fn after_magic() -> DiskJournal
         ensures { result ≡ 8 }
     {
         DiskJournal { place: 8 }
@@ -90,7 +90,7 @@ impl DiskJournal {
         ensures found { IfSome (D.state disk.old).content (Finds result self.now) }
         ensures held { IfOk result (λ found. IfSome found (λ count. HoldsPart (self.now + 5) count ahead.new)) }
         ensures within { IfOk result (λ found. IfSome found (λ count. self.now + (5 + count) ≤ 2 ^ 60)) }
-        ensures gate { (place : ℕ) → result ≡ Err (DiskFault.Damaged place) → place ≡ self.now }
+        ensures commit { (place : ℕ) → result ≡ Err (DiskFault.Damaged place) → place ≡ self.now }
         ensures known { result ≢ Err DiskFault.NotDisk }
         ensures looks { OnlyLooks (D.state disk.old) (D.state disk.new) }
         ensures cause { Blames (IsErrOf result DiskFault.Failed) (D.state disk.old).faults (D.state disk.new).faults }
@@ -117,7 +117,7 @@ impl DiskJournal {
         requires within { self.old + (5 + count) ≤ 2 ^ 60 }
         ensures taken { IfOk result (λ pair. (bytes : List ℕ) → IsPiece ahead.now bytes → StatesAt self.old count bytes →
             (rest : List ℕ) × HasEntryAt self.old pair rest bytes) }
-        ensures spelled { IfOk result (λ pair. IsRecordPair pair × (part_of ahead.now (self.old + 5) count ≡ pair_bytes pair)
+        ensures encoded { IfOk result (λ pair. IsRecordPair pair × (part_of ahead.now (self.old + 5) count ≡ pair_bytes pair)
             × (length (pair_bytes pair) ≡ count)) }
         ensures moves { OnOk result (self.new ≡ self.old + (5 + count)) }
         ensures damaged { IfErr result (λ fault. (fault ≡ DiskFault.Damaged self.old)
@@ -152,7 +152,7 @@ impl DiskJournal {
         ensures step { IfSome (D.state disk.old).content (IsStep result self.old self.new pair.new.items) }
         ensures stays { result ≢ Ok Step.Pair → (self.new ≡ self.old) × (pair.new.items ≡ []) }
         ensures whole { result ≡ Ok Step.Pair → IsWholePair pair.new.items }
-        ensures gate { (place : ℕ) → result ≡ Err (DiskFault.Damaged place) → place ≡ self.old }
+        ensures commit { (place : ℕ) → result ≡ Err (DiskFault.Damaged place) → place ≡ self.old }
         ensures moves { result ≡ Ok Step.Pair → self.new ≡ self.old + (5 + length pair.new.items) }
         ensures known { result ≢ Err DiskFault.NotDisk }
         ensures near { self.new ≤ 2 ^ 60 }

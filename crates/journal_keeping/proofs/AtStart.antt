@@ -54,7 +54,7 @@ module _ (before x : Option (List ℕ)) (old : WindowState) (takes : Takes befor
       → (market : Market) (stored : List ℕ) → market ≡ empty_market version → stored ≡ [] → OpensStart old.limit market stored new before x
   opened_at version body magic new advanced unended wide fits market stored is none = record {
     begin = Empty version;
-    behind = record {
+    following = record {
       limited = ap (λ (w : WindowState). w.limit) advanced;
       place = omega (arith, ap (λ (w : WindowState). w.place) advanced, first, eight version);
       room = ap (λ (w : WindowState). w.room) advanced ∙ wide;
@@ -77,7 +77,7 @@ module _ (before x : Option (List ℕ)) (old : WindowState) (takes : Takes befor
     -- the checkpoint was taken
     pub checkpoint_at : (new : WindowState) (market : Market) → FindsKept old new x y market → IsCheckpoint market (checkpoint_bytes market) × Takes before y (checkpoint_bytes market ++ new.held)
     checkpoint_at new market found =
-        let is = found.is_one.spelled in (
+        let is = found.is_one.encoded in (
           subst (λ (l : List ℕ). IsCheckpoint market l) is found.is_one,
           subst (λ (l : List ℕ). Takes before y l) (sym found.taken.grew ∙ ap (λ (l : List ℕ). l ++ new.held) is) (Takes-more before x y old.held found.taken.more takes found.taken.takes),
         )

@@ -45,7 +45,7 @@ module _ (begin : Start) where
       → (more : Pairs) × IsKeptJournal begin more new × (length more ≡ length legal + 1) × (map records_of legal ++ p ∷ [] ≡ map records_of more)
   one_read legal old new p is lawful one =
       let pair : Pair Record Outcome = record { asked = p.0; answer = one.answer } in
-      let fits : IsPair pair = record { asked = lawful.0; answer = one.spelled.fits; answered = rw (← one.spelled.spelled) lawful.1 } in (
+      let fits : IsPair pair = record { asked = lawful.0; answer = one.encoded.fits; answered = rw (← one.encoded.encoded) lawful.1 } in (
         legal ++ pair ∷ [],
         record {
           starts = is.starts;
@@ -53,14 +53,14 @@ module _ (begin : Start) where
           steps = right_more (market_of begin) legal old pair new is.steps one.step;
         },
         omega (arith, length-append legal (pair ∷ [])),
-        ap (λ (r : Record). map records_of legal ++ (p.0, r) ∷ []) one.spelled.spelled ∙ sym (map-append records_of legal (pair ∷ [])),
+        ap (λ (r : Record). map records_of legal ++ (p.0, r) ∷ []) one.encoded.encoded ∙ sym (map-append records_of legal (pair ∷ [])),
       )
 
   module _ (legal : Pairs) (market : Market) (place : ℕ) (left bytes : List ℕ) (now : DiskState) (is : IsKeptJournal begin legal market) (holds : Holds (head_of begin) (map records_of legal) place left now) (told : now.content ≡ Some bytes) where
     begins : BeginsLegal begin bytes legal market place
     begins =
         let both : Some bytes ≡ Some (entries (head_of begin) (map records_of legal) ++ left) = sym told ∙ holds.content in
-        record { lawful = holds.lawful; journal = is; rest = left; spelled = cc; begins = holds.begins }
+        record { lawful = holds.lawful; journal = is; rest = left; encoded = cc; begins = holds.begins }
 
     there : (Q : List ℕ → Type 0) → IfSome now.content Q → Q bytes
     there Q has = subst (λ (o : Option (List ℕ)). IfSome o Q) told has

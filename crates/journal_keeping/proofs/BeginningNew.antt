@@ -25,13 +25,13 @@ use Rattle.journal_keeping.proofs.Lengths.{stored_few, start_within, grows_start
 
 module _ (limit : ℕ) (market : Market) (stored : List ℕ) (window : WindowState) (before after : Option (List ℕ)) (few : limit ≤ 2 ^ 32) (opens : OpensStart limit market stored window before after) where
   start_few : length (source_start opens.begin) ≤ 2 ^ 32
-  start_few = omega (arith, few, opens.behind.few, ap length opens.behind.magic.1, length-append (source_start opens.begin) window.held)
+  start_few = omega (arith, few, opens.following.few, ap length opens.following.magic.1, length-append (source_start opens.begin) window.held)
 
   pub stored_small : length stored ≤ 2 ^ 32
   stored_small = omega (arith, start_few, stored_few opens.begin stored opens.stored_is)
 
   lawful : IsHead (head_of opens.begin)
-  lawful = starts_begin_files opens.begin opens.behind.magic.0
+  lawful = starts_begin_files opens.begin opens.following.magic.0
 
   module _ (start end : DiskState) (version : Version) (is_version : version ≡ market.version) (found : IfSome start.content (λ held. IsFound None held start))
       (moments : (bytes : List ℕ) (begin : Start) → start.content ≡ Some bytes → LeavesOnly start.images bytes → version_of begin ≡ version → IsHead (head_of begin) → IsStored begin stored
@@ -46,7 +46,7 @@ module _ (limit : ℕ) (market : Market) (stored : List ℕ) (window : WindowSta
     new_begun session place same keeps = record {
       begin = opens.begin;
       input = opens.begin;
-      behind = opens.behind;
+      following = opens.following;
       begun = begun_new start.content opens.begin session place start end (same ∙ opens.market_is) found
           (if_some start.content _ _ (λ (held : List ℕ) kept. kept opens.begin of lawful opens.stored_is) keeps);
       moments = λ was old m holds. makes_new start was old m holds end opens.begin found (λ bytes told only. moments bytes opens.begin told only of lawful opens.stored_is);
@@ -56,8 +56,8 @@ module _ (limit : ℕ) (market : Market) (stored : List ℕ) (window : WindowSta
     -- making it failed
     pub new_safe : (was : Start) (old : List (Pair Record Outcome)) (m : Market) → HoldsLegal start was old m → OpensSafely limit before start end was old m
     new_safe was old m holds =
-        safe_new start was old m holds limit before end opens.begin found opens.behind.magic.0 (source_begins limit window opens.begin before after opens.behind)
+        safe_new start was old m holds limit before end opens.begin found opens.following.magic.0 (source_begins limit window opens.begin before after opens.following)
         (makes_new start was old m holds end opens.begin found (λ bytes told only. moments bytes opens.begin told only of lawful opens.stored_is))
 
     pub new_grows : GrowsAtMost limit before start end
-    new_grows = grows_start limit opens.begin window before after opens.behind start end (start_within opens.begin stored start end opens.stored_is reach)
+    new_grows = grows_start limit opens.begin window before after opens.following start end (start_within opens.begin stored start end opens.stored_is reach)

@@ -10,7 +10,7 @@ use Rattle.market_history.specs.Histories.{Start, Empty, Kept, CanStart}
 use Rattle.journal_disk.specs.Pairs.{RecordPair, IsRecordPair, pair_bytes}
 use Rattle.journal_disk.specs.Entries.{IsHead, framed, head_bytes, entry, entries, disk_magic_of, HasEntries, IsNewDisk}
 use Rattle.journal_disk.specs.Stepping.{HasEntryAt}
-use Rattle.journal_disk.proofs.Entries.{entries_none, magic_alone, first_behind, magic_first, pair_short, disk_magics_told, eight}
+use Rattle.journal_disk.proofs.Entries.{entries_none, magic_alone, first_after, magic_first, pair_short, disk_magics_told, eight}
 use Rattle.journal_disk.proofs.OneList.{frame_unique}
 use Rattle.journal_keeping.specs.Starts.{head_of, HasFirst}
 use Rattle.journal_keeping.proofs.Starts.{one_kept_market}
@@ -25,7 +25,7 @@ has_first m p x bytes one lawful is = record {
   is_one = one;
   lawful = lawful;
   rest = flat_map entry p ++ x;
-  spelled = is ∙ append_assoc (head_bytes (head_of (Kept m))) (flat_map entry p) x ∙ ap (λ (l : List ℕ). l ++ (flat_map entry p ++ x)) (sym (entries_none (head_of (Kept m))));
+  encoded = is ∙ append_assoc (head_bytes (head_of (Kept m))) (flat_map entry p) x ∙ ap (λ (l : List ℕ). l ++ (flat_map entry p ++ x)) (sym (entries_none (head_of (Kept m))));
 }
 
 -- without a checkpoint and without an entry
@@ -61,10 +61,10 @@ module _ (bytes : List ℕ) where
   pub first_no_entry : (m : Market) → HasFirst m bytes → (p : RecordPair) (rest : List ℕ) → ¬ HasEntryAt 8 p rest bytes
   first_no_entry m first p rest has =
       let magic = disk_magic_of m.version in
-      let behind : drop 8 bytes ≡ 1 ∷ (framed (checkpoint_bytes m) ++ first.rest) =
-      ap (drop 8) (first.spelled ∙ ap (λ (l : List ℕ). l ++ first.rest) (first_behind m.version (checkpoint_bytes m)) ∙ append_assoc magic (1 ∷ framed (checkpoint_bytes m)) first.rest)
+      let following : drop 8 bytes ≡ 1 ∷ (framed (checkpoint_bytes m) ++ first.rest) =
+      ap (drop 8) (first.encoded ∙ ap (λ (l : List ℕ). l ++ first.rest) (first_after m.version (checkpoint_bytes m)) ∙ append_assoc magic (1 ∷ framed (checkpoint_bytes m)) first.rest)
       ∙ drop_at magic (1 ∷ (framed (checkpoint_bytes m) ++ first.rest)) 8 (eight m.version) in
-      let found = frame_unique (pair_bytes p) (checkpoint_bytes m) rest first.rest (omega (arith, pair_short p has.is_pair)) first.lawful.1 (tails 1 1 _ _ (sym has.spelled ∙ behind)) in
+      let found = frame_unique (pair_bytes p) (checkpoint_bytes m) rest first.rest (omega (arith, pair_short p has.is_pair)) first.lawful.1 (tails 1 1 _ _ (sym has.encoded ∙ following)) in
       first.lawful.0 (p, has.is_pair, sym found.0)
 
 -- bare bytes begin at the first commit byte
@@ -76,4 +76,4 @@ bare_place begin p (version, is, none) =
 pub bare_new : (begin : Start) (p : List RecordPair) (bytes : List ℕ) → IsBare begin p → HasEntries (head_of begin) p bytes → IsNewDisk bytes
 bare_new begin p bytes (version, is, none) has0 =
     let has = subst (λ (b : Start). HasEntries (head_of b) [] bytes) is (subst (λ (l : List RecordPair). HasEntries (head_of begin) l bytes) none has0) in
-    inr (record { of = version; gate = has.gate; shut = has.shut; rest = has.rest; spelled = has.spelled ∙ ap (λ (l : List ℕ). l ++ has.gate ∷ has.rest) (magic_alone version) })
+    inr (record { of = version; commit = has.commit; shut = has.shut; rest = has.rest; encoded = has.encoded ∙ ap (λ (l : List ℕ). l ++ has.commit ∷ has.rest) (magic_alone version) })

@@ -28,10 +28,11 @@ use Rattle.journal_keeping.specs.Starts.{version_of, head_of, HasFirst}
 use Rattle.journal_keeping.specs.Keeping.{IsKeptJournal, StandsForJournal, HoldsLegal, SourceBegins, GoesOnIn}
 use Rattle.journal_keeping.specs.Openings.{Legal, IsOpening, OpensAs, KeepNone}
 use Rattle.journal_keeping.specs.Auditing.{StopsAs}
-use Rattle.journal_keeping.specs.Beginning.{IsReadUp, IsOpened, IsBegun, IsKeptOn, BeginsAt, StopsFirst, OpensNot, IsOfDisk, WhileOpening, OpensSafely}
+use Rattle.journal_keeping.specs.Beginning.{IsReadUp, IsOpened, IsCounted, IsBegun, IsKeptOn, BeginsAt, StopsFirst, OpensNot, IsOfDisk, WhileOpening, OpensSafely}
 use Rattle.journal_keeping.proofs.Auditing.{none_read}
 use Rattle.journal_keeping.proofs.Opened.{has_them, same_journal}
 use Rattle.journal_keeping.proofs.Beginnings.{bare_place}
+use Rattle.journal_keeping.proofs.OneOpening.{one_opening}
 
 abbrev Pairs : Type 0
 Pairs = List (Pair Record Outcome)
@@ -48,7 +49,7 @@ fault_of_disk disk.Memory = tt
 ends_have : (head : Head) (pairs : List RecordPair) (place : ℕ) (disk : DiskState) (bytes : List ℕ) → EndsAt head pairs place disk → disk.content ≡ Some bytes → HasEntries head pairs bytes
 ends_have head pairs place disk bytes ends told =
     let both : Some bytes ≡ Some (entries head pairs ++ ends.0 ∷ ends.2) = sym told ∙ ends.3.content in
-    record { lawful = ends.3.lawful; each = ends.3.each; gate = ends.0; shut = ends.1; rest = ends.2; spelled = cc }
+    record { lawful = ends.3.lawful; each = ends.3.each; commit = ends.0; shut = ends.1; rest = ends.2; encoded = cc }
 
 -- ---- what is refused
 
@@ -68,7 +69,7 @@ first_opened version rest held next (Damaged place) long known same is stops = r
         lawful = tt;
         journal = none_read (Empty version) (empty_market version) tt refl;
         rest = rest;
-        spelled = is;
+        encoded = is;
         begins = stops.0 ∙ sym (bare_place (Empty version) [] (version, refl, refl));
       };
       damage = subst (λ (n : ℕ). IsDamagedAt n held) (sym stops.0) stops.1;
@@ -307,6 +308,10 @@ can_serve content None begin input m place mid starts told begun = tt
 can_serve None (Some bytes) begin input m place mid starts told begun = absurd (went_well (told refl))
 can_serve (Some held) (Some bytes) begin input m place mid starts told begun = (begin, begun.0, opens_journal held begin input begun.0 m starts begun.1, begun.2)
 
+-- two openings as one journal have as many entries
+legal_count : (a b : Start) (p q : Pairs) (m n : Market) → Legal a p m ≡ Legal b q n → length p ≡ length q
+legal_count a b p q m n e = cc
+
 -- what was opened was read to its end
 pub read_known : (version : Version) (content : Option (List ℕ)) (start mid next : DiskState) (first market : Market) (from place : ℕ) → mid.content ≡ start.content → next.content ≡ mid.content → content ≡ start.content → IfSome content (λ held. IsFound (Some version) held start)
     → ((rest bytes : List ℕ) → start.content ≡ Some bytes → Holds (record { version = version; first = None }) [] 8 rest start → BeginsAt version bytes first from mid)
@@ -318,14 +323,27 @@ read_known version (Some held) start mid next first market from place same again
     let all = found at.begin at.rest at.starts at.market_is at.holds in
     (at.begin, at.version_is, (all.0, (is.0, is.1, all.1, ends_have (head_of at.begin) (map records_of all.0) place next held all.2 (again ∙ same ∙ sym told)), all.2))
 
+-- and its entries were counted
+pub count_known : (version : Version) (content : Option (List ℕ)) (start mid next : DiskState) (first market : Market) (from place count : ℕ) → mid.content ≡ start.content → next.content ≡ mid.content → content ≡ start.content → IfSome content (λ held. IsFound (Some version) held start)
+    → ((rest bytes : List ℕ) → start.content ≡ Some bytes → Holds (record { version = version; first = None }) [] 8 rest start → BeginsAt version bytes first from mid)
+    → ((begin : Start) (rest : List ℕ) → CanStart begin → first ≡ market_of begin → Holds (head_of begin) [] from rest mid → (legal : Pairs) × (count ≡ length legal) × IsKeptJournal begin legal market × EndsAt (head_of begin) (map records_of legal) place next)
+    → IfSome content (IsCounted count)
+count_known version None start mid next first market from place count same again told is begins found = tt
+count_known version (Some held) start mid next first market from place count same again told is begins found = λ begin old m opens.
+    let at = begins (drop 8 held) held (sym told) is.2 in
+    let all = found at.begin at.rest at.starts at.market_is at.holds in
+    let opened : IsOpening held (Legal at.begin all.0 market) = (is.0, is.1, all.2, ends_have (head_of at.begin) (map records_of all.0) place next held all.3 (again ∙ same ∙ sym told)) in
+    let one : Legal at.begin all.0 market ≡ Legal begin old m = one_opening held (Legal at.begin all.0 market) (Legal begin old m) opened opens in
+    all.1 ∙ legal_count at.begin begin all.0 old market m one
+
 -- no beginning was found
 pub first_known : (version : Version) (content : Option (List ℕ)) (start next : DiskState) (fault : KeepFault) → content ≡ start.content → next.content ≡ start.content → IfSome content (λ held. IsFound (Some version) held start)
     → ((rest bytes : List ℕ) → start.content ≡ Some bytes → Holds (record { version = version; first = None }) [] 8 rest start → StopsFirst fault bytes) → IfSome content (λ held. OpensNot held next fault)
 first_known version None start next fault told same is stops = tt
 first_known version (Some held) start next fault told same is stops =
     let both : Some held ≡ Some (entries (head_of (Empty version)) [] ++ drop 8 held) = told ∙ is.2.content in
-    let spelled : held ≡ entries (head_of (Empty version)) [] ++ drop 8 held = cc in
-    first_opened version (drop 8 held) held next fault is.0 is.1 (same ∙ sym told) spelled (stops (drop 8 held) held (sym told) is.2)
+    let encoded : held ≡ entries (head_of (Empty version)) [] ++ drop 8 held = cc in
+    first_opened version (drop 8 held) held next fault is.0 is.1 (same ∙ sym told) encoded (stops (drop 8 held) held (sym told) is.2)
 
 -- what was opened was read up to where it is refused
 pub stops_known : (version : Version) (content : Option (List ℕ)) (start mid next : DiskState) (first : Market) (from : ℕ) (fault : KeepFault) → content ≡ start.content → mid.content ≡ start.content → next.content ≡ mid.content → IfSome content (λ held. IsFound (Some version) held start)

@@ -8,7 +8,7 @@ use Rattle.wire_records.specs.Records.{Record}
 use Rattle.wire_records.specs.Commands.{Pair}
 use Rattle.wire_records.specs.Formats.{commands}
 use Rattle.flow_orders.specs.Outcomes.{Outcome}
-use Rattle.journal_records.specs.Pairs.{pair_spelling}
+use Rattle.journal_records.specs.Pairs.{pair_encoding}
 use Rattle.journal_records.specs.Formats.{records_of}
 use Rattle.market_rules.specs.Market.{Market}
 use Rattle.file_units.specs.Units.{BreaksOff}
@@ -51,7 +51,7 @@ module _ (window : WindowState) (rest left : Option (List ℕ)) (start now : Dis
     market = market;
     so_far = λ begin old is at. (so.kept begin old is at).goes_on;
     goes = goes;
-    whole = ([], subst (Grows held holds) (sym (append-nil (flat_map pair_spelling new))) so.written);
+    whole = ([], subst (Grows held holds) (sym (append-nil (flat_map pair_encoding new))) so.written);
     runs = λ begin old is at. subst (λ (l : Pairs). Runs begin start now old before (asked_of l) l (length new)) (sym (append-nil new)) (ended begin start now old before place (asked_of new) new market (so.kept begin old is at));
     written = subst (λ (l : Pairs). StandIn (result ≡ Err Write) held holds l) (sym (take_every new)) (stand_whole (result ≡ Err Write) held holds new so.written);
     ended = ends _ (refl, refl, λ begin old is at. (place, (so.kept begin old is at).keeps));
@@ -68,7 +68,7 @@ module _ (window : WindowState) (rest left : Option (List ℕ)) (start now : Dis
     market = market;
     so_far = λ begin old is at. (so.kept begin old is at).goes_on;
     goes = goes;
-    whole = ([], subst (Grows held holds) (sym (append-nil (flat_map pair_spelling new))) so.written);
+    whole = ([], subst (Grows held holds) (sym (append-nil (flat_map pair_encoding new))) so.written);
     runs = λ begin old is at.
         let kept = so.kept begin old is at in
         let right = canonical_is_admissible begin (old ++ new) market pair after kept.goes_on.journal served.step in
@@ -80,11 +80,11 @@ module _ (window : WindowState) (rest left : Option (List ℕ)) (start now : Dis
 
   -- it ended at an entry that was kept, but not written completely
   pub serves_cut : (next : DiskState) (after : Market) (later : ℕ) (last : Option (List ℕ)) (pair : Pair Record Outcome) (bytes : List ℕ) → IsServed bytes market pair after
-      → KeepsOneMore pair place later now next → GrowsByPrefix holds last (pair_spelling pair)
+      → KeepsOneMore pair place later now next → GrowsByPrefix holds last (pair_encoding pair)
       → Goes (pair ∷ []) (Err Write) → ServesOn window rest left (Err Write) before from start next held last
   serves_cut next after later last pair bytes served keeps cut goes =
       let all = new ++ pair ∷ [] in
-      let one : pair_spelling pair ≡ flat_map pair_spelling (pair ∷ []) = sym (append-nil (pair_spelling pair)) in
+      let one : pair_encoding pair ≡ flat_map pair_encoding (pair ∷ []) = sym (append-nil (pair_encoding pair)) in
       record {
         new = new;
         more = pair ∷ [];
@@ -92,7 +92,7 @@ module _ (window : WindowState) (rest left : Option (List ℕ)) (start now : Dis
         market = market;
         so_far = λ begin old is at. (so.kept begin old is at).goes_on;
         goes = goes;
-        whole = (take cut.0 (pair_spelling pair), Grows-more held holds last (flat_map pair_spelling new) (take cut.0 (pair_spelling pair)) so.written cut.2);
+        whole = (take cut.0 (pair_encoding pair), Grows-more held holds last (flat_map pair_encoding new) (take cut.0 (pair_encoding pair)) so.written cut.2);
         runs = λ begin old is at. ended begin start next old before later (asked_of all) all after
             (kept_one_more start now next before market after from place later held holds last new pair so served.fits served.step keeps begin old is at);
         written = subst (λ (l : Pairs). StandIn (◌≡◌ {A = Result (Unit {0}) KeepFault} (Err Write) (Err Write)) held last l) (sym (take_all (length all) all (omega arith))) (record {
@@ -102,10 +102,10 @@ module _ (window : WindowState) (rest left : Option (List ℕ)) (start now : Dis
           one = omega arith;
           none = λ not. absurd (not refl);
           written = (
-            flat_map pair_spelling new ++ take cut.0 (pair_spelling pair),
-            Grows-more held holds last (flat_map pair_spelling new) (take cut.0 (pair_spelling pair)) so.written cut.2,
+            flat_map pair_encoding new ++ take cut.0 (pair_encoding pair),
+            Grows-more held holds last (flat_map pair_encoding new) (take cut.0 (pair_encoding pair)) so.written cut.2,
             cut.0,
-            ap (λ (l : List ℕ). flat_map pair_spelling new ++ take cut.0 l) one,
+            ap (λ (l : List ℕ). flat_map pair_encoding new ++ take cut.0 l) one,
           );
         });
         ended = tt;
@@ -119,7 +119,7 @@ module _ {R D K : Type 0} (rest : R → Option (List ℕ)) (faults : R → ℕ) 
   broken more fault off = gone_broken commands Adds rest faults first w from_source source [] new tt tt (Names market new more) Ready gone inside fault new tt few off
 
   at_pair : (pair : Pair Record Outcome) (after : Market) (fault : KeepFault) → (¬ (fault ≡ Memory)) → IsServed w.held market pair after → BreaksOff commands (Names market new (pair ∷ [])) w.held new fault tt tt
-  at_pair pair after fault other served = record { unit = pair.asked; rest = served.rest; lawful = served.lawful; front = served.front; broken = (refl, inr refl, λ is. absurd (other is)) }
+  at_pair pair after fault other served = record { unit = pair.asked; rest = served.rest; lawful = served.lawful; prefix = served.prefix; broken = (refl, inr refl, λ is. absurd (other is)) }
 
   abbrev Broke : KeepFault → Type 0
   Broke fault = BreaksNext w.held market place later (state now) (state next) (held out) (held last) (next ≡ now) (last ≡ out) fault
@@ -131,7 +131,7 @@ module _ {R D K : Type 0} (rest : R → Option (List ℕ)) (faults : R → ℕ) 
   serves_broken Memory broke =
       let there = broke.2 in
       rw (broke.0, broke.1) (serves_so first (rest from_source) (rest source) (state begun) (state now) before market from place (held begun_out) (held out) new so (Err Memory)
-      (broken [] Memory (record { unit = there.0; rest = there.1; lawful = there.2.0; front = there.2.1; broken = (refl, inl refl, λ _. there.3) })) (λ P p. p))
+      (broken [] Memory (record { unit = there.0; rest = there.1; lawful = there.2.0; prefix = there.2.1; broken = (refl, inl refl, λ _. there.3) })) (λ P p. p))
   serves_broken Disk broke =
       rw (broke.0) (serves_failed first (rest from_source) (rest source) (state begun) (state now) before market from place (held begun_out) (held out) new so (state next) broke.2 broke.1 w.held is_disk broke.3 broke.4
       (broken (broke.1 ∷ []) Disk (at_pair broke.1 broke.2 Disk (λ is. cc is) broke.3)))

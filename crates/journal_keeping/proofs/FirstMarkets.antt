@@ -11,7 +11,7 @@ use Rattle.disk_edge.specs.Disks.{DiskState}
 use Rattle.journal_disk.specs.Entries.{framed, entries, disk_magic_of, Holds}
 use Rattle.journal_disk.specs.Looking.{OnlyLooks}
 use Rattle.journal_disk.specs.Stepping.{HasFrameAt, FindsFirst}
-use Rattle.journal_disk.proofs.Entries.{first_behind, magic_first, pair_short, disk_magics_told, eight}
+use Rattle.journal_disk.proofs.Entries.{first_after, magic_first, pair_short, disk_magics_told, eight}
 use Rattle.journal_disk.proofs.OneList.{frame_unique}
 use Rattle.journal_disk.proofs.FirstEntry.{first_holds}
 use Rattle.journal_disk.proofs.GoingOn.{looks_hold}
@@ -31,8 +31,8 @@ whole_one bytes m market taken is found =
     (one.0, omega (arith, ap length one.1, length-drop taken bytes))
 
 module _ (version : Version) (rest bytes : List ℕ) (disk later : DiskState) (told : disk.content ≡ Some bytes) (holds : Holds (record { version = version; first = None }) [] 8 rest disk) (looks : OnlyLooks disk later) where
-  spelled : bytes ≡ entries (head_of (Empty version)) [] ++ rest
-  spelled = let both : Some bytes ≡ Some (entries (head_of (Empty version)) [] ++ rest) = sym told ∙ holds.content in cc
+  encoded : bytes ≡ entries (head_of (Empty version)) [] ++ rest
+  encoded = let both : Some bytes ≡ Some (entries (head_of (Empty version)) [] ++ rest) = sym told ∙ holds.content in cc
 
   -- a first entry that holds a checkpoint, as what is stored at the first commit byte
   frame_of : (m : Market) → HasFirst m bytes → HasFrameAt 8 (checkpoint_bytes m) bytes
@@ -41,7 +41,7 @@ module _ (version : Version) (rest bytes : List ℕ) (disk later : DiskState) (t
       record {
         short = first.lawful.1;
         rest = first.rest;
-        spelled = ap (drop 8) (first.spelled ∙ ap (λ (l : List ℕ). l ++ first.rest) (first_behind m.version (checkpoint_bytes m)) ∙ append_assoc magic (1 ∷ framed (checkpoint_bytes m)) first.rest)
+        encoded = ap (drop 8) (first.encoded ∙ ap (λ (l : List ℕ). l ++ first.rest) (first_after m.version (checkpoint_bytes m)) ∙ append_assoc magic (1 ∷ framed (checkpoint_bytes m)) first.rest)
             ∙ drop_at magic (1 ∷ (framed (checkpoint_bytes m) ++ first.rest)) 8 (eight m.version);
         within = omega (arith, first.lawful.1);
       }
@@ -49,7 +49,7 @@ module _ (version : Version) (rest bytes : List ℕ) (disk later : DiskState) (t
   -- it is of the version of the disk
   of_version : (m : Market) → HasFirst m bytes → m.version ≡ version
   of_version m first =
-      (one_magic disk_magic_of disk_magics_told m.version version _ _ (sym (magic_first (head_of (Kept m)) [] first.rest) ∙ sym first.spelled ∙ spelled ∙ magic_first (head_of (Empty version)) [] rest)).0
+      (one_magic disk_magic_of disk_magics_told m.version version _ _ (sym (magic_first (head_of (Kept m)) [] first.rest) ∙ sym first.encoded ∙ encoded ∙ magic_first (head_of (Empty version)) [] rest)).0
 
   pub begins_empty : FindsFirst None checkpoint_magic 8 bytes → BeginsAt version bytes (empty_market version) 8 later
   begins_empty none = record {
@@ -70,11 +70,11 @@ module _ (version : Version) (rest bytes : List ℕ) (disk later : DiskState) (t
         let kept = first_holds version held rest disk holds (subst (λ (o : Option (List ℕ)). IfSome o (HasFrameAt 8 held)) (sym told) frame) (no_pair held magic, frame.short) in
         let there : Holds (head_of (Kept market)) [] place kept.0 disk =
         subst (λ (n : ℕ). Holds (head_of (Kept market)) [] n kept.0 disk) (sym at)
-        (subst (λ (l : List ℕ). Holds (record { version = market.version; first = Some l }) [] (8 + (5 + length held)) kept.0 disk) is.spelled
+        (subst (λ (l : List ℕ). Holds (record { version = market.version; first = Some l }) [] (8 + (5 + length held)) kept.0 disk) is.encoded
         (subst (λ (v : Version). Holds (record { version = v; first = Some held }) [] (8 + (5 + length held)) kept.0 disk) (sym of) kept.1)) in
         record {
           begin = Kept market;
-          starts = subst (λ (l : List ℕ). IsCheckpoint market l) is.spelled is;
+          starts = subst (λ (l : List ℕ). IsCheckpoint market l) is.encoded is;
           market_is = refl;
           version_is = of;
           rest = kept.0;
@@ -89,14 +89,14 @@ module _ (version : Version) (rest bytes : List ℕ) (disk later : DiskState) (t
           refl,
           inr (
             framed held ++ frame.rest,
-            frame.spelled,
-            λ pair behind has.
-                let found = frame_unique held _ frame.rest behind frame.short (omega (arith, pair_short pair has.is_pair)) (tails 1 1 _ _ (sym frame.spelled ∙ has.spelled)) in
+            frame.encoded,
+            λ pair following has.
+                let found = frame_unique held _ frame.rest following frame.short (omega (arith, pair_short pair has.is_pair)) (tails 1 1 _ _ (sym frame.encoded ∙ has.encoded)) in
                 no_pair held magic (pair, has.is_pair, found.0),
           ),
           λ m first.
               let other = frame_of m first in
-              let same = frame_unique held (checkpoint_bytes m) frame.rest other.rest frame.short other.short (tails 1 1 _ _ (sym frame.spelled ∙ other.spelled)) in
+              let same = frame_unique held (checkpoint_bytes m) frame.rest other.rest frame.short other.short (tails 1 1 _ _ (sym frame.encoded ∙ other.encoded)) in
               none is m (subst (λ (l : List ℕ). IsCheckpoint m l) (sym same.0) first.is_one) (of_version m first),
         ))
         (λ (is : fault ≡ Memory). subst (λ (f : KeepFault). StopsFirst f bytes) (sym is) tt)

@@ -6,7 +6,7 @@ use Rattle.wire_records.specs.Versions.{IsReadAs}
 use Rattle.flow_orders.specs.Outcomes.{Outcome, IsAdmissibleOutcome}
 use Rattle.journal_records.specs.Pairs.{IsPair}
 use Rattle.journal_records.specs.Formats.{records_of}
-use Rattle.journal_records.proofs.Spelled.{answer_unique}
+use Rattle.journal_records.proofs.Encoded.{answer_unique}
 use Rattle.market_rules.specs.Market.{Market}
 use Rattle.market_history.specs.Histories.{Start, market_of}
 use Rattle.market_rules.specs.Journal.{Step, Follows}
@@ -27,7 +27,7 @@ others_of P x xs all k d inside = all (suc k) d (omega (arith, inside))
 
 -- a step with an answer that may be in a journal is a valid entry
 step_is_legal : (old : Market) (pair : Pair Record Outcome) (new : Market) → IsPair pair → Step IsReadAs IsAdmissibleOutcome old pair.asked pair.answer new → IsLegalPair old (records_of pair) new
-step_is_legal old pair new is step = record { answer = pair.answer; spelled = record { fits = is.answer; spelled = refl }; step = step }
+step_is_legal old pair new is step = record { answer = pair.answer; encoded = record { fits = is.answer; encoded = refl }; step = step }
 
 -- one entry has these records
 pair_is : (p q : Pair Record Outcome) → IsPair p → IsPair q → records_of p ≡ records_of q → p ≡ q

@@ -16,17 +16,17 @@ use Rattle.journal_keeping.specs.Laws.{PrefixesAreLegal, MorePairsStay, FirstsAr
 abbrev Leads : Market → List (Pair Record Outcome) → Market → Type 0
 Leads = Follows IsReadAs IsAdmissibleOutcome
 
-front_leads : (old : Market) (pairs : List (Pair Record Outcome)) (new : Market) (count : ℕ) → Leads old pairs new → (mid : Market) × Leads old (take count pairs) mid
-front_leads old pairs new zero leads = (old, refl)
-front_leads old [] new (suc count) leads = (old, refl)
-front_leads old (pair ∷ pairs) new (suc count) leads =
-    let rest = front_leads leads.0 pairs new count leads.2 in
+prefix_leads : (old : Market) (pairs : List (Pair Record Outcome)) (new : Market) (count : ℕ) → Leads old pairs new → (mid : Market) × Leads old (take count pairs) mid
+prefix_leads old pairs new zero leads = (old, refl)
+prefix_leads old [] new (suc count) leads = (old, refl)
+prefix_leads old (pair ∷ pairs) new (suc count) leads =
+    let rest = prefix_leads leads.0 pairs new count leads.2 in
     (rest.0, (leads.0, leads.1, rest.1))
 
 pub prefixes_are_legal : PrefixesAreLegal
 prefixes_are_legal begin pairs market count is =
-    let front = front_leads (market_of begin) pairs market count is.steps in
-    (front.0, record { starts = is.starts; each = All-take IsPair count pairs is.each; steps = front.1 })
+    let prefix = prefix_leads (market_of begin) pairs market count is.steps in
+    (prefix.0, record { starts = is.starts; each = All-take IsPair count pairs is.each; steps = prefix.1 })
 
 pub more_pairs_stay : MorePairsStay
 more_pairs_stay begin old new more least most later image fits grows keeps = (
@@ -37,14 +37,14 @@ more_pairs_stay begin old new more least most later image fits grows keeps = (
 )
 
 -- a prefix of the second list after the first is a prefix of both
-front_of_both : (old new : List (Pair Record Outcome)) (count : ℕ) → (n : ℕ) × (old ++ take count new ≡ take n (old ++ new))
-front_of_both [] new count = (count, refl)
-front_of_both (pair ∷ old) new count =
-    let rest = front_of_both old new count in
+prefix_of_both : (old new : List (Pair Record Outcome)) (count : ℕ) → (n : ℕ) × (old ++ take count new ≡ take n (old ++ new))
+prefix_of_both [] new count = (count, refl)
+prefix_of_both (pair ∷ old) new count =
+    let rest = prefix_of_both old new count in
     (suc rest.0, ap (λ (l : List (Pair Record Outcome)). pair ∷ l) rest.1)
 
 pub firsts_are_legal : FirstsAreLegal
 firsts_are_legal begin old new before after records least most image on keeps =
-    let both = front_of_both old new keeps.0 in
-    let front = prefixes_are_legal begin (old ++ new) after both.0 on.journal in
-    (begin, old ++ take keeps.0 new, front.0, subst (λ (l : List (Pair Record Outcome)). IsKeptJournal begin l front.0) (sym both.1) front.1, keeps.3)
+    let both = prefix_of_both old new keeps.0 in
+    let prefix = prefixes_are_legal begin (old ++ new) after both.0 on.journal in
+    (begin, old ++ take keeps.0 new, prefix.0, subst (λ (l : List (Pair Record Outcome)). IsKeptJournal begin l prefix.0) (sym both.1) prefix.1, keeps.3)

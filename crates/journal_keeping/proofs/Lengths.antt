@@ -16,7 +16,7 @@ use Rattle.journal_disk.specs.Looking.{OnlyLooks}
 use Rattle.journal_disk.specs.Lengths.{HasAtMost, LeavesAtMost, ReachesAtMost}
 use Rattle.journal_disk.proofs.Lengths.{reach_wider, reach_more, reach_none}
 use Rattle.journal_keeping.specs.Starts.{head_of, source_start}
-use Rattle.journal_keeping.specs.Beginning.{IsBehindStart, IsStored, IsBegun}
+use Rattle.journal_keeping.specs.Beginning.{IsAfterStart, IsStored, IsBegun}
 use Rattle.journal_keeping.specs.Lengths.{BringsAtMost, GrowsAtMost, HasYetAtMost}
 
 -- ---- the bytes that may be served yet
@@ -33,7 +33,7 @@ yet_taken n count window rest few (inl up) = inl (omega (arith, up))
 yet_taken n count window rest few (inr held) = inr (held.0, held.1, omega (arith, held.2, few, length-drop n window.held))
 
 -- bytes that are taken are no longer left
-left_less : (joined : List ℕ) (before after : Option (List ℕ)) (left : List ℕ) → Takes before after joined → before ≡ Some left → (more : List ℕ) × (after ≡ Some more) × (length left ≡ length joined + length more)
+pub left_less : (joined : List ℕ) (before after : Option (List ℕ)) (left : List ℕ) → Takes before after joined → before ≡ Some left → (more : List ℕ) × (after ≡ Some more) × (length left ≡ length joined + length more)
 left_less joined None None left takes is = absurd cc
 left_less joined None (Some more) left takes is = absurd takes
 left_less joined (Some bytes) None left takes is = absurd takes
@@ -49,12 +49,12 @@ yet_read count old new before after fills (inr held) =
     inr (less.0, less.1, omega (arith, held.2, less.2, length-append fills.joined fills.past, length-append old.held fills.joined, ap (λ (w : WindowState). length w.held) fills.holds))
 
 -- the window is after the beginning of the source: so many bytes fewer may be served
-yet_behind : (limit count : ℕ) (input : Start) (window : WindowState) (content after : Option (List ℕ)) → IsBehindStart limit input window content after → BringsAtMost limit content count
+yet_after : (limit count : ℕ) (input : Start) (window : WindowState) (content after : Option (List ℕ)) → IsAfterStart limit input window content after → BringsAtMost limit content count
     → (length (source_start input) ≤ count) × HasYetAtMost (count - length (source_start input)) window after
-yet_behind limit count input window content after behind (inl up) = (omega (arith, up, behind.few, ap length behind.magic.1, length-append (source_start input) window.held), inl (omega (arith, up, behind.limited, behind.place)))
-yet_behind limit count input window content after behind (inr held) =
-    let less = left_less behind.first content after held.0 behind.takes held.1 in
-    let long = ap length behind.magic.1 ∙ length-append (source_start input) window.held in
+yet_after limit count input window content after following (inl up) = (omega (arith, up, following.few, ap length following.magic.1, length-append (source_start input) window.held), inl (omega (arith, up, following.limited, following.place)))
+yet_after limit count input window content after following (inr held) =
+    let less = left_less following.first content after held.0 following.takes held.1 in
+    let long = ap length following.magic.1 ∙ length-append (source_start input) window.held in
     (omega (arith, held.2, less.2, long), inr (less.0, less.1, omega (arith, held.2, less.2, long)))
 
 -- ---- while records are served
@@ -130,28 +130,28 @@ pub start_within : (input : Start) (stored : List ℕ) (start end : DiskState) �
 start_within input stored start end is reach most nine short =
     reach (most + length (source_start input)) (omega (arith, nine, stored_few input stored is)) (λ image left. omega (arith, short image left))
 
-pub grows_start : (limit : ℕ) (input : Start) (window : WindowState) (content after : Option (List ℕ)) → IsBehindStart limit input window content after → (start end : DiskState)
+pub grows_start : (limit : ℕ) (input : Start) (window : WindowState) (content after : Option (List ℕ)) → IsAfterStart limit input window content after → (start end : DiskState)
     → ((most : ℕ) → 9 ≤ most → LeavesAtMost most start → AtEachMoment start end (HasAtMost (most + length (source_start input)))) → GrowsAtMost limit content start end
-grows_start limit input window content after behind start end within = λ most count nine short brings.
+grows_start limit input window content after following start end within = λ most count nine short brings.
     weaker start end (HasAtMost (most + length (source_start input))) (HasAtMost (most + 263183 * count))
-    (λ image le. omega (arith, le, (yet_behind limit count input window content after behind brings).0)) (within most nine short)
+    (λ image le. omega (arith, le, (yet_after limit count input window content after following brings).0)) (within most nine short)
 
 -- the commit byte that isn't set is among the bytes that a crash leaves
-last_gate : (head : Head) (pairs : List RecordPair) (place most : ℕ) (disk : DiskState) → IsDisk disk → Keeps head pairs place disk → LeavesAtMost most disk → place + 1 ≤ most
-last_gate head pairs place most disk is_disk keeps short =
+pub last_commit : (head : Head) (pairs : List RecordPair) (place most : ℕ) (disk : DiskState) → IsDisk disk → Keeps head pairs place disk → LeavesAtMost most disk → place + 1 ≤ most
+last_commit head pairs place most disk is_disk keeps short =
     let bytes = entries head pairs ++ keeps.0 ∷ [] in
     let left : disk.images bytes = subst (λ (o : Option (List ℕ)). IfSome o disk.images) keeps.2.content is_disk.content in
     omega (arith, short bytes left, length-append (entries head pairs) (keeps.0 ∷ []), keeps.2.begins)
 
-pub grows_served : (limit : ℕ) (begin input : Start) (window : WindowState) (content after : Option (List ℕ)) → IsBehindStart limit input window content after → (start mid end : DiskState) → IsDisk mid
+pub grows_served : (limit : ℕ) (begin input : Start) (window : WindowState) (content after : Option (List ℕ)) → IsAfterStart limit input window content after → (start mid end : DiskState) → IsDisk mid
     → ((most : ℕ) → 9 ≤ most → LeavesAtMost most start → AtEachMoment start mid (HasAtMost (most + length (source_start input)))) → (held : List ℕ) (market : Market) (place : ℕ) → IsBegun held begin input market place mid
     → ((count : ℕ) → HasYetAtMost count window after → ReachesAtMost (place + 263183 * count + 1) mid end) → GrowsAtMost limit content start end
-grows_served limit begin input window content after behind start mid end is_disk within held market place begun served = λ most count nine short brings.
+grows_served limit begin input window content after following start mid end is_disk within held market place begun served = λ most count nine short brings.
     let size = length (source_start input) in
     let run = within most nine short in
     let there = at_the_end start mid (HasAtMost (most + size)) is_disk run in
-    let last = last_gate (head_of begin) _ place (most + size) mid is_disk begun.2 there in
-    let yet = yet_behind limit count input window content after behind brings in
+    let last = last_commit (head_of begin) _ place (most + size) mid is_disk begun.2 there in
+    let yet = yet_after limit count input window content after following brings in
     let all = most + 263183 * count in
     then_more start mid end (HasAtMost all) (weaker start mid (HasAtMost (most + size)) (HasAtMost all) (λ image le. omega (arith, le, yet.0)) run)
     (served (count - size) yet.1 all (omega (arith, last, yet.0)) (λ image left. omega (arith, there image left, yet.0)))

@@ -15,10 +15,10 @@ takes_one new one = record {
   lawful = one.served.lawful;
   size = one.size;
   some = one.some;
-  front = one.served.front ∙ ap (λ (l : List ℕ). commands.units.spell one.pair.asked ++ l) one.behind;
+  prefix = one.served.prefix ∙ ap (λ (l : List ℕ). commands.units.encode one.pair.asked ++ l) one.following;
   step = (one.pair, refl, refl);
 }
 
 -- the record that was served is within the bytes
 pub size_within : {n : ℕ} {bytes : List ℕ} {old next : Market} {from to : ℕ} {disk later : DiskState} {before after : Option (List ℕ)} (one : TakesNext n bytes old next from to disk later before after) → n ≤ length bytes
-size_within one = omega (arith, one.size, ap length one.served.front, length-append (commands.units.spell one.pair.asked) one.served.rest)
+size_within one = omega (arith, one.size, ap length one.served.prefix, length-append (commands.units.encode one.pair.asked) one.served.rest)

@@ -12,7 +12,7 @@ use Rattle.wire_records.specs.declared.version.Version.{Version}
 use Rattle.market_history.specs.Histories.{Empty}
 use Rattle.file_units.proofs.Gone.{considered, within_limit}
 use Rattle.journal_keeping.specs.Starts.{source_start, sources}
-use Rattle.journal_keeping.specs.Beginning.{IsBehindStart, BreaksOffEarly, IsNoneOf}
+use Rattle.journal_keeping.specs.Beginning.{IsAfterStart, BreaksOffEarly, IsNoneOf}
 use Rattle.journal_keeping.proofs.Starts.{input_long, magic_long}
 
 -- fewer than eight bytes have no magic
@@ -20,10 +20,10 @@ pub short_has_none : (version : Version) (bytes body : List ℕ) → length byte
 short_has_none version bytes body few begins = omega (arith, few, eight version, ap length begins.1, length-append (command_magic_of version) body)
 
 -- what begins with a magic has it in its first eight bytes
-pub front_has : (version : Version) (held more body : List ℕ) → 8 ≤ length held → held ++ more ≡ command_magic_of version ++ body → BeginsWith commands.magics held version (drop 8 held)
-front_has version held more body some is =
-    let front : take 8 held ≡ command_magic_of version = sym (take-append-le 8 held more some) ∙ ap (take 8) is ∙ take_at (command_magic_of version) body 8 (eight version) in
-    (tt, sym (take-append-drop 8 held) ∙ ap (λ (l : List ℕ). l ++ drop 8 held) front)
+pub prefix_has : (version : Version) (held more body : List ℕ) → 8 ≤ length held → held ++ more ≡ command_magic_of version ++ body → BeginsWith commands.magics held version (drop 8 held)
+prefix_has version held more body some is =
+    let prefix : take 8 held ≡ command_magic_of version = sym (take-append-le 8 held more some) ∙ ap (take 8) is ∙ take_at (command_magic_of version) body 8 (eight version) in
+    (tt, sym (take-append-drop 8 held) ∙ ap (λ (l : List ℕ). l ++ drop 8 held) prefix)
 
 -- fewer than eight bytes begin no source
 pub short_no_input : (bytes : List ℕ) → length bytes < 8 → BeginsWithNone sources.magics bytes
@@ -34,7 +34,7 @@ none_of_short None bytes few = (short_no_input bytes few, λ unsound. omega (ari
 none_of_short (Some own) bytes few = λ body begins. short_has_none own bytes body few begins
 
 none_of_more : (own : Version) (held more : List ℕ) → 8 ≤ length held → IsNoneOf (Some own) held → IsNoneOf (Some own) (held ++ more)
-none_of_more own held more some none = λ body begins. none (drop 8 held) (front_has own held more body some begins.1)
+none_of_more own held more some none = λ body begins. none (drop 8 held) (prefix_has own held more body some begins.1)
 
 -- the version that was found isn't this one
 pub none_found : (found own : Version) (held : List ℕ) → ((v : Version) → (◌≡◌ {A = Option Version} (Some found) (Some v)) ↔ ((body : List ℕ) × BeginsWith commands.magics held v body)) → (¬ (found ≡ own)) → IsNoneOf (Some own) held
@@ -106,9 +106,9 @@ module _ (limit : ℕ) (filled : WindowState) (before after : Option (List ℕ))
       )
 
   -- the bytes begin with the magic
-  pub behind_magic : (version : Version) (window : WindowState) (body : List ℕ) → filled.over ≡ None → BeginsWith commands.magics filled.held version body
-      → window ≡ record filled { held = drop 8 filled.held; place = filled.place + 8 } → length filled.held ≤ filled.room → IsBehindStart limit (Empty version) window before after
-  behind_magic version window body open_still magic advanced few = record {
+  pub after_magic : (version : Version) (window : WindowState) (body : List ℕ) → filled.over ≡ None → BeginsWith commands.magics filled.held version body
+      → window ≡ record filled { held = drop 8 filled.held; place = filled.place + 8 } → length filled.held ≤ filled.room → IsAfterStart limit (Empty version) window before after
+  after_magic version window body open_still magic advanced few = record {
     limited = ap (λ (w : WindowState). w.limit) advanced ∙ limited;
     place = ap (λ (w : WindowState). w.place) advanced ∙ ap (λ (n : ℕ). n + 8) place ∙ sym (eight version);
     room = ap (λ (w : WindowState). w.room) advanced ∙ ap (λ (w : WindowState). w.room) fills.holds;

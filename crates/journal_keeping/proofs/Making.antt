@@ -14,7 +14,7 @@ use Rattle.journal_disk.specs.Looking.{OnlyLooks}
 use Rattle.journal_disk.proofs.GoingOn.{looks_more}
 use Rattle.journal_keeping.specs.Starts.{source_start, sources}
 use Rattle.journal_keeping.specs.Keeping.{SourceBegins}
-use Rattle.journal_keeping.specs.Beginning.{IsBehindStart}
+use Rattle.journal_keeping.specs.Beginning.{IsAfterStart}
 use Rattle.journal_keeping.specs.Making.{HasTakenStart}
 
 pub each_some : {T : Type 0} (o : Option T) (P : T → Type 0) → ((x : T) → P x) → IfSome o P
@@ -70,19 +70,19 @@ module _ (limit : ℕ) (w : WindowState) (input : Start) (first : List ℕ) (beg
   has_told (Some bytes) (Some m) (Some l) taken opens takes =
       (length (first ++ taken), counts_taken bytes m taken l opens takes, input, take (length (w.held ++ taken)) (take (limit - length start) (w.held ++ (taken ++ l))), (begins.0, begins_taken bytes m taken l opens takes))
 
-pub start_taken : (limit : ℕ) (w : WindowState) (input : Start) (content mid left : Option (List ℕ)) (taken : List ℕ) → IsBehindStart limit input w content mid → Takes mid left taken → IfSome content (λ bytes. HasTakenStart limit bytes left)
-start_taken limit w input content mid left taken behind takes = has_told limit w input behind.first behind.magic behind.few content mid left taken behind.takes takes
+pub start_taken : (limit : ℕ) (w : WindowState) (input : Start) (content mid left : Option (List ℕ)) (taken : List ℕ) → IsAfterStart limit input w content mid → Takes mid left taken → IfSome content (λ bytes. HasTakenStart limit bytes left)
+start_taken limit w input content mid left taken following takes = has_told limit w input following.first following.magic following.few content mid left taken following.takes takes
 
 -- and so it is within the limit
-pub source_begins : (limit : ℕ) (w : WindowState) (input : Start) (content left : Option (List ℕ)) → IsBehindStart limit input w content left → SourceBegins limit content input
-source_begins limit w input None left behind = tt
-source_begins limit w input (Some bytes) None behind = absurd behind.takes
-source_begins limit w input (Some bytes) (Some m) behind = (
+pub source_begins : (limit : ℕ) (w : WindowState) (input : Start) (content left : Option (List ℕ)) → IsAfterStart limit input w content left → SourceBegins limit content input
+source_begins limit w input None left following = tt
+source_begins limit w input (Some bytes) None following = absurd following.takes
+source_begins limit w input (Some bytes) (Some m) following = (
   take (limit - length (source_start input)) (w.held ++ m),
   (
-    behind.magic.0,
-    ap (take limit) (behind.takes ∙ ap (λ (xs : List ℕ). xs ++ m) behind.magic.1 ∙ append_assoc (source_start input) w.held m)
-        ∙ ap (λ (n : ℕ). take n (source_start input ++ (w.held ++ m))) (start_within limit w input behind.first behind.magic behind.few)
+    following.magic.0,
+    ap (take limit) (following.takes ∙ ap (λ (xs : List ℕ). xs ++ m) following.magic.1 ∙ append_assoc (source_start input) w.held m)
+        ∙ ap (λ (n : ℕ). take n (source_start input ++ (w.held ++ m))) (start_within limit w input following.first following.magic following.few)
         ∙ take-append-add (source_start input) (w.held ++ m) (limit - length (source_start input)),
   ),
 )

@@ -1,8 +1,8 @@
 -- The first record is served: its entry may be kept.
 use Rattle.std.proofs.Common.{◌≡◌, ◌⊎◌, ⊎_elim, ◌+◌, ◌-◌, ◌*◌, ◌<◌, ◌≤◌, ◌^◌, ℕ, List, [], ◌∷◌, ◌++◌, Option, IsSome, length, length-append, drop, refl, sym, ap, subst, ◌∙◌, arith}
 use Rattle.flow_io.specs.Streams.{Grows, GrowsByPrefix}
-use Rattle.wire_records.specs.Records.{Record, spelling}
-use Rattle.wire_records.proofs.Spelled.{length-spelling}
+use Rattle.wire_records.specs.Records.{Record, encoding}
+use Rattle.wire_records.proofs.Encoded.{length-encoding}
 use Rattle.wire_records.specs.Commands.{Pair}
 use Rattle.wire_records.specs.Formats.{commands}
 use Rattle.flow_orders.specs.Outcomes.{Outcome}
@@ -24,46 +24,46 @@ use Rattle.journal_keeping.specs.Private.{KeepsOneMore, IsServed, TakesNext, Bre
 use Rattle.journal_keeping.proofs.Turns.{is_record_pair, same_bytes, is_whole}
 
 -- a record takes at least five bytes, and no more than there are
-record_within : (bytes : List ℕ) (r : Record) (taken : ℕ) → taken ≡ length (spelling r) → bytes ≡ spelling r ++ drop taken bytes → (taken ≤ length bytes) × (5 ≤ taken)
-record_within bytes r taken size front = (omega (arith, size, ap length front, length-append (spelling r) (drop taken bytes)), omega (arith, size, length-spelling r))
+record_within : (bytes : List ℕ) (r : Record) (taken : ℕ) → taken ≡ length (encoding r) → bytes ≡ encoding r ++ drop taken bytes → (taken ≤ length bytes) × (5 ≤ taken)
+record_within bytes r taken size prefix = (omega (arith, size, ap length prefix, length-append (encoding r) (drop taken bytes)), omega (arith, size, length-encoding r))
 
 -- if memory ran out with a buffer for the longest plain entry, the record may allocate
 pub has_allocating : (old : Market) (bytes : List ℕ) (room : ℕ) → longest_plain_pair ≤ room → AllocatesNext old bytes room → HasAllocating old bytes
-has_allocating old bytes room enough next = (next.asked, next.rest, (next.lawful, next.front), ⊎_elim (λ (small : room < longest_plain_pair). absurd (omega (arith, small, enough))) (λ allocates. allocates) next.allocates)
+has_allocating old bytes room enough next = (next.asked, next.rest, (next.lawful, next.prefix), ⊎_elim (λ (small : room < longest_plain_pair). absurd (omega (arith, small, enough))) (λ allocates. allocates) next.allocates)
 
 module _ (n : ℕ) (bytes : List ℕ) (old new : Market) (text : List ℕ) (one : TakesOne commands Puts n bytes old new [] text) (left : ℕ) (inside : length bytes ≤ left) (ready : HasNumbers old left) where
   abbrev pub pair_of : Pair Record Outcome
   pair_of = record { asked = one.unit; answer = one.step.answer }
 
   within : (n ≤ length bytes) × (5 ≤ n)
-  within = record_within bytes one.unit n one.size one.front
+  within = record_within bytes one.unit n one.size one.prefix
 
   pub fits : IsPair pair_of
   fits = one.step.fits (omega (arith, steps_number_one old one.unit one.step.answer new one.step.step, within.0, within.1, inside, ready))
 
   pub served : IsServed bytes old pair_of new
-  served = record { lawful = one.lawful; rest = drop n bytes; front = one.front; step = one.step.step; fits = fits }
+  served = record { lawful = one.lawful; rest = drop n bytes; prefix = one.prefix; step = one.step.step; fits = fits }
 
   pub whole : IsWholePair text
-  whole = is_whole pair_of text fits one.step.spelled
+  whole = is_whole pair_of text fits one.step.encoded
 
   -- the entry as two records, and its bytes
   pub two_records : IsRecordPair (records_of pair_of)
   two_records = is_record_pair pair_of fits
 
   pub their_bytes : text ≡ pair_bytes (records_of pair_of)
-  their_bytes = one.step.spelled ∙ same_bytes pair_of
+  their_bytes = one.step.encoded ∙ same_bytes pair_of
 
   pub takes : (from to : ℕ) (disk later : DiskState) (before after : Option (List ℕ)) → KeepsOneMore pair_of from to disk later → (IsSome later.content → IsSome disk.content) → Grows before after text → TakesNext n bytes old new from to disk later before after
   takes from to disk later before after keeps told grows = record {
     pair = pair_of;
-    served = record { lawful = one.lawful; rest = drop n bytes; front = one.front; step = one.step.step; fits = fits };
+    served = record { lawful = one.lawful; rest = drop n bytes; prefix = one.prefix; step = one.step.step; fits = fits };
     size = one.size;
     some = one.some;
-    behind = refl;
+    following = refl;
     keeps = keeps;
     told = told;
-    written = subst (λ (l : List ℕ). Grows before after l) one.step.spelled grows;
+    written = subst (λ (l : List ℕ). Grows before after l) one.step.encoded grows;
   }
 
   pub still_ready : (place later : ℕ) → place + 263183 * left ≤ 2 ^ 61 → later ≡ place + (5 + length text) → later + 263183 * (left - n) ≤ 2 ^ 61
@@ -84,9 +84,9 @@ module _ (n : ℕ) (bytes : List ℕ) (old new : Market) (text : List ℕ) (one 
       → (fault ≡ Write → (head : Head) (pairs : List RecordPair) → Keeps head pairs from disk → Keeps head (pairs ++ records_of pair_of ∷ []) to later) → (fault ≡ Write → GrowsByPrefix before after text)
       → BreaksNext bytes old from to disk later before after SameDisk SameOut fault
   breaks from to disk later before after SameDisk SameOut fault refused silent moments keeps cut =
-      let there : IsServed bytes old pair_of new = record { lawful = one.lawful; rest = drop n bytes; front = one.front; step = one.step.step; fits = fits } in
+      let there : IsServed bytes old pair_of new = record { lawful = one.lawful; rest = drop n bytes; prefix = one.prefix; step = one.step.step; fits = fits } in
       ⊎_elim
       (λ (is : fault ≡ Disk). subst (λ (f : KeepFault). BreaksNext bytes old from to disk later before after SameDisk SameOut f) (sym is) (silent is, pair_of, new, there, moments))
       (λ (is : fault ≡ Write). subst (λ (f : KeepFault). BreaksNext bytes old from to disk later before after SameDisk SameOut f) (sym is)
-      (pair_of, new, there, record { keeps = keeps is; moments = moments }, subst (λ (l : List ℕ). GrowsByPrefix before after l) one.step.spelled (cut is)))
+      (pair_of, new, there, record { keeps = keeps is; moments = moments }, subst (λ (l : List ℕ). GrowsByPrefix before after l) one.step.encoded (cut is)))
       refused

@@ -14,7 +14,7 @@ use Rattle.journal_disk.specs.Entries.{entries}
 use Rattle.journal_disk.specs.Recovering.{IsForeign}
 use Rattle.journal_disk.specs.Stepping.{HasEntryAt, IsDamagedAt}
 use Rattle.journal_disk.proofs.Entries.{each_more}
-use Rattle.journal_disk.proofs.Excluding.{one_behind}
+use Rattle.journal_disk.proofs.Excluding.{one_after}
 use Rattle.journal_keeping.specs.Starts.{head_of, HasFirst}
 use Rattle.journal_keeping.specs.Keeping.{IsKeptJournal}
 use Rattle.journal_keeping.specs.Openings.{Opening, Foreign, New, Damaged, Rejected, Legal, BeginsLegal, IsDamaged, IsOpening}
@@ -22,7 +22,7 @@ use Rattle.journal_keeping.specs.Laws.{OneOpening}
 use Rattle.journal_keeping.proofs.Judging.{one_judgement}
 use Rattle.journal_keeping.proofs.Beginnings.{begin_alike, first_no_entry, bare_place}
 use Rattle.journal_keeping.proofs.Opened.{kept_each, not_rejected, same_begins, legal_is_opened}
-use Rattle.journal_keeping.proofs.Fronts.{are_fronts, ends_at_damage}
+use Rattle.journal_keeping.proofs.Prefixes.{are_prefixes, ends_at_damage}
 
 small_known : (bytes : List ℕ) → (¬ IsForeign bytes) → length bytes ≤ 2 ^ 60
 small_known bytes known = ⊎_elim (λ (small : length bytes ≤ 2 ^ 60). small) (λ (large : 2 ^ 60 < length bytes). absurd (known (inl large))) (le_or_more (length bytes) (2 ^ 60))
@@ -34,31 +34,31 @@ small_known bytes known = ⊎_elim (λ (small : length bytes ≤ 2 ^ 60). small)
 record HasIllegal (begin : Start) (bytes : List ℕ) (legal : List (Pair Record Outcome)) (market : Market) (bad : RecordPair) (rest : List ℕ) : Type 0 where
   journal : IsKeptJournal begin legal market
   each : AllByRecursion IsRecordPair (map records_of legal ++ bad ∷ [])
-  spelled : bytes ≡ entries (head_of begin) (map records_of legal ++ bad ∷ []) ++ rest
+  encoded : bytes ≡ entries (head_of begin) (map records_of legal ++ bad ∷ []) ++ rest
   illegal : IsIllegalPair market bad
 
 has_illegal : (begin : Start) (bytes : List ℕ) (legal : List (Pair Record Outcome)) (market : Market) (place : ℕ) (bad : RecordPair) (rest : List ℕ) → BeginsLegal begin bytes legal market place → HasEntryAt place bad rest bytes → IsIllegalPair market bad → HasIllegal begin bytes legal market bad rest
 has_illegal begin bytes legal market place bad rest begins has illegal = record {
   journal = begins.journal;
   each = each_more IsRecordPair (map records_of legal) bad (kept_each legal begins.journal.each) has.is_pair;
-  spelled = one_behind (head_of begin) (map records_of legal) bad begins.rest rest bytes place begins.spelled begins.begins has.spelled;
+  encoded = one_after (head_of begin) (map records_of legal) bad begins.rest rest bytes place begins.encoded begins.begins has.encoded;
   illegal = illegal;
 }
 
 -- damage ends the entries
 module _ (begin : Start) (bytes : List ℕ) (small : length bytes ≤ 2 ^ 60) where
-  nothing_behind : (first all more : List RecordPair) (rest : List ℕ) (place : ℕ) → AllByRecursion IsRecordPair all → bytes ≡ entries (head_of begin) all ++ rest → place ≡ length (entries (head_of begin) first) → IsDamagedAt place bytes → all ≡ first ++ more → all ≡ first
-  nothing_behind first all [] rest place each is begins damage same = same ∙ append-nil first
-  nothing_behind first all (next ∷ more) rest place each is begins damage same =
+  nothing_after : (first all more : List RecordPair) (rest : List ℕ) (place : ℕ) → AllByRecursion IsRecordPair all → bytes ≡ entries (head_of begin) all ++ rest → place ≡ length (entries (head_of begin) first) → IsDamagedAt place bytes → all ≡ first ++ more → all ≡ first
+  nothing_after first all [] rest place each is begins damage same = same ∙ append-nil first
+  nothing_after first all (next ∷ more) rest place each is begins damage same =
       absurd (ends_at_damage (head_of begin) first next more rest bytes place (subst (AllByRecursion IsRecordPair) same each) (is ∙ ap (λ (l : List RecordPair). entries (head_of begin) l ++ rest) same) begins small damage)
 
   same_damage : (p q : List RecordPair) (x y : List ℕ) (m n : ℕ) → AllByRecursion IsRecordPair p → AllByRecursion IsRecordPair q → bytes ≡ entries (head_of begin) p ++ x → bytes ≡ entries (head_of begin) q ++ y
       → m ≡ length (entries (head_of begin) p) → n ≡ length (entries (head_of begin) q) → IsDamagedAt m bytes → IsDamagedAt n bytes → m ≡ n
   same_damage p q x y m n a b is also starts begins here there =
       let same : p ≡ q = ⊎_elim
-      (λ more. sym (nothing_behind p q more.0 y m b also starts here more.1))
-      (λ more. nothing_behind q p more.0 x n a is begins there more.1)
-      (are_fronts (head_of begin) p q x y bytes a b is also) in
+      (λ more. sym (nothing_after p q more.0 y m b also starts here more.1))
+      (λ more. nothing_after q p more.0 x n a is begins there more.1)
+      (are_prefixes (head_of begin) p q x y bytes a b is also) in
       starts ∙ ap (λ (l : List RecordPair). length (entries (head_of begin) l)) same ∙ sym begins
 
   -- if there is damage after valid entries, none of those entries is invalid
@@ -69,9 +69,9 @@ module _ (begin : Start) (bytes : List ℕ) (small : length bytes ≤ 2 ^ 60) wh
       let l = map records_of legal in
       let q = l ++ bad ∷ [] in
       ⊎_elim
-      (λ more. not_rejected begin first m begins.journal legal n bad [] has.journal (sym (nothing_behind p q more.0 rest place has.each has.spelled begins.begins damage more.1)) has.illegal)
+      (λ more. not_rejected begin first m begins.journal legal n bad [] has.journal (sym (nothing_after p q more.0 rest place has.each has.encoded begins.begins damage more.1)) has.illegal)
       (λ more. not_rejected begin first m begins.journal legal n bad more.0 has.journal (more.1 ∙ append_assoc l (bad ∷ []) more.0) has.illegal)
-      (are_fronts (head_of begin) p q begins.rest rest bytes (kept_each first begins.journal.each) has.each begins.spelled has.spelled)
+      (are_prefixes (head_of begin) p q begins.rest rest bytes (kept_each first begins.journal.each) has.each begins.encoded has.encoded)
 
 -- there is one first invalid entry
 one_illegal : (begin : Start) (bytes : List ℕ) (a : List (Pair Record Outcome)) (m : Market) (x : RecordPair) (rest : List ℕ) (b : List (Pair Record Outcome)) (n : Market) (y : RecordPair) (left : List ℕ) → HasIllegal begin bytes a m x rest → HasIllegal begin bytes b n y left → a ≡ b
@@ -81,14 +81,14 @@ one_illegal begin bytes a m x rest b n y left one other =
     ⊎_elim
     (λ more. sym ((one_judgement begin b a (y ∷ []) (x ∷ more.0) n m (more.1 ∙ append_assoc p (x ∷ []) more.0) other.journal one.journal other.illegal one.illegal).0))
     (λ more. (one_judgement begin a b (x ∷ []) (y ∷ more.0) m n (more.1 ∙ append_assoc q (y ∷ []) more.0) one.journal other.journal one.illegal other.illegal).0)
-    (are_fronts (head_of begin) (p ++ x ∷ []) (q ++ y ∷ []) rest left bytes one.each other.each one.spelled other.spelled)
+    (are_prefixes (head_of begin) (p ++ x ∷ []) (q ++ y ∷ []) rest left bytes one.each other.each one.encoded other.encoded)
 
 module _ (bytes : List ℕ) where
   -- two readings of the bytes begin in one way, or one has left out a first entry that holds a checkpoint
   both_begin : (v w : Start) (legal other : List (Pair Record Outcome)) (m n : Market) (place at : ℕ) → BeginsLegal v bytes legal m place → BeginsLegal w bytes other n at
       → (BeginsLegal v bytes other n at) ⊎ (((place ≡ 8) × (k : Market) × HasFirst k bytes) ⊎ ((at ≡ 8) × (k : Market) × HasFirst k bytes))
   both_begin v w legal other m n place at a b =
-      elim (begin_alike bytes v w (map records_of legal) (map records_of other) a.rest b.rest a.journal.starts b.journal.starts a.lawful b.lawful (kept_each legal a.journal.each) (kept_each other b.journal.each) a.spelled b.spelled) [
+      elim (begin_alike bytes v w (map records_of legal) (map records_of other) a.rest b.rest a.journal.starts b.journal.starts a.lawful b.lawful (kept_each legal a.journal.each) (kept_each other b.journal.each) a.encoded b.encoded) [
         | inl same ↦ inl (same_begins w v bytes other n at (sym same) b)
         | inr left ↦
             elim left [
@@ -111,7 +111,7 @@ module _ (bytes : List ℕ) where
       elim (both_begin x.begin y.begin x.legal y.legal x.market y.market m n x.begins y.begins) [
         | inl b ↦
             same_damage x.begin bytes (small_known bytes known) (map records_of x.legal) (map records_of y.legal) x.begins.rest b.rest m n (kept_each x.legal x.begins.journal.each) (kept_each y.legal b.journal.each)
-            x.begins.spelled b.spelled x.begins.begins b.begins x.damage y.damage
+            x.begins.encoded b.encoded x.begins.begins b.begins x.damage y.damage
         | inr left ↦ elim left [ inl here ↦ absurd (x.unfit here.0 here.1 here.2) | inr there ↦ absurd (y.unfit there.0 there.1 there.2) ]
       ]
 

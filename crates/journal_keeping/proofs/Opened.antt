@@ -17,7 +17,7 @@ use Rattle.journal_disk.specs.Stepping.{HasEntryAt}
 use Rattle.journal_disk.proofs.Entries.{each_more}
 use Rattle.journal_disk.proofs.OneList.{same_disk}
 use Rattle.journal_disk.proofs.OpenedEntries.{not_foreign}
-use Rattle.journal_disk.proofs.Excluding.{prefix_of, one_behind, undamaged}
+use Rattle.journal_disk.proofs.Excluding.{prefix_of, one_after, undamaged}
 use Rattle.journal_keeping.specs.Starts.{head_of, HasFirst}
 use Rattle.journal_keeping.specs.Keeping.{IsKeptJournal, StandsForJournal}
 use Rattle.journal_keeping.specs.Openings.{Opening, Foreign, New, Damaged, Rejected, Legal, BeginsLegal, IsDamaged, IsOpening}
@@ -70,15 +70,15 @@ module _ (begin : Start) (pairs : List (Pair Record Outcome)) (market : Market) 
       → (v ≡ begin) ⊎ ((IsBare v (map records_of legal) × (n : Market) × HasFirst n bytes) ⊎ (IsBare begin kept × (n : Market) × HasFirst n bytes))
   alike long v legal m place begins =
       let has = has_kept long in
-      begin_alike bytes v begin (map records_of legal) kept begins.rest (has.gate ∷ has.rest) begins.journal.starts journal.starts begins.lawful has.lawful
-      (kept_each legal begins.journal.each) has.each begins.spelled has.spelled
+      begin_alike bytes v begin (map records_of legal) kept begins.rest (has.commit ∷ has.rest) begins.journal.starts journal.starts begins.lawful has.lawful
+      (kept_each legal begins.journal.each) has.each begins.encoded has.encoded
 
   not_damaged : (place : ℕ) → (¬ IsNewDisk bytes) → IsDamaged place bytes → ⊥
   not_damaged place long is =
       elim (alike long is.begin is.legal is.market place is.begins) [
         | inl same ↦
             let begins = same_begins is.begin begin bytes is.legal is.market place same is.begins in
-            undamaged (head_of begin) (map records_of is.legal) kept begins.rest bytes place (kept_each is.legal begins.journal.each) begins.spelled begins.begins (has_kept long) small is.damage
+            undamaged (head_of begin) (map records_of is.legal) kept begins.rest bytes place (kept_each is.legal begins.journal.each) begins.encoded begins.begins (has_kept long) small is.damage
         | inr other ↦
             elim other [
               | inl here ↦ is.unfit (is.begins.begins ∙ bare_place is.begin (map records_of is.legal) here.0) here.1 here.2
@@ -92,7 +92,7 @@ module _ (begin : Start) (pairs : List (Pair Record Outcome)) (market : Market) 
         | inl same ↦
             let begins = same_begins v begin bytes legal m place same found in
             let first = map records_of legal in
-            let whole = one_behind (head_of begin) first bad begins.rest rest bytes place begins.spelled begins.begins has.spelled in
+            let whole = one_after (head_of begin) first bad begins.rest rest bytes place begins.encoded begins.begins has.encoded in
             let more = prefix_of (head_of begin) (first ++ bad ∷ []) kept rest bytes (each_more IsRecordPair first bad (kept_each legal begins.journal.each) has.is_pair) whole (has_kept long) in
             not_rejected begin pairs market journal legal m bad more.0 begins.journal (more.1 ∙ append_assoc first (bad ∷ []) more.0) illegal
         | inr other ↦

@@ -7,11 +7,11 @@ use Rattle.flow_io.specs.Windows.{WindowState}
 use Rattle.flow_io.proofs.Reading.{Takes-more}
 use Rattle.flow_io.proofs.Growth.{Grows-nothing}
 use Rattle.wire_records.specs.Records.{Record}
-use Rattle.wire_records.specs.Grammars.{BeginsWithNone, spell_all}
+use Rattle.wire_records.specs.Grammars.{BeginsWithNone, encode_all}
 use Rattle.wire_records.specs.Reading.{StartsWith}
 use Rattle.wire_records.specs.Formats.{commands}
 use Rattle.word_driver.specs.Does.{IsTaken}
-use Rattle.journal_records.specs.Pairs.{pair_spelling}
+use Rattle.journal_records.specs.Pairs.{pair_encoding}
 use Rattle.market_rules.specs.Market.{Market}
 use Rattle.market_history.specs.Histories.{Start}
 use Rattle.file_units.specs.Units.{GoesToBreak}
@@ -22,7 +22,7 @@ use Rattle.journal_keeping.specs.declared.fault.KeepFault.TheVariants.{Read, Wri
 use Rattle.journal_keeping.specs.Starts.{source_start, sources}
 use Rattle.journal_keeping.specs.Pacing.{asked_of, AnswersAll, IsNear, KeepsPace, RunsOut}
 use Rattle.journal_keeping.specs.Private.{Adds, Names, ServesOn}
-use Rattle.journal_keeping.specs.Beginning.{IsBegun, IsBehindStart, BreaksOffEarly, NotBegun, IsNearStart, Unread}
+use Rattle.journal_keeping.specs.Beginning.{IsBegun, IsAfterStart, BreaksOffEarly, NotBegun, IsNearStart, Unread}
 use Rattle.journal_keeping.proofs.Turns.{Pairs}
 use Rattle.journal_keeping.proofs.Magic.{at_most}
 use Rattle.journal_keeping.proofs.Sources.{BeginsWithAll, asked_are_units, all_before_break, all_to_wanting, starts_with}
@@ -84,61 +84,61 @@ all_left (Some b) None bytes takes none = absurd takes
 all_left (Some b) (Some l) bytes takes none = ap (λ (x : List ℕ). Some x) none
 
 -- what follows the beginning
-behind_it : (start bytes first held taken m l : List ℕ) → bytes ≡ first ++ m → first ≡ start ++ held → m ≡ taken ++ l → bytes ≡ start ++ (held ++ (taken ++ l))
-behind_it start bytes first held taken m l opens magic takes =
+after_it : (start bytes first held taken m l : List ℕ) → bytes ≡ first ++ m → first ≡ start ++ held → m ≡ taken ++ l → bytes ≡ start ++ (held ++ (taken ++ l))
+after_it start bytes first held taken m l opens magic takes =
     opens ∙ ap (λ (xs : List ℕ). xs ++ m) magic ∙ append_assoc start held m ∙ ap (λ (xs : List ℕ). start ++ (held ++ xs)) takes
 
-module _ (limit : ℕ) (content mid left : Option (List ℕ)) (w : WindowState) (input : Start) (behind : IsBehindStart limit input w content mid) (market : Market) (place : ℕ) (begun end : DiskState) (before after : Option (List ℕ)) where
+module _ (limit : ℕ) (content mid left : Option (List ℕ)) (w : WindowState) (input : Start) (following : IsAfterStart limit input w content mid) (market : Market) (place : ℕ) (begun end : DiskState) (before after : Option (List ℕ)) where
   abbrev start : List ℕ
   start = source_start input
 
-  first_long : length behind.first ≡ length start + length w.held
-  first_long = ap length behind.magic.1 ∙ length-append start w.held
+  first_long : length following.first ≡ length start + length w.held
+  first_long = ap length following.magic.1 ∙ length-append start w.held
 
   far : w.limit - w.place ≡ limit - length start
-  far = omega (arith, behind.limited, behind.place)
+  far = omega (arith, following.limited, following.place)
 
   abbrev Served : Result (Unit {0}) KeepFault → Type 0
   Served result = ServesOn w mid left result market place begun end before after
 
-  all_taken : (taken : List ℕ) → Takes mid left taken → Takes content left (behind.first ++ taken)
-  all_taken taken takes = Takes-more content mid left behind.first taken behind.takes takes
+  all_taken : (taken : List ℕ) → Takes mid left taken → Takes content left (following.first ++ taken)
+  all_taken taken takes = Takes-more content mid left following.first taken following.takes takes
 
   pub taken_at_most : (result : Result (Unit {0}) KeepFault) → Served result → TakesAtMost content left (limit + 1)
   taken_at_most result on =
-      at_most content left (behind.first ++ on.goes.taken) (limit + 1) (all_taken on.goes.taken on.goes.takes)
-      (omega (arith, length-append behind.first on.goes.taken, first_long, behind.few, on.goes.few, behind.limited, behind.place))
+      at_most content left (following.first ++ on.goes.taken) (limit + 1) (all_taken on.goes.taken on.goes.takes)
+      (omega (arith, length-append following.first on.goes.taken, first_long, following.few, on.goes.few, following.limited, following.place))
 
   -- near the records whose entries were written
-  near_told : (o : Option (List ℕ)) (m l : Option (List ℕ)) (taken : List ℕ) (new : Pairs) (text : List ℕ) → Takes o m behind.first → Takes m l taken
-      → BeginsWithAll (take (limit - length start) (w.held ++ known taken l)) (asked_of new) → Grows before after (flat_map pair_spelling new ++ text)
-      → length (w.held ++ taken) ≤ length (spell_all commands.units (asked_of new)) + (w.room + 1) → IsNear limit o l before after
+  near_told : (o : Option (List ℕ)) (m l : Option (List ℕ)) (taken : List ℕ) (new : Pairs) (text : List ℕ) → Takes o m following.first → Takes m l taken
+      → BeginsWithAll (take (limit - length start) (w.held ++ known taken l)) (asked_of new) → Grows before after (flat_map pair_encoding new ++ text)
+      → length (w.held ++ taken) ≤ length (encode_all commands.units (asked_of new)) + (w.room + 1) → IsNear limit o l before after
   near_told None m l taken new text opens takes all stands few = tt
   near_told (Some bytes) None l taken new text opens takes all stands few = absurd opens
   near_told (Some bytes) (Some m) None taken new text opens takes all stands few = absurd takes
   near_told (Some bytes) (Some m) (Some l) taken new text opens takes all stands few = (
-    length (behind.first ++ taken),
-    sym (ap length (opens ∙ ap (λ (xs : List ℕ). behind.first ++ xs) takes ∙ sym (append_assoc behind.first taken l)) ∙ length-append (behind.first ++ taken) l),
+    length (following.first ++ taken),
+    sym (ap length (opens ∙ ap (λ (xs : List ℕ). following.first ++ xs) takes ∙ sym (append_assoc following.first taken l)) ∙ length-append (following.first ++ taken) l),
     inr (record {
       input = input;
       pairs = new;
       more = text;
-      starts = starts_with input limit bytes behind.first w.held taken (Some m) (Some l) (asked_of new) opens behind.magic behind.few takes all;
+      starts = starts_with input limit bytes following.first w.held taken (Some m) (Some l) (asked_of new) opens following.magic following.few takes all;
       stands = stands;
-      near = omega (arith, few, length-append behind.first taken, length-append w.held taken, first_long, behind.room);
+      near = omega (arith, few, length-append following.first taken, length-append w.held taken, first_long, following.room);
     }),
   )
 
-  broken_near : (fault : KeepFault) (result : Result (Unit {0}) KeepFault) (on : Served result) (goes : GoesToBreak commands Adds (Names on.market on.new on.more) (take (w.limit - w.place) (w.held ++ known on.goes.taken left)) fault [] tt tt) → length (w.held ++ on.goes.taken) ≤ length (spell_all commands.units goes.units) + (w.room + 1) → IsNear limit content left before after
+  broken_near : (fault : KeepFault) (result : Result (Unit {0}) KeepFault) (on : Served result) (goes : GoesToBreak commands Adds (Names on.market on.new on.more) (take (w.limit - w.place) (w.held ++ known on.goes.taken left)) fault [] tt tt) → length (w.held ++ on.goes.taken) ≤ length (encode_all commands.units goes.units) + (w.room + 1) → IsNear limit content left before after
   broken_near fault result on goes few =
       let first = all_before_break on.market (take (w.limit - w.place) (w.held ++ known on.goes.taken left)) fault on.new on.more goes in
-      near_told content mid left on.goes.taken on.new on.whole.0 behind.takes on.goes.takes
+      near_told content mid left on.goes.taken on.new on.whole.0 following.takes on.goes.takes
       (subst (λ (n : ℕ). BeginsWithAll (take n (w.held ++ known on.goes.taken left)) (asked_of on.new)) far first.0) on.whole.1
-      (subst (λ (l : List Record). length (w.held ++ on.goes.taken) ≤ length (spell_all commands.units l) + (w.room + 1)) (sym first.1) few)
+      (subst (λ (l : List Record). length (w.held ++ on.goes.taken) ≤ length (encode_all commands.units l) + (w.room + 1)) (sym first.1) few)
 
   -- all records that were taken
-  read_all : (o m l : Option (List ℕ)) (taken : List ℕ) (new : Pairs) (units : List Record) (rest : List ℕ) → Takes o m behind.first → Takes m l taken → asked_of new ≡ units
-      → take (length (w.held ++ taken)) (take (limit - length start) (w.held ++ known taken l)) ≡ spell_all commands.units units ++ rest → BeginsWithNone commands.units rest → Grows before after (flat_map pair_spelling new)
+  read_all : (o m l : Option (List ℕ)) (taken : List ℕ) (new : Pairs) (units : List Record) (rest : List ℕ) → Takes o m following.first → Takes m l taken → asked_of new ≡ units
+      → take (length (w.held ++ taken)) (take (limit - length start) (w.held ++ known taken l)) ≡ encode_all commands.units units ++ rest → BeginsWithNone commands.units rest → Grows before after (flat_map pair_encoding new)
       → IfSome o (λ bytes. (n : ℕ) × IsTaken bytes l n × AnswersAll (take n (take limit bytes)) before after)
   read_all None m l taken new units rest opens takes is whole none written = tt
   read_all (Some bytes) None l taken new units rest opens takes is whole none written = absurd opens
@@ -146,20 +146,20 @@ module _ (limit : ℕ) (content mid left : Option (List ℕ)) (w : WindowState) 
   read_all (Some bytes) (Some m) (Some l) taken new units rest opens takes is whole none written =
       let later = w.held ++ (taken ++ l) in
       let seen = w.held ++ taken in
-      let all : bytes ≡ start ++ later = behind_it start bytes behind.first w.held taken m l opens behind.magic.1 takes in
-      let parts : limit ≡ length start + (limit - length start) = omega (arith, behind.few, first_long) in
-      let counts : length (behind.first ++ taken) ≡ length start + length seen = omega (arith, length-append behind.first taken, length-append w.held taken, first_long) in
+      let all : bytes ≡ start ++ later = after_it start bytes following.first w.held taken m l opens following.magic.1 takes in
+      let parts : limit ≡ length start + (limit - length start) = omega (arith, following.few, first_long) in
+      let counts : length (following.first ++ taken) ≡ length start + length seen = omega (arith, length-append following.first taken, length-append w.held taken, first_long) in
       let within : take limit bytes ≡ start ++ take (limit - length start) later =
       ap (take limit) all ∙ ap (λ (n : ℕ). take n (start ++ later)) parts ∙ take-append-add start later (limit - length start) in (
-        length (behind.first ++ taken),
-        sym (ap length (opens ∙ ap (λ (xs : List ℕ). behind.first ++ xs) takes ∙ sym (append_assoc behind.first taken l)) ∙ length-append (behind.first ++ taken) l),
+        length (following.first ++ taken),
+        sym (ap length (opens ∙ ap (λ (xs : List ℕ). following.first ++ xs) takes ∙ sym (append_assoc following.first taken l)) ∙ length-append (following.first ++ taken) l),
         record {
           input = input;
           pairs = new;
           body = take (length seen) (take (limit - length start) later);
           rest = rest;
-          magic = (behind.magic.0, ap (take (length (behind.first ++ taken))) within ∙ ap (λ (n : ℕ). take n (start ++ take (limit - length start) later)) counts ∙ take-append-add start (take (limit - length start) later) (length seen));
-          whole = whole ∙ ap (λ (l : List Record). spell_all commands.units l ++ rest) (sym is);
+          magic = (following.magic.0, ap (take (length (following.first ++ taken))) within ∙ ap (λ (n : ℕ). take n (start ++ take (limit - length start) later)) counts ∙ take-append-add start (take (limit - length start) later) (length seen));
+          whole = whole ∙ ap (λ (l : List Record). encode_all commands.units l ++ rest) (sym is);
           none = none;
           written = written;
         },
@@ -176,11 +176,11 @@ module _ (limit : ℕ) (content mid left : Option (List ℕ)) (w : WindowState) 
   memory_uncut e = absurd cc
 
   pub paced_served : (result : Result (Unit {0}) KeepFault) → Served result → KeepsPace limit content left before after result
-  paced_served (Ok done) on = all_left content left (behind.first ++ on.goes.taken) (all_taken on.goes.taken on.goes.takes) (on.goes.goes.1 refl)
+  paced_served (Ok done) on = all_left content left (following.first ++ on.goes.taken) (all_taken on.goes.taken on.goes.takes) (on.goes.goes.1 refl)
   paced_served (Err Read) on =
       let goes = on.goes.goes in
-      either content left (read_all content mid left on.goes.taken on.new goes.units goes.reads.rest behind.takes on.goes.takes (asked_are_units [] goes.units on.new tt tt goes.leads)
-      (subst (λ (n : ℕ). take (length (w.held ++ on.goes.taken)) (take n (w.held ++ known on.goes.taken left)) ≡ spell_all commands.units goes.units ++ goes.reads.rest) far goes.reads.whole) goes.reads.none
+      either content left (read_all content mid left on.goes.taken on.new goes.units goes.reads.rest following.takes on.goes.takes (asked_are_units [] goes.units on.new tt tt goes.leads)
+      (subst (λ (n : ℕ). take (length (w.held ++ on.goes.taken)) (take n (w.held ++ known on.goes.taken left)) ≡ encode_all commands.units goes.units ++ goes.reads.rest) far goes.reads.whole) goes.reads.none
       (all_written (◌≡◌ {A = Result (Unit {0}) KeepFault} (Err Read) (Err Write)) before after on.new on.more on.acknowledged read_uncut on.ended.0 on.ended.1 on.written))
   paced_served (Err Write) on = broken_near Write (Err Write) on on.goes.goes.0 on.goes.goes.1
   paced_served (Err Disk) on = broken_near Disk (Err Disk) on on.goes.goes.0 on.goes.goes.1
@@ -194,16 +194,16 @@ module _ (limit : ℕ) (content mid left : Option (List ℕ)) (w : WindowState) 
   paced_served (Err TooLong) on = tt
 
   -- a record that may allocate
-  starts_where : (o : Option (List ℕ)) (taken : List ℕ) (records : List Record) → Takes o mid behind.first → Takes mid left taken → BeginsWithAll (take (limit - length start) (w.held ++ known taken left)) records
+  starts_where : (o : Option (List ℕ)) (taken : List ℕ) (records : List Record) → Takes o mid following.first → Takes mid left taken → BeginsWithAll (take (limit - length start) (w.held ++ known taken left)) records
       → IfSome o (λ bytes. StartsWith sources limit bytes input records)
   starts_where None taken records opens takes all = tt
-  starts_where (Some bytes) taken records opens takes all = starts_with input limit bytes behind.first w.held taken mid left records opens behind.magic behind.few takes all
+  starts_where (Some bytes) taken records opens takes all = starts_with input limit bytes following.first w.held taken mid left records opens following.magic following.few takes all
 
   pub wants_next : (held : List ℕ) (begin : Start) → IsBegun held begin input market place begun → (result : Result (Unit {0}) KeepFault) → Served result → ◌≡◌ {A = Result (Unit {0}) KeepFault} result (Err Memory) → RunsOut limit held content left end before after
   wants_next held begin is result on0 lacks =
       let on = subst Served lacks on0 in
       let wanting = all_to_wanting on.market (take (w.limit - w.place) (w.held ++ known on.goes.taken left)) on.new on.more on.goes.goes.0 in
-      let kept = on.ended.2 begin is.0 (opens_journal held begin input is.0 market behind.magic.0 is.1) is.2 in
+      let kept = on.ended.2 begin is.0 (opens_journal held begin input is.0 market following.magic.0 is.1) is.2 in
       inr (inr (record {
         begin = begin;
         old = is.0;
@@ -212,9 +212,9 @@ module _ (limit : ℕ) (content mid left : Option (List ℕ)) (w : WindowState) 
         opens = is.1;
         new = on.new;
         now = on.market;
-        goes_on = on.so_far begin is.0 (opens_journal held begin input is.0 market behind.magic.0 is.1) is.2;
+        goes_on = on.so_far begin is.0 (opens_journal held begin input is.0 market following.magic.0 is.1) is.2;
         next = wanting.0;
-        starts = starts_where content on.goes.taken (asked_of on.new ++ wanting.0 ∷ []) behind.takes on.goes.takes
+        starts = starts_where content on.goes.taken (asked_of on.new ++ wanting.0 ∷ []) following.takes on.goes.takes
             (subst (λ (n : ℕ). BeginsWithAll (take n (w.held ++ known on.goes.taken left)) (asked_of on.new ++ wanting.0 ∷ [])) far wanting.1);
         allocates = wanting.2;
         place = kept.0;

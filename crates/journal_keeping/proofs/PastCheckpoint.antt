@@ -23,8 +23,8 @@ use Rattle.journal_keeping.specs.Starts.{BeginsOtherwise}
 use Rattle.journal_keeping.specs.Pacing.{IsInCheckpoint}
 use Rattle.journal_keeping.specs.Beginning.{OpensStart, BreaksOffEarly}
 use Rattle.journal_keeping.proofs.Starts.{magic_first}
-use Rattle.journal_keeping.proofs.Magic.{short_has_none, front_has, at_most}
-use Rattle.journal_keeping.proofs.SourceStart.{behind_none, behind_otherwise, broke_off, in_checkpoint, are_first}
+use Rattle.journal_keeping.proofs.Magic.{short_has_none, prefix_has, at_most}
+use Rattle.journal_keeping.proofs.SourceStart.{after_none, after_otherwise, broke_off, in_checkpoint, are_first}
 
 -- the source ended: all of its bytes were taken
 all_first : (limit : ℕ) (Are : List ℕ → Type 0) (before after : Option (List ℕ)) (first : List ℕ) → Takes before after first → length first ≤ limit → IfSome after (λ left. left ≡ []) → Are first → IfSome before (λ bytes. Are (take limit bytes))
@@ -82,7 +82,7 @@ module _ (market : Market) (old filled : WindowState) (x y : Option (List ℕ)) 
   short few body begins = short_has_none market.version filled.held body few begins
 
   short_otherwise : IsCheckpoint market (checkpoint_bytes market) → length filled.held < 8 → BeginsOtherwise (checkpoint_bytes market ++ filled.held)
-  short_otherwise one few = behind_otherwise market filled.held one (short few)
+  short_otherwise one few = after_otherwise market filled.held one (short few)
 
   module _ (before : Option (List ℕ)) (one : IsCheckpoint market (checkpoint_bytes market)) (takes : Takes before x (checkpoint_bytes market ++ old.held)) where
     all : Takes before y ((checkpoint_bytes market ++ filled.held) ++ fills.past)
@@ -92,54 +92,54 @@ module _ (market : Market) (old filled : WindowState) (x y : Option (List ℕ)) 
     taken other = subst (λ (l : List ℕ). Takes before y l) (ap (λ (l : List ℕ). (checkpoint_bytes market ++ filled.held) ++ l) (none_past filled.over fills.past beyond other) ∙ append-nil (checkpoint_bytes market ++ filled.held)) all
 
     -- one byte past the limit is taken at most
-    pub few_behind : TakesAtMost before y (old.limit + 1)
-    few_behind = at_most before y ((checkpoint_bytes market ++ filled.held) ++ fills.past) (old.limit + 1) all
+    pub few_after : TakesAtMost before y (old.limit + 1)
+    few_after = at_most before y ((checkpoint_bytes market ++ filled.held) ++ fills.past) (old.limit + 1) all
         (omega (arith, length-append (checkpoint_bytes market ++ filled.held) fills.past, few_past filled.over fills.past beyond, within))
 
     -- a read failed before eight bytes were held
-    pub unread_behind : filled.over ≡ None → length filled.held < 8 → IfSome before (BreaksOffEarly old.limit y)
-    unread_behind open_still few = broke_off old.limit before y (checkpoint_bytes market ++ filled.held) (taken (not_limit filled.over open_still)) within
-        (magic_on (checkpoint_bytes market) filled.held (magic_first market)) (behind_none market filled.held one (short few))
+    pub unread_after : filled.over ≡ None → length filled.held < 8 → IfSome before (BreaksOffEarly old.limit y)
+    unread_after open_still few = broke_off old.limit before y (checkpoint_bytes market ++ filled.held) (taken (not_limit filled.over open_still)) within
+        (magic_on (checkpoint_bytes market) filled.held (magic_first market)) (after_none market filled.held one (short few))
 
     -- the source ended before eight bytes were held
-    pub ended_behind : filled.over ≡ Some Source → length filled.held < 8 → IfSome y (λ left. left ≡ []) → IfSome before (λ bytes. BeginsOtherwise (take old.limit bytes))
-    ended_behind over few none = all_first old.limit BeginsOtherwise before y (checkpoint_bytes market ++ filled.held) (taken (not_ended filled.over over)) within none (short_otherwise one few)
+    pub ended_after : filled.over ≡ Some Source → length filled.held < 8 → IfSome y (λ left. left ≡ []) → IfSome before (λ bytes. BeginsOtherwise (take old.limit bytes))
+    ended_after over few none = all_first old.limit BeginsOtherwise before y (checkpoint_bytes market ++ filled.held) (taken (not_ended filled.over over)) within none (short_otherwise one few)
 
     -- the limit was reached before eight bytes were held
-    pub limit_behind : filled.over ≡ Some Limit → length filled.held < 8 → IfSome before (λ bytes. BeginsOtherwise (take old.limit bytes))
-    limit_behind over few =
+    pub limit_after : filled.over ≡ Some Limit → length filled.held < 8 → IfSome before (λ bytes. BeginsOtherwise (take old.limit bytes))
+    limit_after over few =
         let full : filled.place + length filled.held ≡ filled.limit = subst (λ (o : Option InputEnd). IsWithin filled.place (length filled.held) filled.limit o) over inside in
         full_first old.limit BeginsOtherwise before y (checkpoint_bytes market ++ filled.held) fills.past all
         (omega (arith, full, placed, place, limited, length-append (checkpoint_bytes market) filled.held)) (short_otherwise one few)
 
     -- no magic of the checkpoint's version follows
-    pub other_behind : filled.over ≡ None → 8 ≤ length filled.held → ((body : List ℕ) → ¬ BeginsWith commands.magics filled.held market.version body) → IfSome before (λ bytes. BeginsOtherwise (take old.limit bytes))
-    other_behind open_still some none = are_first old.limit BeginsOtherwise before y (checkpoint_bytes market ++ filled.held) (taken (not_limit filled.over open_still)) within
+    pub other_after : filled.over ≡ None → 8 ≤ length filled.held → ((body : List ℕ) → ¬ BeginsWith commands.magics filled.held market.version body) → IfSome before (λ bytes. BeginsOtherwise (take old.limit bytes))
+    other_after open_still some none = are_first old.limit BeginsOtherwise before y (checkpoint_bytes market ++ filled.held) (taken (not_limit filled.over open_still)) within
         (λ more. subst BeginsOtherwise (sym (append_assoc (checkpoint_bytes market) filled.held more))
-        (behind_otherwise market (filled.held ++ more) one (λ body begins. none (drop 8 filled.held) (front_has market.version filled.held more body some begins.1))))
+        (after_otherwise market (filled.held ++ more) one (λ body begins. none (drop 8 filled.held) (prefix_has market.version filled.held more body some begins.1))))
 
     -- memory ran out for the first entry
-    pub out_behind : filled.over ≡ None → IsInCheckpoint old.limit before y
-    out_behind open_still = in_checkpoint old.limit before y (checkpoint_bytes market ++ filled.held) (taken (not_limit filled.over open_still)) within (magic_on (checkpoint_bytes market) filled.held (magic_first market))
+    pub out_after : filled.over ≡ None → IsInCheckpoint old.limit before y
+    out_after open_still = in_checkpoint old.limit before y (checkpoint_bytes market ++ filled.held) (taken (not_limit filled.over open_still)) within (magic_on (checkpoint_bytes market) filled.held (magic_first market))
 
     -- the magic of the checkpoint's version follows
-    pub opened_behind : filled.over ≡ None → old.room ≡ longest_record → (window : WindowState) (body : List ℕ) → BeginsWith commands.magics filled.held market.version body
+    pub opened_after : filled.over ≡ None → old.room ≡ longest_record → (window : WindowState) (body : List ℕ) → BeginsWith commands.magics filled.held market.version body
         → window ≡ record filled { held = drop 8 filled.held; place = filled.place + 8 } → length filled.held ≤ filled.room
         → (now : Market) (stored : List ℕ) → now ≡ market → stored ≡ framed (checkpoint_bytes market) ++ 0 ∷ [] → OpensStart old.limit now stored window before y
-    opened_behind open_still wide window body magic advanced few now stored same stored_so =
+    opened_after open_still wide window body magic advanced few now stored same stored_so =
         let magic_of = command_magic_of market.version in
-        let front : filled.held ≡ magic_of ++ window.held = magic.1 ∙ ap (λ (l : List ℕ). magic_of ++ l) (sym (ap (λ (w : WindowState). w.held) advanced ∙ ap (drop 8) magic.1 ∙ drop_at magic_of body 8 (eight market.version))) in
+        let prefix : filled.held ≡ magic_of ++ window.held = magic.1 ∙ ap (λ (l : List ℕ). magic_of ++ l) (sym (ap (λ (w : WindowState). w.held) advanced ∙ ap (drop 8) magic.1 ∙ drop_at magic_of body 8 (eight market.version))) in
         let room : filled.room ≡ longest_record = ap (λ (w : WindowState). w.room) fills.holds ∙ wide in
         record {
           begin = Kept market;
-          behind = record {
+          following = record {
             limited = ap (λ (w : WindowState). w.limit) advanced ∙ limited;
             place = omega (arith, ap (λ (w : WindowState). w.place) advanced, place, placed, length-append (checkpoint_bytes market) magic_of, eight market.version);
             room = ap (λ (w : WindowState). w.room) advanced ∙ room;
             over = ap (λ (w : WindowState). w.over) advanced ∙ open_still;
             first = checkpoint_bytes market ++ filled.held;
             takes = taken (not_limit filled.over open_still);
-            magic = (one, ap (λ (l : List ℕ). checkpoint_bytes market ++ l) front ∙ sym (append_assoc (checkpoint_bytes market) magic_of window.held));
+            magic = (one, ap (λ (l : List ℕ). checkpoint_bytes market ++ l) prefix ∙ sym (append_assoc (checkpoint_bytes market) magic_of window.held));
             few = within;
             held = omega (arith, few, room, ap (λ (w : WindowState). length w.held) advanced, length-drop 8 filled.held);
           };

@@ -4,7 +4,7 @@ use Rattle.std.proofs.lemmas.List.{append-nil, take_all, take-append-le, map-app
 use Rattle.std.proofs.lemmas.List.Elements.{All-append, All-cons, All-nil}
 use Rattle.std.specs.List.{flat_map}
 use Rattle.flow_io.specs.Streams.{Grows}
-use Rattle.journal_records.specs.Pairs.{pair_spelling}
+use Rattle.journal_records.specs.Pairs.{pair_encoding}
 use Rattle.wire_records.specs.Records.{Record}
 use Rattle.wire_records.specs.Commands.{Pair}
 use Rattle.wire_records.specs.Versions.{IsReadAs}
@@ -39,28 +39,28 @@ right_more old [] mid pair new follows next = (new, subst (λ (m : Market). Step
 right_more old (p ∷ pairs) mid pair new follows next = (follows.0, follows.1, right_more follows.0 pairs mid pair new follows.2 next)
 
 -- entries that the output has completely
-pub stand_whole : (Cut : Type 0) (before after : Option (List ℕ)) (pairs : Pairs) → Grows before after (flat_map pair_spelling pairs) → StandIn Cut before after pairs
+pub stand_whole : (Cut : Type 0) (before after : Option (List ℕ)) (pairs : Pairs) → Grows before after (flat_map pair_encoding pairs) → StandIn Cut before after pairs
 stand_whole Cut before after pairs grows = record {
   whole = pairs;
   last = [];
   parts = sym (append-nil pairs);
   one = omega arith;
   none = λ _. refl;
-  written = (flat_map pair_spelling pairs, grows, 0, sym (append-nil (flat_map pair_spelling pairs)));
+  written = (flat_map pair_encoding pairs, grows, 0, sym (append-nil (flat_map pair_encoding pairs)));
 }
 
 module _ (begin : Start) where
   -- a disk that keeps entries leaves an image that represents them
   kept_stands : (pairs : List RecordPair) (place : ℕ) (disk : DiskState) (image : List ℕ) → Keeps (head_of begin) pairs place disk → disk.images image → StandsFor (head_of begin) pairs image
   kept_stands pairs place disk image keeps left =
-      inr (record { lawful = keeps.2.lawful; each = keeps.2.each; gate = keeps.0; shut = keeps.1; rest = []; spelled = keeps.2.durable image left })
+      inr (record { lawful = keeps.2.lawful; each = keeps.2.each; commit = keeps.0; shut = keeps.1; rest = []; encoded = keeps.2.durable image left })
 
   -- while a new disk stays new, it represents the old entries if the call began with them: there are none
   new_stands : (old : Pairs) (place : ℕ) (disk : DiskState) (image : List ℕ) → Keeps (head_of begin) (map records_of old) place disk → IsStillNew disk image → StandsForJournal begin old image
   new_stands old place disk image keeps still =
       let pairs = map records_of old in
       let few = new_none (head_of begin) pairs (entries (head_of begin) pairs ++ keeps.0 ∷ []) (subst (λ (o : Option (List ℕ)). IfSome o IsNewDisk) keeps.2.content still.0)
-      (record { lawful = keeps.2.lawful; each = keeps.2.each; gate = keeps.0; shut = keeps.1; rest = []; spelled = refl }) in
+      (record { lawful = keeps.2.lawful; each = keeps.2.each; commit = keeps.0; shut = keeps.1; rest = []; encoded = refl }) in
       inl (record { is_new = still.1; no_first = few_first (head_of begin) pairs few; none = few_none (head_of begin) pairs few })
 
   -- the old entries, and none of the new ones

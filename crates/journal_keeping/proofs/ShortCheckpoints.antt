@@ -8,7 +8,7 @@ use Rattle.std.proofs.lemmas.List.Elements.{All-head, All-tail}
 use Rattle.std.proofs.lemmas.Slice.Zip.{length-zip}
 use Rattle.weight_rows.specs.declared.entries.Entry.{Entry}
 use Rattle.wire_fields.specs.Numbers.{unsigned, signed}
-use Rattle.wire_fields.proofs.Spelling.{length-unsigned, length-signed}
+use Rattle.wire_fields.proofs.Encoding.{length-unsigned, length-signed}
 use Rattle.wire_records.specs.CommandRecords.{entry_fields}
 use Rattle.wire_records.specs.Fields.{Field, Unsigned, Signed, Bytes, field_bytes}
 use Rattle.wire_records.specs.Versions.{number_of}

@@ -21,9 +21,9 @@ use Rattle.journal_disk.specs.Entries.{IsHead, framed, entry, entries, disk_magi
 use Rattle.journal_disk.specs.Recovering.{IsForeign}
 use Rattle.journal_disk.specs.Stepping.{HasEntryAt, IsDamagedAt}
 use Rattle.journal_disk.proofs.Entries.{magic_alone, magic_first, length-framed, disk_magics_told, eight}
-use Rattle.journal_disk.proofs.OneList.{closed_gate}
+use Rattle.journal_disk.proofs.OneList.{unset_commit}
 use Rattle.journal_disk.proofs.OpenedEntries.{new_not_foreign}
-use Rattle.journal_disk.proofs.Excluding.{one_behind}
+use Rattle.journal_disk.proofs.Excluding.{one_after}
 use Rattle.journal_keeping.specs.Starts.{head_of, HasFirst}
 use Rattle.journal_keeping.specs.Openings.{Opening, Foreign, New, Damaged, Rejected, Legal, BeginsLegal, IsOpening}
 use Rattle.journal_keeping.specs.Laws.{SomeOpening}
@@ -42,8 +42,8 @@ module _ (begin : Start) (bytes : List ℕ) (long : ¬ IsNewDisk bytes) (known :
   At legal market place = BeginsLegal begin bytes legal market place
 
   -- what follows the valid entries
-  at_gate : (legal : List (Pair Record Outcome)) (market : Market) (place : ℕ) (begins : At legal market place) → drop place bytes ≡ begins.rest
-  at_gate legal market place begins = ap (drop place) begins.spelled ∙ drop_at (entries (head_of begin) (map records_of legal)) begins.rest place (sym begins.begins)
+  at_commit : (legal : List (Pair Record Outcome)) (market : Market) (place : ℕ) (begins : At legal market place) → drop place bytes ≡ begins.rest
+  at_commit legal market place begins = ap (drop place) begins.encoded ∙ drop_at (entries (head_of begin) (map records_of legal)) begins.rest place (sym begins.begins)
 
   damaged_at : (legal : List (Pair Record Outcome)) (market : Market) (place : ℕ) (begins : At legal market place) → IsDamagedAt place bytes → Opens
   damaged_at legal market place begins damage =
@@ -52,22 +52,22 @@ module _ (begin : Start) (bytes : List ℕ) (long : ¬ IsNewDisk bytes) (known :
   -- nothing follows
   ended : (legal : List (Pair Record Outcome)) (market : Market) (place : ℕ) (begins : At legal market place) → begins.rest ≡ [] → Opens
   ended legal market place begins none =
-      damaged_at legal market place begins (inl (omega (arith, ap length begins.spelled, length-append (entries (head_of begin) (map records_of legal)) begins.rest, ap length none, begins.begins)))
+      damaged_at legal market place begins (inl (omega (arith, ap length begins.encoded, length-append (entries (head_of begin) (map records_of legal)) begins.rest, ap length none, begins.begins)))
 
   -- a commit byte that is set, without an entry
-  damaged : (legal : List (Pair Record Outcome)) (market : Market) (place : ℕ) (begins : At legal market place) (rest : List ℕ) → begins.rest ≡ 1 ∷ rest → (((p : RecordPair) × (behind : List ℕ) × HasEntryAt place p behind bytes) → ⊥) → Opens
+  damaged : (legal : List (Pair Record Outcome)) (market : Market) (place : ℕ) (begins : At legal market place) (rest : List ℕ) → begins.rest ≡ 1 ∷ rest → (((p : RecordPair) × (following : List ℕ) × HasEntryAt place p following bytes) → ⊥) → Opens
   damaged legal market place begins rest is none =
-      damaged_at legal market place begins (inr (rest, at_gate legal market place begins ∙ is, λ p behind has. none (p, behind, has)))
+      damaged_at legal market place begins (inr (rest, at_commit legal market place begins ∙ is, λ p following has. none (p, following, has)))
 
   -- one more valid entry
-  one_more : (legal : List (Pair Record Outcome)) (market : Market) (place : ℕ) (begins : At legal market place) (p : RecordPair) (behind : List ℕ) → HasEntryAt place p behind bytes → (new : Market) → IsLegalPair market p new
-      → (more : List (Pair Record Outcome)) × (next : ℕ) × (now : At more new next) × (now.rest ≡ behind)
-  one_more legal market place begins p behind has new legal_pair =
+  one_more : (legal : List (Pair Record Outcome)) (market : Market) (place : ℕ) (begins : At legal market place) (p : RecordPair) (following : List ℕ) → HasEntryAt place p following bytes → (new : Market) → IsLegalPair market p new
+      → (more : List (Pair Record Outcome)) × (next : ℕ) × (now : At more new next) × (now.rest ≡ following)
+  one_more legal market place begins p following has new legal_pair =
       let one = one_read begin legal market new p begins.journal has.is_pair legal_pair in
-      let whole = one_behind (head_of begin) (map records_of legal) p begins.rest behind bytes place begins.spelled begins.begins has.spelled in (
+      let whole = one_after (head_of begin) (map records_of legal) p begins.rest following bytes place begins.encoded begins.begins has.encoded in (
         one.0,
         length (entries (head_of begin) (map records_of one.0)),
-        record { lawful = lawful; journal = one.1; rest = behind; spelled = whole ∙ ap (λ (l : List RecordPair). entries (head_of begin) l ++ behind) one.3; begins = refl },
+        record { lawful = lawful; journal = one.1; rest = following; encoded = whole ∙ ap (λ (l : List RecordPair). entries (head_of begin) l ++ following) one.3; begins = refl },
         refl,
       )
 
@@ -76,27 +76,27 @@ module _ (begin : Start) (bytes : List ℕ) (long : ¬ IsNewDisk bytes) (known :
   GoesOn fuel = (legal : List (Pair Record Outcome)) (market : Market) (place : ℕ) (begins : At legal market place) (rest : List ℕ) → begins.rest ≡ rest → length rest ≤ fuel → IsNotDenied Opens
 
   abbrev Found : ℕ → Type 0
-  Found place = (p : RecordPair) × (behind : List ℕ) × HasEntryAt place p behind bytes
+  Found place = (p : RecordPair) × (following : List ℕ) × HasEntryAt place p following bytes
 
   -- after a commit byte
-  module _ (fuel : ℕ) (again : GoesOn fuel) (legal : List (Pair Record Outcome)) (market : Market) (place : ℕ) (begins : At legal market place) (gate : ℕ) (rest : List ℕ) (is : begins.rest ≡ gate ∷ rest) (few : length rest ≤ fuel) where
-    at_pair : (p : RecordPair) (behind : List ℕ) (has : HasEntryAt place p behind bytes) → ((new : Market) × IsLegalPair market p new) ⊎ (((new : Market) × IsLegalPair market p new) → ⊥) → IsNotDenied Opens
-    at_pair p behind has (inl legal_pair) =
-        let more = one_more legal market place begins p behind has legal_pair.0 legal_pair.1 in
-        let same : gate ∷ rest ≡ (1 ∷ framed (pair_bytes p)) ++ behind = sym is ∙ sym (at_gate legal market place begins) ∙ has.spelled in
-        again more.0 legal_pair.0 more.1 more.2 behind more.3 (omega (arith, few, ap length same, length-append (framed (pair_bytes p)) behind, length-framed (pair_bytes p)))
-    at_pair p behind has (inr none) = not_denied (Rejected (length legal + 1), (long, known, begin, legal, market, place, begins, p, behind, has, (λ new is_legal. none (new, is_legal)), refl))
+  module _ (fuel : ℕ) (again : GoesOn fuel) (legal : List (Pair Record Outcome)) (market : Market) (place : ℕ) (begins : At legal market place) (commit : ℕ) (rest : List ℕ) (is : begins.rest ≡ commit ∷ rest) (few : length rest ≤ fuel) where
+    at_pair : (p : RecordPair) (following : List ℕ) (has : HasEntryAt place p following bytes) → ((new : Market) × IsLegalPair market p new) ⊎ (((new : Market) × IsLegalPair market p new) → ⊥) → IsNotDenied Opens
+    at_pair p following has (inl legal_pair) =
+        let more = one_more legal market place begins p following has legal_pair.0 legal_pair.1 in
+        let same : commit ∷ rest ≡ (1 ∷ framed (pair_bytes p)) ++ following = sym is ∙ sym (at_commit legal market place begins) ∙ has.encoded in
+        again more.0 legal_pair.0 more.1 more.2 following more.3 (omega (arith, few, ap length same, length-append (framed (pair_bytes p)) following, length-framed (pair_bytes p)))
+    at_pair p following has (inr none) = not_denied (Rejected (length legal + 1), (long, known, begin, legal, market, place, begins, p, following, has, (λ new is_legal. none (new, is_legal)), refl))
 
     at_entry : begins.rest ≡ 1 ∷ rest → Found place ⊎ (Found place → ⊥) → IsNotDenied Opens
-    at_entry open_gate (inl found) = follows (at_pair found.0 found.1 found.2) (one_of ((new : Market) × IsLegalPair market found.0 new))
-    at_entry open_gate (inr none) = not_denied (damaged legal market place begins rest open_gate none)
+    at_entry set_commit (inl found) = follows (at_pair found.0 found.1 found.2) (one_of ((new : Market) × IsLegalPair market found.0 new))
+    at_entry set_commit (inr none) = not_denied (damaged legal market place begins rest set_commit none)
 
   go_on : (fuel : ℕ) → GoesOn fuel
   go_on fuel legal market place begins [] is few = not_denied (ended legal market place begins is)
-  go_on zero legal market place begins (gate ∷ rest) is few = absurd (omega (arith, few))
-  go_on (suc fuel) legal market place begins (gate ∷ rest) is few =
+  go_on zero legal market place begins (commit ∷ rest) is few = absurd (omega (arith, few))
+  go_on (suc fuel) legal market place begins (commit ∷ rest) is few =
       ⊎_elim
-      (λ (is_open : gate ≡ 1). follows (at_entry fuel (go_on fuel) legal market place begins gate rest is (omega (arith, few)) (is ∙ ap (λ (g : ℕ). g ∷ rest) is_open)) (one_of (Found place)))
+      (λ (is_open : commit ≡ 1). follows (at_entry fuel (go_on fuel) legal market place begins commit rest is (omega (arith, few)) (is ∙ ap (λ (g : ℕ). g ∷ rest) is_open)) (one_of (Found place)))
       (λ shut. not_denied (
         Legal begin legal market,
         (
@@ -106,14 +106,14 @@ module _ (begin : Start) (bytes : List ℕ) (long : ¬ IsNewDisk bytes) (known :
           record {
             lawful = lawful;
             each = kept_each legal begins.journal.each;
-            gate = gate;
+            commit = commit;
             shut = shut;
             rest = rest;
-            spelled = begins.spelled ∙ ap (λ (l : List ℕ). entries (head_of begin) (map records_of legal) ++ l) is;
+            encoded = begins.encoded ∙ ap (λ (l : List ℕ). entries (head_of begin) (map records_of legal) ++ l) is;
           },
         ),
       ))
-      (cases_eq gate 1)
+      (cases_eq commit 1)
 
 -- a disk that isn't new begins with a checkpoint, or without one
 module _ (bytes : List ℕ) (long : ¬ IsNewDisk bytes) (known : ¬ IsForeign bytes) where
@@ -128,7 +128,7 @@ module _ (bytes : List ℕ) (long : ¬ IsNewDisk bytes) (known : ¬ IsForeign by
         lawful = first.lawful;
         journal = none_read begin m first.is_one refl;
         rest = first.rest;
-        spelled = first.spelled;
+        encoded = first.encoded;
         begins = refl;
       } in
       go_on begin bytes long known first.lawful
@@ -152,7 +152,7 @@ module _ (bytes : List ℕ) (long : ¬ IsNewDisk bytes) (known : ¬ IsForeign by
         lawful = tt;
         journal = none_read begin (empty_market v) tt refl;
         rest = rest;
-        spelled = is ∙ ap (λ (l : List ℕ). l ++ rest) (sym (magic_alone v));
+        encoded = is ∙ ap (λ (l : List ℕ). l ++ rest) (sym (magic_alone v));
         begins = refl;
       } in
       go_on begin bytes long known tt (λ legal at. λ m first. none (m, first)) (length rest) [] (empty_market v) (length (entries (head_of begin) [])) begins rest refl (omega arith)
@@ -160,18 +160,18 @@ module _ (bytes : List ℕ) (long : ¬ IsNewDisk bytes) (known : ¬ IsForeign by
 module _ (bytes : List ℕ) (long : 9 < length bytes) (small : length bytes ≤ 2 ^ 60) where
   by_magic : ((v : Version) × (rest : List ℕ) × (Unit {0} × (bytes ≡ disk_magic_of v ++ rest))) → IsNotDenied ((opening : Opening) × IsOpening bytes opening)
   by_magic (v, [], (lawful, is)) = absurd (omega (arith, long, ap length is, length-append (disk_magic_of v) [], eight v))
-  by_magic (v, gate ∷ rest, (lawful, is)) =
-      let known : ¬ IsForeign bytes = λ foreign. elim foreign [ inl large ↦ omega (arith, small, large) | inr none ↦ none.1 v (gate ∷ rest) tt is ] in
+  by_magic (v, commit ∷ rest, (lawful, is)) =
+      let known : ¬ IsForeign bytes = λ foreign. elim foreign [ inl large ↦ omega (arith, small, large) | inr none ↦ none.1 v (commit ∷ rest) tt is ] in
       ⊎_elim
-      (λ (is_open : gate ≡ 1). follows
-      (by_first bytes (λ new. elim new [ inl short ↦ omega (arith, short, long) | inr closed ↦ closed.shut (sym (closed_gate bytes closed) ∙ gate_of v gate rest is ∙ is_open) ]) known v (gate ∷ rest) is)
+      (λ (is_open : commit ≡ 1). follows
+      (by_first bytes (λ new. elim new [ inl short ↦ omega (arith, short, long) | inr closed ↦ closed.shut (sym (unset_commit bytes closed) ∙ commit_of v commit rest is ∙ is_open) ]) known v (commit ∷ rest) is)
       (one_of ((m : Market) × HasFirst m bytes)))
-      (λ shut. not_denied (New, (inr (record { of = v; gate = gate; shut = shut; rest = rest; spelled = is }), known)))
-      (cases_eq gate 1)
+      (λ shut. not_denied (New, (inr (record { of = v; commit = commit; shut = shut; rest = rest; encoded = is }), known)))
+      (cases_eq commit 1)
     where
-      gate_of : (v : Version) (gate : ℕ) (rest : List ℕ) → bytes ≡ disk_magic_of v ++ gate ∷ rest → get_or bytes 8 0 ≡ gate
-      gate_of One gate rest is = ap (λ (l : List ℕ). get_or l 8 0) is
-      gate_of version gate rest is = ap (λ (l : List ℕ). get_or l 8 0) is
+      commit_of : (v : Version) (commit : ℕ) (rest : List ℕ) → bytes ≡ disk_magic_of v ++ commit ∷ rest → get_or bytes 8 0 ≡ commit
+      commit_of One commit rest is = ap (λ (l : List ℕ). get_or l 8 0) is
+      commit_of version commit rest is = ap (λ (l : List ℕ). get_or l 8 0) is
 
 pub some_opening : SomeOpening
 some_opening bytes = ⊎_elim

@@ -14,20 +14,20 @@ use Rattle.journal_keeping.specs.Starts.{sources, BeginsOtherwise}
 use Rattle.journal_keeping.specs.Pacing.{IsInCheckpoint}
 use Rattle.journal_keeping.specs.Beginning.{BreaksOffEarly}
 use Rattle.journal_keeping.proofs.Starts.{no_command}
-use Rattle.journal_keeping.proofs.Magic.{front_has}
+use Rattle.journal_keeping.proofs.Magic.{prefix_has}
 
 -- ---- which bytes begin no source
 
 -- a checkpoint, and what isn't a command file of its version
-pub behind_none : (market : Market) (rest : List ℕ) → IsCheckpoint market (checkpoint_bytes market) → ((body : List ℕ) → ¬ BeginsWith commands.magics rest market.version body) → BeginsWithNone sources.magics (checkpoint_bytes market ++ rest)
-behind_none market rest one none (Empty version) behind lawful e =
-    no_command version (checkpoint_bytes market ++ rest) behind (kept_magic market (checkpoint_bytes market ++ rest) rest refl) e
-behind_none market rest one none (Kept other) behind lawful e =
-    let same = one_market market other (checkpoint_bytes market) (checkpoint_bytes other) rest (command_magic_of other.version ++ behind) one lawful (e ∙ append_assoc (checkpoint_bytes other) (command_magic_of other.version) behind) in
-    none behind (tt, same.1 ∙ ap (λ (m : Market). command_magic_of m.version ++ behind) (sym same.0))
+pub after_none : (market : Market) (rest : List ℕ) → IsCheckpoint market (checkpoint_bytes market) → ((body : List ℕ) → ¬ BeginsWith commands.magics rest market.version body) → BeginsWithNone sources.magics (checkpoint_bytes market ++ rest)
+after_none market rest one none (Empty version) following lawful e =
+    no_command version (checkpoint_bytes market ++ rest) following (kept_magic market (checkpoint_bytes market ++ rest) rest refl) e
+after_none market rest one none (Kept other) following lawful e =
+    let same = one_market market other (checkpoint_bytes market) (checkpoint_bytes other) rest (command_magic_of other.version ++ following) one lawful (e ∙ append_assoc (checkpoint_bytes other) (command_magic_of other.version) following) in
+    none following (tt, same.1 ∙ ap (λ (m : Market). command_magic_of m.version ++ following) (sym same.0))
 
-pub behind_otherwise : (market : Market) (rest : List ℕ) → IsCheckpoint market (checkpoint_bytes market) → ((body : List ℕ) → ¬ BeginsWith commands.magics rest market.version body) → BeginsOtherwise (checkpoint_bytes market ++ rest)
-behind_otherwise market rest one none = (behind_none market rest one none, λ unsound. unsound.1 market (checkpoint_bytes market) rest one refl)
+pub after_otherwise : (market : Market) (rest : List ℕ) → IsCheckpoint market (checkpoint_bytes market) → ((body : List ℕ) → ¬ BeginsWith commands.magics rest market.version body) → BeginsOtherwise (checkpoint_bytes market ++ rest)
+after_otherwise market rest one none = (after_none market rest one none, λ unsound. unsound.1 market (checkpoint_bytes market) rest one refl)
 
 -- neither a command file nor a checkpoint
 pub no_start : (held more : List ℕ) → 8 ≤ length held → BeginsWithNone commands.magics held → (¬ HasCheckpointMagic held) → BeginsOtherwise (held ++ more)
@@ -35,17 +35,17 @@ no_start held more some none other = (neither, λ unsound. other (magic_in unsou
   where
     magic_in : HasCheckpointMagic (held ++ more) → HasCheckpointMagic held
     magic_in (rest, e) =
-        let front : take 8 held ≡ checkpoint_magic = sym (take-append-le 8 held more some) ∙ ap (take 8) e ∙ take_at _ rest 8 refl in
-        (drop 8 held, sym (take-append-drop 8 held) ∙ ap (λ (l : List ℕ). l ++ drop 8 held) front)
+        let prefix : take 8 held ≡ checkpoint_magic = sym (take-append-le 8 held more some) ∙ ap (take 8) e ∙ take_at _ rest 8 refl in
+        (drop 8 held, sym (take-append-drop 8 held) ∙ ap (λ (l : List ℕ). l ++ drop 8 held) prefix)
 
     neither : BeginsWithNone sources.magics (held ++ more)
-    neither (Empty version) behind lawful e = none version (drop 8 held) tt (front_has version held more behind some e).1
-    neither (Kept market) behind lawful e = other (magic_in (kept_magic market (held ++ more) (command_magic_of market.version ++ behind) (e ∙ append_assoc (checkpoint_bytes market) (command_magic_of market.version) behind)))
+    neither (Empty version) following lawful e = none version (drop 8 held) tt (prefix_has version held more following some e).1
+    neither (Kept market) following lawful e = other (magic_in (kept_magic market (held ++ more) (command_magic_of market.version ++ following) (e ∙ append_assoc (checkpoint_bytes market) (command_magic_of market.version) following)))
 
 -- the magic of a checkpoint, and no checkpoint
 pub unsound_none : (bytes : List ℕ) → HasCheckpointMagic bytes → BeginsWithNoCheckpoint bytes → BeginsWithNone sources.magics bytes
-unsound_none bytes magic unsound (Empty version) behind lawful e = no_command version bytes behind magic e
-unsound_none bytes magic unsound (Kept market) behind lawful e = unsound market (checkpoint_bytes market) (command_magic_of market.version ++ behind) lawful (e ∙ append_assoc (checkpoint_bytes market) (command_magic_of market.version) behind)
+unsound_none bytes magic unsound (Empty version) following lawful e = no_command version bytes following magic e
+unsound_none bytes magic unsound (Kept market) following lawful e = unsound market (checkpoint_bytes market) (command_magic_of market.version ++ following) lawful (e ∙ append_assoc (checkpoint_bytes market) (command_magic_of market.version) following)
 
 -- ---- what was taken of a source
 

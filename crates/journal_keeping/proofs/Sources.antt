@@ -8,7 +8,7 @@ use Rattle.std.proofs.Math.Seq.{take-append-add}
 use Rattle.flow_io.specs.Streams.{Takes}
 use Rattle.wire_records.specs.Records.{Record}
 use Rattle.wire_records.specs.Commands.{Pair}
-use Rattle.wire_records.specs.Grammars.{BeginsWith, spell_all}
+use Rattle.wire_records.specs.Grammars.{BeginsWith, encode_all}
 use Rattle.wire_records.specs.Reading.{Ending, StartsWith}
 use Rattle.wire_records.specs.Formats.{commands}
 use Rattle.flow_orders.specs.Outcomes.{Outcome}
@@ -27,7 +27,7 @@ use Rattle.journal_keeping.proofs.Turns.{Pairs}
 -- bytes that begin with these records
 pub record BeginsWithAll (bytes : List ℕ) (records : List Record) : Type 0 where
   pub rest : List ℕ
-  pub whole : bytes ≡ spell_all commands.units records ++ rest
+  pub whole : bytes ≡ encode_all commands.units records ++ rest
   pub each : All commands.units.IsLawful records
 
 pub asked_are_units : (old : Pairs) (units : List Record) (new : Pairs) (x y : Unit {0}) → Leads commands Adds old x units new y → asked_of new ≡ asked_of old ++ units
@@ -59,9 +59,9 @@ all_to_break market bytes fault new more goes =
     (λ (none : more ≡ []). subst (λ (l : List Record). BeginsWithAll bytes l) (sym (ap (λ (m : Pairs). asked_of (new ++ m)) none ∙ ap asked_of (append-nil new) ∙ is)) (record { rest = goes.left; whole = goes.begins; each = goes.each }))
     (λ (one : asked_of more ≡ off.unit ∷ []). subst (λ (l : List Record). BeginsWithAll bytes l) (sym (map-append asked new more ∙ ap (λ (l : List Record). l ++ asked_of more) is ∙ ap (λ (l : List Record). goes.units ++ l) one)) (record {
       rest = off.rest;
-      whole = goes.begins ∙ ap (λ (l : List ℕ). spell_all commands.units goes.units ++ l) off.front
-          ∙ sym (append_assoc (spell_all commands.units goes.units) (commands.units.spell off.unit) off.rest)
-          ∙ ap (λ (l : List ℕ). l ++ off.rest) (sym (flat_map-append commands.units.spell goes.units (off.unit ∷ []) ∙ ap (λ (l : List ℕ). spell_all commands.units goes.units ++ l) (append-nil (commands.units.spell off.unit))));
+      whole = goes.begins ∙ ap (λ (l : List ℕ). encode_all commands.units goes.units ++ l) off.prefix
+          ∙ sym (append_assoc (encode_all commands.units goes.units) (commands.units.encode off.unit) off.rest)
+          ∙ ap (λ (l : List ℕ). l ++ off.rest) (sym (flat_map-append commands.units.encode goes.units (off.unit ∷ []) ∙ ap (λ (l : List ℕ). encode_all commands.units goes.units ++ l) (append-nil (commands.units.encode off.unit))));
       each = All-append commands.units.IsLawful goes.units (off.unit ∷ []) goes.each (All-cons commands.units.IsLawful off.unit [] off.lawful (All-nil commands.units.IsLawful));
     }))
     named.1
@@ -82,9 +82,9 @@ all_to_wanting market bytes new more goes =
       off.unit,
       subst (λ (l : List Record). BeginsWithAll bytes (l ++ off.unit ∷ [])) (sym before.1) (record {
         rest = off.rest;
-        whole = goes.begins ∙ ap (λ (l : List ℕ). spell_all commands.units goes.units ++ l) off.front
-            ∙ sym (append_assoc (spell_all commands.units goes.units) (commands.units.spell off.unit) off.rest)
-            ∙ ap (λ (l : List ℕ). l ++ off.rest) (sym (flat_map-append commands.units.spell goes.units (off.unit ∷ []) ∙ ap (λ (l : List ℕ). spell_all commands.units goes.units ++ l) (append-nil (commands.units.spell off.unit))));
+        whole = goes.begins ∙ ap (λ (l : List ℕ). encode_all commands.units goes.units ++ l) off.prefix
+            ∙ sym (append_assoc (encode_all commands.units goes.units) (commands.units.encode off.unit) off.rest)
+            ∙ ap (λ (l : List ℕ). l ++ off.rest) (sym (flat_map-append commands.units.encode goes.units (off.unit ∷ []) ∙ ap (λ (l : List ℕ). encode_all commands.units goes.units ++ l) (append-nil (commands.units.encode off.unit))));
         each = All-append commands.units.IsLawful goes.units (off.unit ∷ []) goes.each (All-cons commands.units.IsLawful off.unit [] off.lawful (All-nil commands.units.IsLawful));
       }),
       off.broken.2 refl,
@@ -94,7 +94,7 @@ all_to_wanting market bytes new more goes =
 pub longer : (n : ℕ) (bytes : List ℕ) (records : List Record) → BeginsWithAll (take n bytes) records → BeginsWithAll bytes records
 longer n bytes records all = record {
   rest = all.rest ++ drop n bytes;
-  whole = sym (take-append-drop n bytes) ∙ ap (λ (l : List ℕ). l ++ drop n bytes) all.whole ∙ append_assoc (spell_all commands.units records) all.rest (drop n bytes);
+  whole = sym (take-append-drop n bytes) ∙ ap (λ (l : List ℕ). l ++ drop n bytes) all.whole ∙ append_assoc (encode_all commands.units records) all.rest (drop n bytes);
   each = all.each;
 }
 
@@ -105,13 +105,13 @@ starts_with input limit bytes first held taken None left records opens magic few
 starts_with input limit bytes first held taken (Some m) None records opens magic few takes all = absurd takes
 starts_with input limit bytes first held taken (Some m) (Some l) records opens magic few takes all =
     let start = source_start input in
-    let behind = held ++ (taken ++ l) in
-    let whole : bytes ≡ start ++ behind = opens ∙ ap (λ (xs : List ℕ). xs ++ m) magic.1 ∙ append_assoc start held m ∙ ap (λ (xs : List ℕ). start ++ (held ++ xs)) takes in
+    let following = held ++ (taken ++ l) in
+    let whole : bytes ≡ start ++ following = opens ∙ ap (λ (xs : List ℕ). xs ++ m) magic.1 ∙ append_assoc start held m ∙ ap (λ (xs : List ℕ). start ++ (held ++ xs)) takes in
     let parts : limit ≡ length start + (limit - length start) = omega (arith, few, ap length magic.1, length-append start held) in
     record {
-      body = take (limit - length start) behind;
+      body = take (limit - length start) following;
       rest = all.rest;
-      magic = (magic.0, ap (take limit) whole ∙ ap (λ (n : ℕ). take n (start ++ behind)) parts ∙ take-append-add start behind (limit - length start));
+      magic = (magic.0, ap (take limit) whole ∙ ap (λ (n : ℕ). take n (start ++ following)) parts ∙ take-append-add start following (limit - length start));
       whole = all.whole;
       each = all.each;
     }

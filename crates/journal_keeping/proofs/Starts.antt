@@ -2,7 +2,7 @@
 use Rattle.std.proofs.Common.{◌≡◌, ◌≢◌, ℕ, ◌<◌, ◌≤◌, List, [], ◌++◌, Option, Some, None, length, get_or, refl, sym, ap, ◌∙◌, arith, length-append, append_assoc}
 use Rattle.std.proofs.lemmas.List.{append-nil}
 use Rattle.wire_fields.specs.Numbers.{unsigned}
-use Rattle.wire_records.specs.Records.{Record, head, spelling}
+use Rattle.wire_records.specs.Records.{Record, head, encoding}
 use Rattle.wire_records.specs.Reading.{Ending, End, Torn, TooLong, EndsAs, ReadsOn, Reading, NotFlow, File, Reads}
 use Rattle.wire_records.specs.Formats.{commands, command_magic_of}
 use Rattle.wire_records.proofs.RecordCode.{one_magic, command_magics, commands_readable, eight}
@@ -30,16 +30,16 @@ magic_long bytes magic = omega (arith, ap length magic.1, length-append checkpoi
 
 -- a checkpoint's first bytes can't begin an entry: they state too long a body
 pub no_pair : (bytes : List ℕ) → HasCheckpointMagic bytes → ¬ IsWholePair bytes
-unfolding pair_bytes spelling head unsigned
+unfolding pair_bytes encoding head unsigned
 no_pair bytes magic whole =
     let first = whole.0.0 in
-    let second = spelling whole.0.1 in
+    let second = encoding whole.0.1 in
     let is : checkpoint_magic ++ magic.0 ≡ (unsigned 1 first.tag ++ unsigned 4 (length first.body)) ++ first.body ++ second = sym magic.1 ∙ whole.2 in
     let regrouped = is ∙ append_assoc (unsigned 1 first.tag ++ unsigned 4 (length first.body)) first.body second ∙ append_assoc (unsigned 1 first.tag) (unsigned 4 (length first.body)) (first.body ++ second) in
     stated first.tag (length first.body) magic.0 (first.body ++ second) whole.1.0.tag (omega (arith, whole.1.0.body)) regrouped
   where
-    stated : (tag size : ℕ) (rest behind : List ℕ) → tag < 256 → size ≤ 1024 → checkpoint_magic ++ rest ≡ unsigned 1 tag ++ (unsigned 4 size ++ behind) → ⊥
-    stated tag size rest behind byte few e = omega (arith, few, ap (λ (l : List ℕ). get_or l 1 0) e)
+    stated : (tag size : ℕ) (rest following : List ℕ) → tag < 256 → size ≤ 1024 → checkpoint_magic ++ rest ≡ unsigned 1 tag ++ (unsigned 4 size ++ following) → ⊥
+    stated tag size rest following byte few e = omega (arith, few, ap (λ (l : List ℕ). get_or l 1 0) e)
 
 -- no command file begins with the magic of a checkpoint
 pub no_command : (version : Version) (bytes rest : List ℕ) → HasCheckpointMagic bytes → bytes ≢ command_magic_of version ++ rest

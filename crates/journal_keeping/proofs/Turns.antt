@@ -11,7 +11,7 @@ use Rattle.wire_records.specs.Versions.{IsReadAs}
 use Rattle.wire_records.proofs.Readings.{read_own}
 use Rattle.flow_orders.specs.Outcomes.{Outcome, IsAdmissibleOutcome}
 use Rattle.canonical_rule.specs.Canonical.{IsCanonicalOutcome}
-use Rattle.journal_records.specs.Pairs.{IsPair, pair_spelling}
+use Rattle.journal_records.specs.Pairs.{IsPair, pair_encoding}
 use Rattle.journal_records.specs.Formats.{records_of}
 use Rattle.market_rules.specs.Market.{Market, IsConsistent}
 use Rattle.market_history.specs.Histories.{Start, Empty, Kept, market_of, CanStart}
@@ -48,16 +48,16 @@ canonical_is_admissible begin pairs m pair n legal step =
 pub is_record_pair : (pair : Pair Record Outcome) → IsPair pair → IsRecordPair (records_of pair)
 is_record_pair pair fits = (fits.asked, fits.answered)
 
-pub same_bytes : (pair : Pair Record Outcome) → pair_spelling pair ≡ pair_bytes (records_of pair)
-unfolding pair_spelling pair_bytes
+pub same_bytes : (pair : Pair Record Outcome) → pair_encoding pair ≡ pair_bytes (records_of pair)
+unfolding pair_encoding pair_bytes
 same_bytes pair = refl
 
-pub is_whole : (pair : Pair Record Outcome) (text : List ℕ) → IsPair pair → text ≡ pair_spelling pair → IsWholePair text
+pub is_whole : (pair : Pair Record Outcome) (text : List ℕ) → IsPair pair → text ≡ pair_encoding pair → IsWholePair text
 is_whole pair text fits is = (records_of pair, is_record_pair pair fits, is ∙ same_bytes pair)
 
 -- the encodings of entries, and of one more
-spelled_more : (new : Pairs) (pair : Pair Record Outcome) → flat_map pair_spelling new ++ pair_spelling pair ≡ flat_map pair_spelling (new ++ pair ∷ [])
-spelled_more new pair = sym (flat_map-append pair_spelling new (pair ∷ []) ∙ ap (λ (l : List ℕ). flat_map pair_spelling new ++ l) (append-nil (pair_spelling pair)))
+encoded_more : (new : Pairs) (pair : Pair Record Outcome) → flat_map pair_encoding new ++ pair_encoding pair ≡ flat_map pair_encoding (new ++ pair ∷ [])
+encoded_more new pair = sym (flat_map-append pair_encoding new (pair ∷ []) ∙ ap (λ (l : List ℕ). flat_map pair_encoding new ++ l) (append-nil (pair_encoding pair)))
 
 -- nothing was served yet
 pub so_none : (start : DiskState) (before : Market) (from : ℕ) (held : Option (List ℕ)) → IsDisk start → SoFar start start before before from from held held []
@@ -79,9 +79,9 @@ module _ (start now next : DiskState) (before market after : Market) (from place
       subst (λ (l : List Record). HasKept begin start next old before later l (new ++ pair ∷ []) after) (sym (map-append (λ (p : Pair Record Outcome). p.asked) new (pair ∷ []))) more
 
   -- the entry was also written
-  pub so_more : (IsSome next.content → IsSome now.content) → Grows holds last (pair_spelling pair) → SoFar start next before after from later held last (new ++ pair ∷ [])
+  pub so_more : (IsSome next.content → IsSome now.content) → Grows holds last (pair_encoding pair) → SoFar start next before after from later held last (new ++ pair ∷ [])
   so_more told written = record {
-    written = subst (λ (l : List ℕ). Grows held last l) (spelled_more new pair) (Grows-more held holds last (flat_map pair_spelling new) (pair_spelling pair) so.written written);
+    written = subst (λ (l : List ℕ). Grows held last l) (encoded_more new pair) (Grows-more held holds last (flat_map pair_encoding new) (pair_encoding pair) so.written written);
     kept = kept_one_more;
     told = λ some. so.told (told some);
   }

@@ -11,7 +11,7 @@ use Rattle.wire_records.specs.Reading.{Reads, ReadsOn}
 use Rattle.wire_records.specs.Reading as reading
 use Rattle.wire_records.specs.Formats.{commands}
 use Rattle.wire_records.specs.declared.version.Version.{Version}
-use Rattle.journal_records.specs.Pairs.{pair_spelling}
+use Rattle.journal_records.specs.Pairs.{pair_encoding}
 use Rattle.journal_records.specs.Formats.{records_of}
 use Rattle.market_rules.specs.Market.{Market}
 use Rattle.market_history.specs.Histories.{Start}
@@ -26,13 +26,13 @@ use Rattle.journal_disk.specs.Entries.{Keeps}
 use Rattle.journal_keeping.specs.declared.fault.KeepFault.{KeepFault}
 use Rattle.journal_keeping.specs.declared.fault.KeepFault.TheVariants.{Read, Write, Disk, Memory, NotDisk, Damaged, Rejected, NotFlow, BadCheckpoint, Torn, TooLong}
 use Rattle.journal_keeping.specs.Starts.{head_of, source_start, sources}
-use Rattle.journal_keeping.specs.Keeping.{IsKeptJournal, StandsForJournal, IsLegalImage, HoldsLegal, GoesOn, GoesOnIn, StandIn, KeepsIn}
+use Rattle.journal_keeping.specs.Keeping.{IsKeptJournal, StandsForJournal, IsLegalImage, HoldsLegal, GoesOn, GoesOnIn, StandIn, Runs, KeepsIn}
 use Rattle.journal_keeping.specs.Openings.{Opening, New, Legal, IsOpening, OpensAs, ReadsKept}
 use Rattle.journal_keeping.specs.Openings as opening
 use Rattle.journal_keeping.specs.Ended.{IsRefused, HasKeptAll, ComesTo, IsRefusal, MayBeginAgain}
 use Rattle.journal_keeping.specs.Private.{Adds, IfEnded, ServesOn}
 use Rattle.journal_keeping.specs.Pacing.{asked_of}
-use Rattle.journal_keeping.specs.Beginning.{IsBegun, IsKeptOn, OpensNot, IsOfDisk, IsBehindStart, IsOfSource, NotBegun, Unread, Asked, OpensSafely}
+use Rattle.journal_keeping.specs.Beginning.{IsBegun, IsKeptOn, OpensNot, IsOfDisk, IsAfterStart, IsOfSource, NotBegun, Unread, Asked, OpensSafely}
 use Rattle.journal_keeping.proofs.Serving.{unbegun, opened_first, stand_whole}
 use Rattle.journal_keeping.proofs.Ends.{take_every}
 use Rattle.journal_keeping.proofs.Again.{can_begin_again}
@@ -72,16 +72,20 @@ legal_again end (Some bytes) is left each =
     let here = each bytes left in
     (here.0, here.1, here.2, record { bytes = bytes; told = is; journal = here.3; stands = here.4; each = each })
 
-pub may_begin_again : (limit : ℕ) (content : Option (List ℕ)) (Cut : Type 0) (begin : Start) (start end : DiskState) (old : Pairs) (market : Market) (held holds : Option (List ℕ)) → HoldsLegal start begin old market → IsDisk end
-    → KeepsIn limit content Cut begin start end old market held holds → MayBeginAgain start end
-may_begin_again limit content Cut begin start end old market held holds legal is_disk (of, from, input, goes, keeps) =
-    let runs = keeps.runs in
-    let returned = (can_begin_again start end).returned begin of old keeps.new market from runs.now keeps.records keeps.acknowledged legal runs.goes_on runs.returns in
+-- after a run
+pub after_run : (begin of : Start) (start end : DiskState) (old new : Pairs) (market from : Market) (records : List Record) (acknowledged : ℕ) → HoldsLegal start begin old market → IsDisk end → Runs of start end old from records new acknowledged → MayBeginAgain start end
+after_run begin of start end old new market from records acknowledged legal is_disk runs =
+    let returned = (can_begin_again start end).returned begin of old new market from runs.now records acknowledged legal runs.goes_on runs.returns in
     record {
-      stopped = (can_begin_again start end).during begin of old keeps.new market from runs.now keeps.records legal runs.goes_on runs.during;
+      stopped = (can_begin_again start end).during begin of old new market from runs.now records legal runs.goes_on runs.during;
       returned = returned;
       told = legal_again end end.content refl is_disk.content returned;
     }
+
+pub may_begin_again : (limit : ℕ) (content : Option (List ℕ)) (Cut : Type 0) (begin : Start) (start end : DiskState) (old : Pairs) (market : Market) (held holds : Option (List ℕ)) → HoldsLegal start begin old market → IsDisk end
+    → KeepsIn limit content Cut begin start end old market held holds → MayBeginAgain start end
+may_begin_again limit content Cut begin start end old market held holds legal is_disk (of, from, input, goes, keeps) =
+    after_run begin of start end old keeps.new market from keeps.records keeps.acknowledged legal is_disk keeps.runs
 
 -- ---- a source that was read on after its beginning
 
@@ -92,15 +96,15 @@ reads_kept input limit bytes first held taken None left units how opens magic fe
 reads_kept input limit bytes first held taken (Some m) None units how opens magic few takes reads = absurd takes
 reads_kept input limit bytes first held taken (Some m) (Some l) units how opens magic few takes reads =
     let start = source_start input in
-    let behind = held ++ (taken ++ l) in
-    let whole : bytes ≡ start ++ behind = opens ∙ ap (λ (xs : List ℕ). xs ++ m) magic.1 ∙ append_assoc start held m ∙ ap (λ (xs : List ℕ). start ++ (held ++ xs)) takes in
+    let following = held ++ (taken ++ l) in
+    let whole : bytes ≡ start ++ following = opens ∙ ap (λ (xs : List ℕ). xs ++ m) magic.1 ∙ append_assoc start held m ∙ ap (λ (xs : List ℕ). start ++ (held ++ xs)) takes in
     let within : length start ≤ limit = omega (arith, few, ap length magic.1, length-append start held) in
     let parts : limit ≡ length start + (limit - length start) = omega (arith, within) in
-    let size : length bytes ≡ length start + length behind = ap length whole ∙ length-append start behind in (
-      take (limit - length start) behind,
-      (magic.0, ap (take limit) whole ∙ ap (λ (n : ℕ). take n (start ++ behind)) parts ∙ take-append-add start behind (limit - length start)),
-      of_source (length start) (limit < length bytes) (take (limit - length start) behind) units how
-          (reads_alike commands (limit - length start < length behind) (limit < length bytes) (length start) (take (limit - length start) behind) units how ((λ p. omega (arith, p, size, within)), (λ q. omega (arith, q, size, within))) reads),
+    let size : length bytes ≡ length start + length following = ap length whole ∙ length-append start following in (
+      take (limit - length start) following,
+      (magic.0, ap (take limit) whole ∙ ap (λ (n : ℕ). take n (start ++ following)) parts ∙ take-append-add start following (limit - length start)),
+      of_source (length start) (limit < length bytes) (take (limit - length start) following) units how
+          (reads_alike commands (limit - length start < length following) (limit < length bytes) (length start) (take (limit - length start) following) units how ((λ p. omega (arith, p, size, within)), (λ q. omega (arith, q, size, within))) reads),
     )
 
 reads_where : (input : Start) (limit : ℕ) (content : Option (List ℕ)) (first held taken : List ℕ) (mid left : Option (List ℕ)) (units : List Record) (how : reading.Ending) → Takes content mid first → BeginsWith sources.magics first input held → length first ≤ limit → Takes mid left taken
@@ -114,17 +118,17 @@ take_none : (n : ℕ) → take {A = ℕ} n [] ≡ []
 take_none n = search rules
 
 -- all entries were written completely
-pub all_written : (Cut : Type 0) (held holds : Option (List ℕ)) (new more : Pairs) (acknowledged : ℕ) → (¬ Cut) → more ≡ [] → acknowledged ≡ length new → StandIn Cut held holds (take acknowledged (new ++ more)) → Grows held holds (flat_map pair_spelling new)
+pub all_written : (Cut : Type 0) (held holds : Option (List ℕ)) (new more : Pairs) (acknowledged : ℕ) → (¬ Cut) → more ≡ [] → acknowledged ≡ length new → StandIn Cut held holds (take acknowledged (new ++ more)) → Grows held holds (flat_map pair_encoding new)
 all_written Cut held holds new more acknowledged not none all stands =
     let every : take acknowledged (new ++ more) ≡ new = ap (λ (n : ℕ). take n (new ++ more)) all ∙ ap (λ (m : Pairs). take (length new) (new ++ m)) none ∙ take_every new in
     let last : stands.last ≡ [] = stands.none not in
     let whole : stands.whole ≡ new = sym (append-nil stands.whole) ∙ ap (λ (l : Pairs). stands.whole ++ l) (sym last) ∙ sym stands.parts ∙ every in
-    let text : stands.written.0 ≡ flat_map pair_spelling new =
+    let text : stands.written.0 ≡ flat_map pair_encoding new =
     stands.written.3
-    ∙ ap (λ (l : Pairs). flat_map pair_spelling stands.whole ++ take stands.written.2 (flat_map pair_spelling l)) last
-    ∙ ap (λ (l : List ℕ). flat_map pair_spelling stands.whole ++ l) (take_none stands.written.2)
-    ∙ append-nil (flat_map pair_spelling stands.whole)
-    ∙ ap (λ (l : Pairs). flat_map pair_spelling l) whole in
+    ∙ ap (λ (l : Pairs). flat_map pair_encoding stands.whole ++ take stands.written.2 (flat_map pair_encoding l)) last
+    ∙ ap (λ (l : List ℕ). flat_map pair_encoding stands.whole ++ l) (take_none stands.written.2)
+    ∙ append-nil (flat_map pair_encoding stands.whole)
+    ∙ ap (λ (l : Pairs). flat_map pair_encoding l) whole in
     subst (λ (l : List ℕ). Grows held holds l) text stands.written.1
 
 -- ---- by the result
@@ -233,30 +237,30 @@ unread_disk limit content (Torn place) is = absurd is
 unread_disk limit content TooLong is = absurd is
 
 -- the beginning of the source was taken
-pub unread_made : (limit : ℕ) (input : Start) (w : WindowState) (content left : Option (List ℕ)) → IsBehindStart limit input w content left → Unread limit content left Disk
-unread_made limit input w None left behind = tt
-unread_made limit input w (Some bytes) None behind = absurd behind.takes
-unread_made limit input w (Some bytes) (Some m) behind = (
-  length behind.first,
-  sym (ap length behind.takes ∙ length-append behind.first m),
+pub unread_made : (limit : ℕ) (input : Start) (w : WindowState) (content left : Option (List ℕ)) → IsAfterStart limit input w content left → Unread limit content left Disk
+unread_made limit input w None left following = tt
+unread_made limit input w (Some bytes) None following = absurd following.takes
+unread_made limit input w (Some bytes) (Some m) following = (
+  length following.first,
+  sym (ap length following.takes ∙ length-append following.first m),
   inr (
     input,
     take (limit - length (source_start input)) (w.held ++ m),
     (
-      behind.magic.0,
-      ap (take limit) (behind.takes ∙ ap (λ (xs : List ℕ). xs ++ m) behind.magic.1 ∙ append_assoc (source_start input) w.held m)
+      following.magic.0,
+      ap (take limit) (following.takes ∙ ap (λ (xs : List ℕ). xs ++ m) following.magic.1 ∙ append_assoc (source_start input) w.held m)
           ∙ ap (λ (n : ℕ). take n (source_start input ++ (w.held ++ m))) parts
           ∙ take-append-add (source_start input) (w.held ++ m) (limit - length (source_start input)),
     ),
-    omega (arith, behind.held, long),
+    omega (arith, following.held, long),
   ),
 )
   where
-    long : length behind.first ≡ length (source_start input) + length w.held
-    long = ap length behind.magic.1 ∙ length-append (source_start input) w.held
+    long : length following.first ≡ length (source_start input) + length w.held
+    long = ap length following.magic.1 ∙ length-append (source_start input) w.held
 
     parts : limit ≡ length (source_start input) + (limit - length (source_start input))
-    parts = omega (arith, behind.few, long)
+    parts = omega (arith, following.few, long)
 
 -- a fault of the source is no refusal of the disk
 pub asked_of_source : (wanted : Option Version) (limit : ℕ) (content left : Option (List ℕ)) (Same : Type 0) (fault : KeepFault) → IsOfSource wanted limit content left fault → Asked fault Same
@@ -299,12 +303,12 @@ asked_refused Same (Torn place) asked refusal = absurd refusal
 asked_refused Same TooLong asked refusal = absurd refusal
 
 module _ (limit : ℕ) (held : List ℕ) (content : Option (List ℕ)) (begun : DiskState) (begin input : Start) (market : Market) (place : ℕ) (is : IsBegun held begin input market place begun) where
-  module _ (mid left : Option (List ℕ)) (w : WindowState) (behind : IsBehindStart limit input w content mid) (end : DiskState) (before after : Option (List ℕ)) where
+  module _ (mid left : Option (List ℕ)) (w : WindowState) (following : IsAfterStart limit input w content mid) (end : DiskState) (before after : Option (List ℕ)) where
     journal : IsKeptJournal begin is.0 market
-    journal = opens_journal held begin input is.0 market behind.magic.0 is.1
+    journal = opens_journal held begin input is.0 market following.magic.0 is.1
 
     far : w.limit - w.place ≡ limit - length (source_start input)
-    far = omega (arith, behind.limited, behind.place)
+    far = omega (arith, following.limited, following.place)
 
     abbrev bytes : List ℕ → List ℕ
     bytes taken = w.held ++ known taken left
@@ -322,7 +326,7 @@ module _ (limit : ℕ) (held : List ℕ) (content : Option (List ℕ)) (begun : 
         let kept = ended.2 begin is.0 journal is.2 in
         let reads : ReadsOn commands (length (source_start input)) (limit - length (source_start input) < length (bytes on.goes.taken)) (take (limit - length (source_start input)) (bytes on.goes.taken)) goes.units (ending_of ends) =
         subst (λ (n : ℕ). ReadsOn commands (length (source_start input)) (n < length (bytes on.goes.taken)) (take n (bytes on.goes.taken)) goes.units (ending_of ends)) far
-        (subst (λ (n : ℕ). ReadsOn commands n (w.limit - w.place < length (bytes on.goes.taken)) (take (w.limit - w.place) (bytes on.goes.taken)) goes.units (ending_of ends)) behind.place goes.reads) in (
+        (subst (λ (n : ℕ). ReadsOn commands n (w.limit - w.place < length (bytes on.goes.taken)) (take (w.limit - w.place) (bytes on.goes.taken)) goes.units (ending_of ends)) following.place goes.reads) in (
           goes.units,
           record {
             begin = begin;
@@ -330,7 +334,7 @@ module _ (limit : ℕ) (held : List ℕ) (content : Option (List ℕ)) (begun : 
             market = market;
             input = input;
             opens = is.1;
-            reads = reads_where input limit content behind.first w.held on.goes.taken mid left goes.units (ending_of ends) behind.takes behind.magic behind.few on.goes.takes reads;
+            reads = reads_where input limit content following.first w.held on.goes.taken mid left goes.units (ending_of ends) following.takes following.magic following.few on.goes.takes reads;
             new = new;
             now = runs.now;
             goes_on = subst (λ (r : List Record). GoesOn begin is.0 market r new runs.now) units (subst (λ (l : Pairs). GoesOn begin is.0 market (asked_of l) l runs.now) every runs.goes_on);
@@ -365,13 +369,13 @@ module _ (limit : ℕ) (held : List ℕ) (content : Option (List ℕ)) (begun : 
     comes_served (Err BadCheckpoint) on = absurd on.ended
 
 -- the records that were served are the source's first, and what happened to the disk and the output
-pub keeps_served : (limit : ℕ) (content mid left : Option (List ℕ)) (w : WindowState) (of input : Start) (behind : IsBehindStart limit input w content mid) (result : Result (Unit {0}) KeepFault) (begin : Start) (start begun end : DiskState) (old : Pairs) (market session : Market) (place : ℕ) (before after : Option (List ℕ))
+pub keeps_served : (limit : ℕ) (content mid left : Option (List ℕ)) (w : WindowState) (of input : Start) (following : IsAfterStart limit input w content mid) (result : Result (Unit {0}) KeepFault) (begin : Start) (start begun end : DiskState) (old : Pairs) (market session : Market) (place : ℕ) (before after : Option (List ℕ))
     → GoesOnIn limit content start begin market of session input × IsKeptJournal of old session × Keeps (head_of of) (map records_of old) place begun → Opens of start begun old
     → ServesOn w mid left result session place begun end before after → KeepsIn limit content (result ≡ Err Write) begin start end old market before after
-keeps_served limit content mid left w of input behind result begin start begun end old market session place before after is opens on =
+keeps_served limit content mid left w of input following result begin start begun end old market session place before after is opens on =
     let all = on.new ++ on.more in
     let served = on.runs of old is.1 is.2 in
-    let far : w.limit - w.place ≡ limit - length (source_start input) = omega (arith, behind.limited, behind.place) in (
+    let far : w.limit - w.place ≡ limit - length (source_start input) = omega (arith, following.limited, following.place) in (
       of,
       session,
       input,
@@ -380,7 +384,7 @@ keeps_served limit content mid left w of input behind result begin start begun e
         records = asked_of all;
         new = all;
         acknowledged = on.acknowledged;
-        served = are_served input limit content mid left behind.first w.held on.goes.taken (asked_of all) behind.takes behind.magic behind.few on.goes.takes
+        served = are_served input limit content mid left following.first w.held on.goes.taken (asked_of all) following.takes following.magic following.few on.goes.takes
             (subst (λ (n : ℕ). BeginsWithAll (take n (w.held ++ known on.goes.taken left)) (asked_of all)) far (served_first w mid left result session place begun end before after on));
         runs = opened_first of start begun end old session place (asked_of all) all on.acknowledged opens is.2 served;
         written = on.written;

@@ -46,7 +46,7 @@ abbrev pub IsKeptOn : Version → List ℕ → Market → ℕ → DiskState → 
 IsKeptOn version held market place now = (begin : Start) × (version_of begin ≡ version) × IsBegun held begin (Empty version) market place now
 
 -- A window is after the beginning of a source, and was filled no further than the limit.
-pub record IsBehindStart (limit : ℕ) (input : Start) (window : WindowState) (before after : Option (List ℕ)) : Type 0 where
+pub record IsAfterStart (limit : ℕ) (input : Start) (window : WindowState) (before after : Option (List ℕ)) : Type 0 where
   pub limited : window.limit ≡ limit
   pub place : window.place ≡ length (source_start input)
   pub room : window.room ≡ longest_record
@@ -67,6 +67,10 @@ pub record BeginsAt (version : Version) (bytes : List ℕ) (market : Market) (pl
   pub rest : List ℕ
   pub holds : Holds (head_of begin) [] place rest disk
   pub unfit : place ≡ 8 → (first : Market) → ¬ HasFirst first bytes
+
+-- the disk's bytes were opened as a valid journal with so many entries, if they were opened as one
+abbrev pub IsCounted : ℕ → List ℕ → Type 0
+IsCounted count held = (begin : Start) (old : List (Pair Record Outcome)) (market : Market) → IsOpening held (Legal begin old market) → count ≡ length old
 
 -- why no beginning was found: the first entry isn't an entry, and holds no checkpoint of the disk's version
 abbrev pub StopsFirst : KeepFault → List ℕ → Type 0
@@ -90,7 +94,7 @@ IsStored (Kept market) stored = stored ≡ framed (checkpoint_bytes market) ++ 0
 -- The beginning of a source was taken: a window is behind it, this is the market in which the journal begins, and its first entry as stored.
 pub record OpensStart (limit : ℕ) (market : Market) (stored : List ℕ) (window : WindowState) (before after : Option (List ℕ)) : Type 0 where
   pub begin : Start
-  pub behind : IsBehindStart limit begin window before after
+  pub following : IsAfterStart limit begin window before after
   pub market_is : market ≡ market_of begin
   pub stored_is : IsStored begin stored
 
@@ -217,7 +221,7 @@ pub record OpensSafely (limit : ℕ) (content : Option (List ℕ)) (start end : 
 pub record HasBegun (limit : ℕ) (start end : DiskState) (window : WindowState) (before after : Option (List ℕ)) (market : Market) (place : ℕ) : Type 0 where
   pub begin : Start
   pub input : Start
-  pub behind : IsBehindStart limit input window before after
+  pub following : IsAfterStart limit input window before after
   pub begun : IfSome start.content (λ held. IsBegun held begin input market place end)
   pub moments : (was : Start) (old : List (Pair Record Outcome)) (m : Market) → HoldsLegal start was old m
       → AtEachMoment start end (WhileOpening begin start old)

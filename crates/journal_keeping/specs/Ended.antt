@@ -7,7 +7,7 @@ use Rattle.wire_records.specs.Commands.{Pair}
 use Rattle.wire_records.specs.Reading.{Reads}
 use Rattle.wire_records.specs.Reading as reading
 use Rattle.flow_orders.specs.Outcomes.{Outcome}
-use Rattle.journal_records.specs.Pairs.{pair_spelling}
+use Rattle.journal_records.specs.Pairs.{pair_encoding}
 use Rattle.journal_records.specs.Formats.{records_of}
 use Rattle.market_rules.specs.Market.{Market}
 use Rattle.market_history.specs.Histories.{Start}
@@ -41,7 +41,7 @@ pub record HasKeptAll (limit : ℕ) (held : List ℕ) (content : Option (List �
   pub goes_on : GoesOn begin old market records new now
   pub place : ℕ
   pub keeps : Keeps (head_of begin) (map records_of (old ++ new)) place end
-  pub written : Grows before after (flat_map pair_spelling new)
+  pub written : Grows before after (flat_map pair_encoding new)
 
 -- The disk was new, and the source's first bytes are so: the disk stays new, with what it held.
 abbrev pub StaysNew : (List ℕ → Type 0) → ℕ → List ℕ → Option (List ℕ) → DiskState → Type 0

@@ -9,7 +9,7 @@ use Rattle.wire_records.specs.Grammars.{BeginsWith}
 use Rattle.wire_records.specs.Reading.{StartsWith}
 use Rattle.flow_orders.specs.Outcomes.{Outcome, IsAdmissibleOutcome}
 use Rattle.canonical_rule.specs.Canonical.{IsCanonicalOutcome}
-use Rattle.journal_records.specs.Pairs.{IsPair, pair_spelling}
+use Rattle.journal_records.specs.Pairs.{IsPair, pair_encoding}
 use Rattle.journal_records.specs.Formats.{records_of}
 use Rattle.market_rules.specs.Market.{Market}
 use Rattle.market_history.specs.Histories.{Start, Empty, market_of, CanStart}
@@ -91,7 +91,7 @@ pub record StandIn (Cut : Type 0) (before after : Option (List ℕ)) (pairs : Li
   pub parts : pairs ≡ whole ++ last
   pub one : length last ≤ 1
   pub none : ¬ Cut → last ≡ []
-  pub written : (text : List ℕ) × Grows before after text × (count : ℕ) × (text ≡ flat_map pair_spelling whole ++ take count (flat_map pair_spelling last))
+  pub written : (text : List ℕ) × Grows before after text × (count : ℕ) × (text ≡ flat_map pair_encoding whole ++ take count (flat_map pair_encoding last))
 
 -- What a run does to the disk: these records were served, and their new entries acknowledged, all of them or all but the last.
 pub record Runs (begin : Start) (start end : DiskState) (old : List (Pair Record Outcome)) (market : Market) (records : List Record) (new : List (Pair Record Outcome)) (acknowledged : ℕ) : Type 0 where

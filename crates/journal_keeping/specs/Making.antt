@@ -14,5 +14,5 @@ HasTakenStart limit bytes left =
     (n : ℕ) × IsTaken bytes left n × (input : Start) × (body : List ℕ) × BeginsWith sources.magics (take n (take limit bytes)) input body
 
 -- a disk that held these bytes and was new was only looked at, unless the whole beginning of a source was taken
-abbrev pub IsMadeBehindStart : ℕ → List ℕ → DiskState → DiskState → Option (List ℕ) → Option (List ℕ) → Type 0
-IsMadeBehindStart limit held start end content left = IsNewDisk held → OnlyLooks start end ⊎ IfSome content (λ bytes. HasTakenStart limit bytes left)
+abbrev pub IsMadeAfterStart : ℕ → List ℕ → DiskState → DiskState → Option (List ℕ) → Option (List ℕ) → Type 0
+IsMadeAfterStart limit held start end content left = IsNewDisk held → OnlyLooks start end ⊎ IfSome content (λ bytes. HasTakenStart limit bytes left)

@@ -32,7 +32,7 @@ pub record BeginsLegal (begin : Start) (bytes : List ℕ) (legal : List (Pair Re
   pub lawful : IsHead (head_of begin)
   pub journal : IsKeptJournal begin legal market
   pub rest : List ℕ
-  pub spelled : bytes ≡ entries (head_of begin) (map records_of legal) ++ rest
+  pub encoded : bytes ≡ entries (head_of begin) (map records_of legal) ++ rest
   pub begins : place ≡ length (entries (head_of begin) (map records_of legal))
 
 -- at this place, after valid entries, the bytes are damaged; the first entry isn't so if it holds a checkpoint of the disk's version

@@ -4,12 +4,12 @@ use Rattle.std.specs.List.{flat_map}
 use Rattle.flow_io.specs.Streams.{Grows}
 use Rattle.wire_records.specs.Records.{Record}
 use Rattle.wire_records.specs.Commands.{Pair}
-use Rattle.wire_records.specs.Grammars.{BeginsWith, BeginsWithNone, spell_all}
+use Rattle.wire_records.specs.Grammars.{BeginsWith, BeginsWithNone, encode_all}
 use Rattle.wire_records.specs.Reading.{StartsWith}
 use Rattle.wire_records.specs.Formats.{commands}
 use Rattle.word_driver.specs.Does.{IsTaken}
 use Rattle.flow_orders.specs.Outcomes.{Outcome}
-use Rattle.journal_records.specs.Pairs.{pair_spelling}
+use Rattle.journal_records.specs.Pairs.{pair_encoding}
 use Rattle.journal_records.specs.Formats.{records_of}
 use Rattle.market_rules.specs.Market.{Market}
 use Rattle.market_snapshot.specs.Checkpoints.{HasCheckpointMagic}
@@ -35,9 +35,9 @@ pub record AnswersAll (bytes : List ℕ) (before after : Option (List ℕ)) : Ty
   pub body : List ℕ
   pub rest : List ℕ
   pub magic : BeginsWith sources.magics bytes input body
-  pub whole : body ≡ spell_all commands.units (asked_of pairs) ++ rest
+  pub whole : body ≡ encode_all commands.units (asked_of pairs) ++ rest
   pub none : BeginsWithNone commands.units rest
-  pub written : Grows before after (flat_map pair_spelling pairs)
+  pub written : Grows before after (flat_map pair_encoding pairs)
 
 -- The output gained these entries, complete, which answer the first records of the bytes, and at most 1,030 bytes were taken past those.
 pub record IsNearPairs (limit : ℕ) (bytes : List ℕ) (taken : ℕ) (before after : Option (List ℕ)) : Type 0 where
@@ -45,8 +45,8 @@ pub record IsNearPairs (limit : ℕ) (bytes : List ℕ) (taken : ℕ) (before af
   pub pairs : List (Pair Record Outcome)
   pub more : List ℕ
   pub starts : StartsWith sources limit bytes input (asked_of pairs)
-  pub stands : Grows before after (flat_map pair_spelling pairs ++ more)
-  pub near : taken ≤ length (source_start input) + length (spell_all commands.units (asked_of pairs)) + 1030
+  pub stands : Grows before after (flat_map pair_encoding pairs ++ more)
+  pub near : taken ≤ length (source_start input) + length (encode_all commands.units (asked_of pairs)) + 1030
 
 -- the source was read no further than 1,030 bytes past the last record whose entry was written, or past its beginning, or past the first
 -- eight bytes
@@ -102,7 +102,7 @@ pub record AllocatesNext (limit : ℕ) (held : List ℕ) (content : Option (List
   pub allocates : RecordMayAllocate now next
   pub place : ℕ
   pub keeps : Keeps (head_of begin) (map records_of (old ++ new)) place end
-  pub written : Grows before after (flat_map pair_spelling new)
+  pub written : Grows before after (flat_map pair_encoding new)
 
 -- memory ran out for the checkpoint of a source: the disk was new, and still holds what it held, and nothing was written
 abbrev pub RunsOutEarly : ℕ → List ℕ → Option (List ℕ) → Option (List ℕ) → DiskState → Option (List ℕ) → Option (List ℕ) → Type 0

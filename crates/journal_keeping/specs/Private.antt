@@ -10,7 +10,7 @@ use Rattle.wire_records.specs.Grammars.{BeginsWith, BeginsWithNone}
 use Rattle.wire_records.specs.Formats.{commands}
 use Rattle.flow_orders.specs.Outcomes.{Outcome}
 use Rattle.canonical_rule.specs.Canonical.{IsCanonicalOutcome}
-use Rattle.journal_records.specs.Pairs.{IsPair, pair_spelling}
+use Rattle.journal_records.specs.Pairs.{IsPair, pair_encoding}
 use Rattle.journal_records.specs.Formats.{records_of}
 use Rattle.market_rules.specs.Market.{Market}
 use Rattle.market_history.specs.Histories.{Start}
@@ -47,7 +47,7 @@ pub record KeepsOneMore (pair : Pair Record Outcome) (from to : ℕ) (old new : 
 pub record IsServed (bytes : List ℕ) (old : Market) (pair : Pair Record Outcome) (new : Market) : Type 0 where
   pub lawful : commands.units.IsLawful pair.asked
   pub rest : List ℕ
-  pub front : bytes ≡ commands.units.spell pair.asked ++ rest
+  pub prefix : bytes ≡ commands.units.encode pair.asked ++ rest
   pub step : Step IsReadAs IsCanonicalOutcome old pair.asked pair.answer new
   pub fits : IsPair pair
 
@@ -55,12 +55,12 @@ pub record IsServed (bytes : List ℕ) (old : Market) (pair : Pair Record Outcom
 pub record TakesNext (n : ℕ) (bytes : List ℕ) (old new : Market) (from to : ℕ) (disk later : DiskState) (before after : Option (List ℕ)) : Type 0 where
   pub pair : Pair Record Outcome
   pub served : IsServed bytes old pair new
-  pub size : n ≡ length (commands.units.spell pair.asked)
+  pub size : n ≡ length (commands.units.encode pair.asked)
   pub some : 0 < n
-  pub behind : served.rest ≡ drop n bytes
+  pub following : served.rest ≡ drop n bytes
   pub keeps : KeepsOneMore pair from to disk later
   pub told : IsSome later.content → IsSome disk.content
-  pub written : Grows before after (pair_spelling pair)
+  pub written : Grows before after (pair_encoding pair)
 
 -- what the bytes begin with, and what was done with it
 abbrev pub IsTakenNext : Front → List ℕ → Market → Market → ℕ → ℕ → DiskState → DiskState → Option (List ℕ) → Option (List ℕ) → Type 0
@@ -87,7 +87,7 @@ module _ (bytes : List ℕ) (old : Market) (from to : ℕ) (disk later : DiskSta
   BreaksNext Disk =
       SameOut × (pair : Pair Record Outcome) × (new : Market) × IsServed bytes old pair new
       × ((head : Head) (pairs : List RecordPair) → Keeps head pairs from disk → AtEachMoment disk later (WithOrWithout head pairs (records_of pair)))
-  BreaksNext Write = (pair : Pair Record Outcome) × (new : Market) × IsServed bytes old pair new × KeepsOneMore pair from to disk later × GrowsByPrefix before after (pair_spelling pair)
+  BreaksNext Write = (pair : Pair Record Outcome) × (new : Market) × IsServed bytes old pair new × KeepsOneMore pair from to disk later × GrowsByPrefix before after (pair_encoding pair)
   BreaksNext Read = ⊥
   BreaksNext NotDisk = ⊥
   BreaksNext (Damaged place) = ⊥
@@ -103,7 +103,7 @@ Adds old asked new before after = (pair : Pair Record Outcome) × (pair.asked �
 
 -- What serving has done so far, from a market and a place: these entries were kept and written.
 pub record SoFar (start now : DiskState) (before market : Market) (from place : ℕ) (held holds : Option (List ℕ)) (new : List (Pair Record Outcome)) : Type 0 where
-  pub written : Grows held holds (flat_map pair_spelling new)
+  pub written : Grows held holds (flat_map pair_encoding new)
   pub kept : (begin : Start) (old : List (Pair Record Outcome)) → IsKeptJournal begin old before → Keeps (head_of begin) (map records_of old) from start → HasKept begin start now old before place (asked_of new) new market
   pub told : IsSome now.content → IsSome start.content
 
@@ -154,6 +154,6 @@ pub record ServesOn (window : WindowState) (rest left : Option (List ℕ)) (resu
   pub goes : GoesFrom commands Adds (Names market new more) window rest left (as_going result) [] new tt tt
   pub runs : (begin : Start) (old : List (Pair Record Outcome)) → IsKeptJournal begin old before → Keeps (head_of begin) (map records_of old) from start → Runs begin start end old before (asked_of (new ++ more)) (new ++ more) acknowledged
   pub written : StandIn (result ≡ Err Write) held holds (take acknowledged (new ++ more))
-  pub whole : (text : List ℕ) × Grows held holds (flat_map pair_spelling new ++ text)
+  pub whole : (text : List ℕ) × Grows held holds (flat_map pair_encoding new ++ text)
   pub ended : IfEnded result ((more ≡ []) × (acknowledged ≡ length new)
       × ((begin : Start) (old : List (Pair Record Outcome)) → IsKeptJournal begin old before → Keeps (head_of begin) (map records_of old) from start → (place : ℕ) × Keeps (head_of begin) (map records_of (old ++ new)) place end))

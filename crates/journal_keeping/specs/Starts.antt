@@ -28,7 +28,7 @@ source_start (Kept market) = checkpoint_bytes market ++ command_magic_of market.
 -- the sources of a new disk: a command file, or a checkpoint and a command file of its version
 abbrev pub sources : Format Start Record
 sources = record {
-  magics = record { IsLawful = CanStart; spell = source_start };
+  magics = record { IsLawful = CanStart; encode = source_start };
   units = commands.units;
   IsOverlong = commands.IsOverlong;
 }
@@ -46,4 +46,4 @@ pub record HasFirst (market : Market) (bytes : List ℕ) : Type 0 where
   pub is_one : IsCheckpoint market (checkpoint_bytes market)
   pub lawful : IsHead (head_of (Kept market))
   pub rest : List ℕ
-  pub spelled : bytes ≡ entries (head_of (Kept market)) [] ++ rest
+  pub encoded : bytes ≡ entries (head_of (Kept market)) [] ++ rest

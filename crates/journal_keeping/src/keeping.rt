@@ -10,7 +10,7 @@ ghost use Rattle.market_history.specs.Histories.{Start};
 ghost use Rattle.journal_disk.specs.Looking.{OnlyLooks};
 ghost use Rattle.journal_keeping.specs.Keeping.{HoldsLegal, KeepsIn};
 ghost use Rattle.journal_keeping.specs.Openings.{KeepNone};
-ghost use Rattle.journal_keeping.specs.Making.{IsMadeBehindStart};
+ghost use Rattle.journal_keeping.specs.Making.{IsMadeAfterStart};
 ghost use Rattle.journal_keeping.specs.Lengths.{GrowsAtMost};
 ghost use Rattle.journal_keeping.specs.Pacing.{KeepsPace, RunsOut};
 ghost use Rattle.journal_keeping.specs.Ended.{ComesTo, IsRefusal, MayBeginAgain};
@@ -65,7 +65,7 @@ pub fn keep<S: Source, D: Disk, K: Sink>(
     ensures untouched { IfSome (D.state disk.old).content
         (λ held. KeepNone held → OnlyLooks (D.state disk.old) (D.state disk.new) × (source.new ≡ source.old) × (out.new ≡ out.old)) }
     ensures made { IfSome (D.state disk.old).content
-        (λ held. IsMadeBehindStart limit held (D.state disk.old) (D.state disk.new) (S.rest source.old) (S.rest source.new)) }
+        (λ held. IsMadeAfterStart limit held (D.state disk.old) (D.state disk.new) (S.rest source.old) (S.rest source.new)) }
     ensures taken { TakesAtMost (S.rest source.old) (S.rest source.new) (limit + 1) }
     ensures paced { KeepsPace limit (S.rest source.old) (S.rest source.new) (K.held out.old) (K.held out.new) result }
     ensures allocates { result ≡ Err KeepFault.Memory → IfSome (D.state disk.old).content
@@ -76,7 +76,7 @@ pub fn keep<S: Source, D: Disk, K: Sink>(
     ensures out_cause { Blames (result ≡ Err KeepFault.Write) (K.faults out.old) (K.faults out.new) }
 {
     match begin(alloc, limit, source, disk) {
-        Ok(mut begun) => serve_on(&mut begun.window, source, &mut begun.keeper, disk, out),
+        Ok(mut begun) => serve_on(&mut begun.window, source, &mut begun.writer, disk, out),
         Err(fault) => Err(fault),
     }
 }

@@ -18,14 +18,14 @@ ghost use Rattle.journal_keeping.specs.Starts.{version_of, head_of};
 ghost use Rattle.journal_keeping.specs.Keeping.{HoldsLegal};
 ghost use Rattle.journal_keeping.specs.Openings.{KeepNone};
 ghost use Rattle.journal_keeping.specs.Lengths.{GrowsAtMost};
-ghost use Rattle.journal_keeping.specs.Making.{HasTakenStart, IsMadeBehindStart};
-ghost use Rattle.journal_keeping.specs.Beginning.{IsOpened, IsKeptOn, IsStored, OpensNot, IsOfDisk, NotBegun, Unread, Asked, WhileOpening, OpensSafely, HasBegun};
+ghost use Rattle.journal_keeping.specs.Making.{HasTakenStart, IsMadeAfterStart};
+ghost use Rattle.journal_keeping.specs.Beginning.{IsOpened, IsKeptOn, IsStored, OpensNot, IsOfDisk, IsCounted, NotBegun, Unread, Asked, WhileOpening, OpensSafely, HasBegun};
 
 use crate::disk_start::first_market;
 use crate::fault::KeepFault;
 use crate::reading::audit_kept;
 use crate::source_start::{OpenStart, open_source, open_start};
-use crate::taking::Keeper;
+use crate::taking::Writer;
 use batch_audit::Audit;
 use disk_edge::Disk;
 use exchange_session::Session;
@@ -35,26 +35,35 @@ use journal_records::MOST_PLAIN_PAIR;
 use std::alloc::Global;
 use wire_records::Version;
 
+// The entries that a disk keeps, read up: the market after them, and how many there are.
+#[derive(Drop)]
+struct ReadUp {
+    audit: Audit,
+    entries: u64,
+}
+
 // A disk and a source that are opened.
 #[derive(Drop)]
 pub(crate) struct Begun {
     pub(crate) window: Window,
-    pub(crate) keeper: Keeper,
+    pub(crate) writer: Writer,
 }
 
-// Reads a disk of a version: how it begins, and its entries, which are audited. Returns the market after them.
+// Reads a disk of a version: how it begins, and its entries, which are audited. Returns the market after them, and how many there are.
 fn read_up<D: Disk>(
     alloc: Global,
     disk: &mut D,
     journal: &mut DiskJournal,
     version: Version,
-) -> Result<Audit, KeepFault>
+) -> Result<ReadUp, KeepFault>
     requires found { IfSome (D.state disk.old).content (λ held. IsFound (Some version) held (D.state disk.old)) }
     requires first { journal.old ≡ 8 }
-    ensures read { IfOk result (λ audit. IfSome (D.state disk.old).content (λ held. IsOpened version held audit journal.new (D.state disk.new))) }
+    ensures read { IfOk result (λ read. IfSome (D.state disk.old).content (λ held. IsOpened version held read.audit journal.new (D.state disk.new))) }
+    ensures counted { IfOk result (λ read. IfSome (D.state disk.old).content (IsCounted read.entries)) }
     ensures refused { IfErr result (λ fault. IfSome (D.state disk.old).content (λ held. OpensNot held (D.state disk.new) fault)) }
     ensures of_disk { IfErr result IsOfDisk }
-    ensures near { IfOk result (λ audit. audit.next_order ≤ journal.new + 2 ^ 63) }
+    ensures near { IfOk result (λ read. read.audit.next_order ≤ journal.new + 2 ^ 63) }
+    ensures few { IfOk result (λ read. read.entries ≤ journal.new) }
     ensures looks { OnlyLooks (D.state disk.old) (D.state disk.new) }
     ensures cause { Blames (result ≡ Err KeepFault.Disk) (D.state disk.old).faults (D.state disk.new).faults }
 {
@@ -68,22 +77,24 @@ fn read_up<D: Disk>(
     };
     let mut audit = Audit::over(market);
     match audit_kept(journal, disk, &mut ahead, &mut audit) {
-        Ok(()) => Ok(audit),
+        Ok(entries) => Ok(ReadUp { audit, entries }),
         Err(fault) => Err(fault),
     }
 }
 
-// Opens a disk of a version, audits the entries that it keeps, and gets it ready to keep more. `pair` is the buffer for entries.
-fn open_kept<D: Disk>(
+/// Opens a disk of a version, as [`recover`](journal_disk::recover) finds it: audits the entries that it keeps, and gets it ready to keep more.
+/// `pair` is the buffer for entries, with room for one with a plain reply. The errors are those of [`audit_kept`]. Costs the audit of the
+/// entries, and memory for the longest of them.
+pub fn open_kept<D: Disk>(
     alloc: Global,
     disk: &mut D,
     version: Version,
     pair: Vec<u8>,
-) -> Result<Keeper, KeepFault>
+) -> Result<Writer, KeepFault>
     requires found { IfSome (D.state disk.old).content (λ held. IsFound (Some version) held (D.state disk.old)) }
     requires room { longest_plain_pair ≤ vec_capacity pair }
-    ensures begun { IfOk result (λ keeper. IfSome (D.state disk.old).content
-        (λ held. IsKeptOn version held keeper.session keeper.appender (D.state disk.new))) }
+    ensures begun { IfOk result (λ writer. IfSome (D.state disk.old).content
+        (λ held. IsKeptOn version held writer.session writer.appender (D.state disk.new))) }
     ensures refused { IfErr result (λ fault. IfSome (D.state disk.old).content (λ held. OpensNot held (D.state disk.new) fault)) }
     ensures of_disk { IfErr result IsOfDisk }
     ensures untouched { IfSome (D.state disk.old).content (λ held. KeepNone held → OnlyLooks (D.state disk.old) (D.state disk.new)) }
@@ -91,16 +102,19 @@ fn open_kept<D: Disk>(
         AtEachMoment (D.state disk.old) (D.state disk.new) (WhileOpening was (D.state disk.old) old) }
     ensures lengths { ReachesAtMost 9 (D.state disk.old) (D.state disk.new) }
     ensures told { OnOk result (IsSome (D.state disk.new).content → IsSome (D.state disk.old).content) }
-    ensures room { IfOk result (λ keeper. longest_plain_pair ≤ vec_capacity keeper.pair) }
-    ensures near { IfOk result (λ keeper. (keeper.session.next_order ≤ keeper.appender + 2 ^ 63) × (keeper.appender ≤ 2 ^ 60)) }
+    ensures room { IfOk result (λ writer. longest_plain_pair ≤ vec_capacity writer.pair) }
+    ensures near { IfOk result (λ writer. (writer.session.next_order ≤ writer.appender + 2 ^ 63) × (writer.appender ≤ 2 ^ 60)) }
+    ensures counted { IfOk result (λ writer. IfSome (D.state disk.old).content (IsCounted writer.entries)) }
+    ensures few { IfOk result (λ writer. writer.entries ≤ writer.appender) }
     ensures cause { Blames (result ≡ Err KeepFault.Disk) (D.state disk.old).faults (D.state disk.new).faults }
 {
-    let mut journal = DiskJournal::behind_magic();
+    let mut journal = DiskJournal::after_magic();
     match read_up(alloc, disk, &mut journal, version) {
-        Ok(audit) => match journal.begin(alloc, disk) {
-            Ok(appender) => Ok(Keeper {
-                session: Session::over(audit.into_market()),
+        Ok(read) => match journal.begin(alloc, disk) {
+            Ok(appender) => Ok(Writer {
+                session: Session::over(read.audit.into_market()),
                 appender,
+                entries: read.entries,
                 pair,
             }),
             Err(fault) => Err(KeepFault::from(fault)),
@@ -109,8 +123,9 @@ fn open_kept<D: Disk>(
     }
 }
 
-// Makes a new disk one that begins so: with the magic of a version, and with this first entry as it is stored, if it has bytes.
-fn make_disk<D: Disk>(
+/// Makes a new disk one that begins so: with the magic of a version, and with this first entry as it is stored, if it has bytes. The only error
+/// is `Disk`, and only if the disk's count rose.
+pub fn make_disk<D: Disk>(
     appender: &mut Appender,
     disk: &mut D,
     version: Version,
@@ -153,8 +168,8 @@ fn begin_kept<S: Source, D: Disk>(
 ) -> Result<Begun, KeepFault>
     requires found { IfSome (D.state disk.old).content (λ held. IsFound (Some version) held (D.state disk.old)) }
     ensures begun { IfOk result (λ b. HasBegun limit (D.state disk.old) (D.state disk.new) b.window (S.rest source.old) (S.rest source.new)
-        b.keeper.session b.keeper.appender) }
-    ensures ready { IfOk result (λ b. (b.keeper.session.next_order ≤ b.keeper.appender + 2 ^ 63) × (b.keeper.appender ≤ 2 ^ 60) × (longest_plain_pair ≤ vec_capacity b.keeper.pair)) }
+        b.writer.session b.writer.appender) }
+    ensures ready { IfOk result (λ b. (b.writer.session.next_order ≤ b.writer.appender + 2 ^ 63) × (b.writer.appender ≤ 2 ^ 60) × (longest_plain_pair ≤ vec_capacity b.writer.pair)) }
     ensures refused { IfErr result (λ fault. IfSome (D.state disk.old).content (λ held. NotBegun limit held (S.rest source.old) (S.rest source.new) (D.state disk.new) fault)) }
     ensures unread { IfErr result (Unread limit (S.rest source.old) (S.rest source.new)) }
     ensures taken { IsErr result → TakesAtMost (S.rest source.old) (S.rest source.new) (limit + 1) }
@@ -172,12 +187,12 @@ fn begin_kept<S: Source, D: Disk>(
         Ok(pair) => pair,
         Err(_) => return Err(KeepFault::Memory),
     };
-    let keeper = match open_kept(alloc, disk, version, pair) {
-        Ok(keeper) => keeper,
+    let writer = match open_kept(alloc, disk, version, pair) {
+        Ok(writer) => writer,
         Err(fault) => return Err(fault),
     };
     match open_source(alloc, limit, source, version) {
-        Ok(window) => Ok(Begun { window, keeper }),
+        Ok(window) => Ok(Begun { window, writer }),
         Err(fault) => Err(fault),
     }
 }
@@ -192,8 +207,8 @@ fn begin_new<S: Source, D: Disk>(
     requires few { limit ≤ 2 ^ 32 }
     requires found { IfSome (D.state disk.old).content (λ held. IsFound None held (D.state disk.old)) }
     ensures begun { IfOk result (λ b. HasBegun limit (D.state disk.old) (D.state disk.new) b.window (S.rest source.old) (S.rest source.new)
-        b.keeper.session b.keeper.appender) }
-    ensures ready { IfOk result (λ b. (b.keeper.session.next_order ≤ b.keeper.appender + 2 ^ 63) × (b.keeper.appender ≤ 2 ^ 60) × (longest_plain_pair ≤ vec_capacity b.keeper.pair)) }
+        b.writer.session b.writer.appender) }
+    ensures ready { IfOk result (λ b. (b.writer.session.next_order ≤ b.writer.appender + 2 ^ 63) × (b.writer.appender ≤ 2 ^ 60) × (longest_plain_pair ≤ vec_capacity b.writer.pair)) }
     ensures refused { IfErr result (λ fault. IfSome (D.state disk.old).content (λ held. NotBegun limit held (S.rest source.old) (S.rest source.new) (D.state disk.new) fault)) }
     ensures unread { IfErr result (Unread limit (S.rest source.old) (S.rest source.new)) }
     ensures taken { IsErr result → TakesAtMost (S.rest source.old) (S.rest source.new) (limit + 1) }
@@ -228,9 +243,10 @@ fn begin_new<S: Source, D: Disk>(
     match make_disk(&mut appender, disk, market.version(), &stored) {
         Ok(()) => Ok(Begun {
             window,
-            keeper: Keeper {
+            writer: Writer {
                 session: Session::over(market),
                 appender,
+                entries: 0,
                 pair,
             },
         }),
@@ -248,8 +264,8 @@ pub(crate) fn begin<S: Source, D: Disk>(
 ) -> Result<Begun, KeepFault>
     requires few { limit ≤ 2 ^ 32 }
     ensures begun { IfOk result (λ b. HasBegun limit (D.state disk.old) (D.state disk.new) b.window (S.rest source.old) (S.rest source.new)
-        b.keeper.session b.keeper.appender) }
-    ensures ready { IfOk result (λ b. (b.keeper.session.next_order ≤ b.keeper.appender + 2 ^ 63) × (b.keeper.appender ≤ 2 ^ 60) × (longest_plain_pair ≤ vec_capacity b.keeper.pair)) }
+        b.writer.session b.writer.appender) }
+    ensures ready { IfOk result (λ b. (b.writer.session.next_order ≤ b.writer.appender + 2 ^ 63) × (b.writer.appender ≤ 2 ^ 60) × (longest_plain_pair ≤ vec_capacity b.writer.pair)) }
     ensures refused { IfErr result (λ fault. IfSome (D.state disk.old).content (λ held. NotBegun limit held (S.rest source.old) (S.rest source.new) (D.state disk.new) fault)) }
     ensures unread { IfErr result (Unread limit (S.rest source.old) (S.rest source.new)) }
     ensures taken { IsErr result → TakesAtMost (S.rest source.old) (S.rest source.new) (limit + 1) }
@@ -261,7 +277,7 @@ pub(crate) fn begin<S: Source, D: Disk>(
     ensures lengths { IsErr result → GrowsAtMost limit (S.rest source.old) (D.state disk.old) (D.state disk.new) }
     ensures told { OnOk result (IsSome (D.state disk.new).content → IsSome (D.state disk.old).content) }
     ensures made { IfErr result (λ _. IfSome (D.state disk.old).content
-        (λ held. IsMadeBehindStart limit held (D.state disk.old) (D.state disk.new) (S.rest source.old) (S.rest source.new))) }
+        (λ held. IsMadeAfterStart limit held (D.state disk.old) (D.state disk.new) (S.rest source.old) (S.rest source.new))) }
     ensures disk_cause { Blames (result ≡ Err KeepFault.Disk) (D.state disk.old).faults (D.state disk.new).faults }
     ensures source_cause { Blames (result ≡ Err KeepFault.Read) (S.faults source.old) (S.faults source.new) }
 {

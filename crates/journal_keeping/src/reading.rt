@@ -1,5 +1,5 @@
 //! Reads the entries that a disk keeps, and audits one after the other.
-ghost use Rattle.std.specs.Prelude.{◌≡◌, ◌≤◌, ◌<◌, ◌+◌, ◌^◌, ◌⊎◌, ℕ, List, [], map, Some, Err, IfSome, IfOk, IfErr, OnOk};
+ghost use Rattle.std.specs.Prelude.{◌≡◌, ◌≤◌, ◌<◌, ◌+◌, ◌^◌, ◌⊎◌, ℕ, List, [], length, map, Some, Err, IfSome, IfOk, IfErr, OnOk};
 ghost use Rattle.flow_io.specs.Faults.{Blames};
 ghost use Rattle.wire_records.specs.Records.{Record};
 ghost use Rattle.wire_records.specs.Commands.{Pair};
@@ -36,8 +36,8 @@ fn judge(audit: &mut Audit, pair: &PairView<'_>, number: u64) -> Result<(), Keep
     }
 }
 
-/// Reads the entries that a disk keeps and audits one after the other, up to the first commit byte that isn't set. At `Ok` all of them
-/// are a valid journal, whose market the audit has. The audit has to be at the market in which the disk begins, and the journal after
+/// Reads the entries that a disk keeps and audits one after the other, up to the first commit byte that isn't set, and returns how many
+/// there are. At `Ok` all of them are a valid journal, whose market the audit has. The audit has to be at the market in which the disk begins, and the journal after
 /// its magic, or after its first entry if that holds a checkpoint.
 ///
 /// `Damaged` has the place of the first commit byte that is missing, or is set without a complete entry after it; `Rejected` has the
@@ -49,23 +49,24 @@ pub fn audit_kept<D: Disk>(
     disk: &mut D,
     ahead: &mut Ahead,
     audit: &mut Audit,
-) -> Result<(), KeepFault>
+) -> Result<u64, KeepFault>
     requires next { audit.old.next_order ≤ journal.old + 2 ^ 63 }
     requires piece { IfSome (D.state disk.old).content (IsPiece ahead.old) }
-    ensures ends { IfOk result (λ _. (begin : Start) (rest : List ℕ) → CanStart begin → audit.old ≡ market_of begin →
+    ensures ends { IfOk result (λ count. (begin : Start) (rest : List ℕ) → CanStart begin → audit.old ≡ market_of begin →
         Holds (head_of begin) [] journal.old rest (D.state disk.old) →
-        (legal : List (Pair Record Outcome)) × IsKeptJournal begin legal audit.new × EndsAt (head_of begin) (map records_of legal) journal.new (D.state disk.new)) }
+        (legal : List (Pair Record Outcome)) × (count ≡ length legal) × IsKeptJournal begin legal audit.new × EndsAt (head_of begin) (map records_of legal) journal.new (D.state disk.new)) }
     ensures stops { IfErr result (λ fault. (begin : Start) (rest bytes : List ℕ) → CanStart begin → audit.old ≡ market_of begin →
         Holds (head_of begin) [] journal.old rest (D.state disk.old) → (D.state disk.old).content ≡ Some bytes → StopsAs begin fault bytes) }
     ensures of_disk { IfErr result IsOfDisk }
     ensures next { OnOk result (audit.new.next_order ≤ journal.new + 2 ^ 63) }
+    ensures few { IfOk result (λ count. count ≤ journal.new) }
     ensures looks { OnlyLooks (D.state disk.old) (D.state disk.new) }
     ensures cause { Blames (result ≡ Err KeepFault.Disk) (D.state disk.old).faults (D.state disk.new).faults }
 {
     let mut number: u64 = 0;
     'pairs: loop {
         match journal.find(disk, ahead) {
-            Ok(None) => return Ok(()),
+            Ok(None) => return Ok(number),
             Ok(Some(count)) => match journal.take(ahead, count) {
                 Ok(pair) => {
                     number = number.saturating_add(1);

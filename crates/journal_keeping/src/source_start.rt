@@ -10,7 +10,7 @@ ghost use Rattle.market_rules.specs.Market.{Market as market_value};
 ghost use Rattle.market_snapshot.specs.Checkpoints.{IsCheckpoint, checkpoint_bytes};
 ghost use Rattle.market_history.specs.Histories.{Empty};
 ghost use Rattle.journal_disk.specs.Entries.{framed};
-ghost use Rattle.journal_keeping.specs.Beginning.{IsBehindStart, OpensStart, IsOfSource};
+ghost use Rattle.journal_keeping.specs.Beginning.{IsAfterStart, OpensStart, IsOfSource};
 
 use crate::fault::KeepFault;
 use crate::version::is_same;
@@ -35,10 +35,10 @@ pub(crate) struct OpenStart {
 }
 
 // Moves a window past the magic that it holds, if that is the magic of this version.
-fn behind_magic(window: Window, version: Version) -> Result<Window, KeepFault>
+fn after_magic(window: Window, version: Version) -> Result<Window, KeepFault>
     requires some { 8 ≤ length window.held }
-    ensures behind { IfOk result (λ behind. ((body : List ℕ) × BeginsWith commands.magics window.held version body)
-        × (behind ≡ record window { held = drop 8 window.held; place = window.place + 8 }) × (length window.held ≤ window.room)) }
+    ensures following { IfOk result (λ following. ((body : List ℕ) × BeginsWith commands.magics window.held version body)
+        × (following ≡ record window { held = drop 8 window.held; place = window.place + 8 }) × (length window.held ≤ window.room)) }
     ensures other { IfErr result (λ fault. (fault ≡ KeepFault.NotFlow) × ((body : List ℕ) → ¬ BeginsWith commands.magics window.held version body)) }
 {
     let mut window = window;
@@ -60,7 +60,7 @@ pub(crate) fn open_source<S: Source>(
     source: &mut S,
     version: Version,
 ) -> Result<Window, KeepFault>
-    ensures behind { IfOk result (λ window. IsBehindStart limit (Empty version) window (S.rest source.old) (S.rest source.new)) }
+    ensures following { IfOk result (λ window. IsAfterStart limit (Empty version) window (S.rest source.old) (S.rest source.new)) }
     ensures of_source { IfErr result (IsOfSource (Some version) limit (S.rest source.old) (S.rest source.new)) }
     ensures taken { IsErr result → TakesAtMost (S.rest source.old) (S.rest source.new) (limit + 1) }
     ensures cause { Blames (result ≡ Err KeepFault.Read) (S.faults source.old) (S.faults source.new) }
@@ -70,15 +70,15 @@ pub(crate) fn open_source<S: Source>(
         Err(_) => return Err(KeepFault::Memory),
     };
     match window.fill(source, MAGIC) {
-        Ok(Filled::Enough) => behind_magic(window, version),
+        Ok(Filled::Enough) => after_magic(window, version),
         Ok(Filled::Ended) => Err(KeepFault::NotFlow),
         Ok(Filled::Limited) => Err(KeepFault::NotFlow),
         Err(_) => Err(KeepFault::Read),
     }
 }
 
-// Puts the checkpoint of a market together as a first entry.
-fn stored_checkpoint(alloc: Global, market: &mut Market) -> Result<Vec<u8>, KeepFault>
+/// Puts the checkpoint of a market together as a first entry, as it is stored on a disk. The only error is `Memory`.
+pub fn stored_checkpoint(alloc: Global, market: &mut Market) -> Result<Vec<u8>, KeepFault>
     requires { length (checkpoint_bytes market.old) < 2 ^ 32 }
     ensures stored { IfOk result (λ stored. stored.items ≡ framed (checkpoint_bytes market.old) ++ 0 ∷ []) }
     ensures market { market.new ≡ market.old }
@@ -96,7 +96,7 @@ fn stored_checkpoint(alloc: Global, market: &mut Market) -> Result<Vec<u8>, Keep
 }
 
 // Moves a window, which is after the checkpoint of this market, past the magic of a command file of its version.
-fn behind_checkpoint<S: Source>(
+fn after_checkpoint<S: Source>(
     alloc: Global,
     window: Window,
     source: &mut S,
@@ -124,7 +124,7 @@ fn behind_checkpoint<S: Source>(
         Err(_) => return Err(KeepFault::Read),
     }
     let mut market = market;
-    match behind_magic(window, market.version()) {
+    match after_magic(window, market.version()) {
         Ok(window) => match stored_checkpoint(alloc, &mut market) {
             Ok(stored) => Ok(OpenStart {
                 window,
@@ -172,7 +172,7 @@ fn start_at<S: Source>(
         return Err(KeepFault::NotFlow);
     }
     match kept_market(alloc, &mut window, source) {
-        Ok(market) => behind_checkpoint(alloc, window, source, market),
+        Ok(market) => after_checkpoint(alloc, window, source, market),
         Err(StartFault::Read) => Err(KeepFault::Read),
         Err(StartFault::Memory) => Err(KeepFault::Memory),
         Err(StartFault::NotFlow) => Err(KeepFault::NotFlow),

@@ -32,12 +32,17 @@ use file_units::Front;
 use flow_io::{Filled, ReadFailed, Sink, Source, Window};
 use journal_disk::Appender;
 
-// Serves records with its session, and keeps their entries with its appender. One buffer is used for all entries.
+/// Serves records with its session, and keeps their entries with its appender.
 #[derive(Drop)]
-pub(crate) struct Keeper {
-    pub(crate) session: Session,
-    pub(crate) appender: Appender,
-    pub(crate) pair: Vec<u8>,
+pub struct Writer {
+    /// The market after the entries that are kept.
+    pub session: Session,
+    /// Keeps more entries on the disk.
+    pub appender: Appender,
+    /// How many entries the disk kept when it was opened.
+    pub entries: u64,
+    /// One buffer for all entries.
+    pub pair: Vec<u8>,
 }
 
 // Keeps an entry on the disk, and then writes it to `out`.
@@ -78,34 +83,34 @@ fn put_pair<D: Disk, K: Sink>(
 
 // Serves the first record of the bytes, if it is complete, keeps its entry, and then writes it.
 fn keep_next<D: Disk, K: Sink>(
-    keeper: &mut Keeper,
+    writer: &mut Writer,
     bytes: &[u8],
     disk: &mut D,
     out: &mut K,
 ) -> Result<Front, KeepFault>
-    requires ready { (left : ℕ) × (length bytes.now ≤ left) × IsReady keeper.old.session keeper.old.appender left }
-    requires room { longest_plain_pair ≤ vec_capacity keeper.old.pair }
+    requires ready { (left : ℕ) × (length bytes.now ≤ left) × IsReady writer.old.session writer.old.appender left }
+    requires room { longest_plain_pair ≤ vec_capacity writer.old.pair }
     requires kept { IfSome (D.state disk.old).content
-        (λ _. (head : Head) × (pairs : List RecordPair) × Keeps head pairs keeper.old.appender (D.state disk.old)) }
-    ensures taken { IfOk result (λ front. IsTakenNext front bytes.now keeper.old.session keeper.new.session
-        keeper.old.appender keeper.new.appender (D.state disk.old) (D.state disk.new) (K.held out.old) (K.held out.new)) }
-    ensures room { vec_capacity keeper.old.pair ≤ vec_capacity keeper.new.pair }
-    ensures still { IfOk result (λ front. IsStill front ((keeper.new.session ≡ keeper.old.session)
-        × (keeper.new.appender ≡ keeper.old.appender) × (disk.new ≡ disk.old) × (out.new ≡ out.old))) }
-    ensures stays { IfOk result (λ front. (left : ℕ) → length bytes.now ≤ left → IsReady keeper.old.session keeper.old.appender left →
-        StaysReady (IsReady keeper.new.session keeper.new.appender) front left) }
-    ensures places { IfOk result (λ front. (left most : ℕ) → length bytes.now ≤ left → keeper.old.appender + 263183 * left ≤ most →
-        StaysReady (λ yet. keeper.new.appender + 263183 * yet ≤ most) front left) }
+        (λ _. (head : Head) × (pairs : List RecordPair) × Keeps head pairs writer.old.appender (D.state disk.old)) }
+    ensures taken { IfOk result (λ prefix. IsTakenNext prefix bytes.now writer.old.session writer.new.session
+        writer.old.appender writer.new.appender (D.state disk.old) (D.state disk.new) (K.held out.old) (K.held out.new)) }
+    ensures room { vec_capacity writer.old.pair ≤ vec_capacity writer.new.pair }
+    ensures still { IfOk result (λ prefix. IsStill prefix ((writer.new.session ≡ writer.old.session)
+        × (writer.new.appender ≡ writer.old.appender) × (disk.new ≡ disk.old) × (out.new ≡ out.old))) }
+    ensures stays { IfOk result (λ prefix. (left : ℕ) → length bytes.now ≤ left → IsReady writer.old.session writer.old.appender left →
+        StaysReady (IsReady writer.new.session writer.new.appender) prefix left) }
+    ensures places { IfOk result (λ prefix. (left most : ℕ) → length bytes.now ≤ left → writer.old.appender + 263183 * left ≤ most →
+        StaysReady (λ yet. writer.new.appender + 263183 * yet ≤ most) prefix left) }
     ensures lengths { (left : ℕ) → length bytes.now ≤ left →
-        ReachesAtMost (keeper.old.appender + 263183 * left + 1) (D.state disk.old) (D.state disk.new) }
-    ensures broken { IfErr result (BreaksNext bytes.now keeper.old.session keeper.old.appender keeper.new.appender
+        ReachesAtMost (writer.old.appender + 263183 * left + 1) (D.state disk.old) (D.state disk.new) }
+    ensures broken { IfErr result (BreaksNext bytes.now writer.old.session writer.old.appender writer.new.appender
         (D.state disk.old) (D.state disk.new) (K.held out.old) (K.held out.new) (disk.new ≡ disk.old) (out.new ≡ out.old)) }
     ensures disk_cause { Blames (result ≡ Err KeepFault.Disk) (D.state disk.old).faults (D.state disk.new).faults }
     ensures out_cause { Blames (result ≡ Err KeepFault.Write) (K.faults out.old) (K.faults out.new) }
 {
-    keeper.pair.clear();
-    match keeper.session.serve_next(bytes, &mut keeper.pair) {
-        Ok(Front::Taken(taken)) => match put_pair(&mut keeper.appender, &keeper.pair, disk, out) {
+    writer.pair.clear();
+    match writer.session.serve_next(bytes, &mut writer.pair) {
+        Ok(Front::Taken(taken)) => match put_pair(&mut writer.appender, &writer.pair, disk, out) {
             Ok(()) => Ok(Front::Taken(taken)),
             Err(fault) => Err(fault),
         },
@@ -146,30 +151,30 @@ fn read_on<S: Source>(window: &mut Window, source: &mut S) -> Result<Filled, Rea
 pub(crate) fn serve_on<S: Source, D: Disk, K: Sink>(
     window: &mut Window,
     source: &mut S,
-    keeper: &mut Keeper,
+    writer: &mut Writer,
     disk: &mut D,
     out: &mut K,
 ) -> Result<(), KeepFault>
     requires longest { HasLongest commands window.old.room }
     requires open { window.old.over ≡ None }
-    requires ready { IsReady keeper.old.session keeper.old.appender (window.old.limit - window.old.place) }
-    requires room { longest_plain_pair ≤ vec_capacity keeper.old.pair }
+    requires ready { IsReady writer.old.session writer.old.appender (window.old.limit - window.old.place) }
+    requires room { longest_plain_pair ≤ vec_capacity writer.old.pair }
     requires kept { IfSome (D.state disk.old).content (λ _. (begin : Start) × (old : List (Pair Record Outcome))
-        × IsKeptJournal begin old keeper.old.session × Keeps (head_of begin) (map records_of old) keeper.old.appender (D.state disk.old)) }
-    ensures goes { ServesOn window.old (S.rest source.old) (S.rest source.new) result keeper.old.session keeper.old.appender
+        × IsKeptJournal begin old writer.old.session × Keeps (head_of begin) (map records_of old) writer.old.appender (D.state disk.old)) }
+    ensures goes { ServesOn window.old (S.rest source.old) (S.rest source.new) result writer.old.session writer.old.appender
         (D.state disk.old) (D.state disk.new) (K.held out.old) (K.held out.new) }
     ensures lengths { (count : ℕ) → HasYetAtMost count window.old (S.rest source.old) →
-        ReachesAtMost (keeper.old.appender + 263183 * count + 1) (D.state disk.old) (D.state disk.new) }
+        ReachesAtMost (writer.old.appender + 263183 * count + 1) (D.state disk.old) (D.state disk.new) }
     ensures disk_cause { Blames (result ≡ Err KeepFault.Disk) (D.state disk.old).faults (D.state disk.new).faults }
     ensures source_cause { Blames (result ≡ Err KeepFault.Read) (S.faults source.old) (S.faults source.new) }
     ensures out_cause { Blames (result ≡ Err KeepFault.Write) (K.faults out.old) (K.faults out.new) }
 {
     'units: loop {
-        let front = match keep_next(keeper, bytes_of(window.held()), disk, out) {
-            Ok(front) => front,
+        let prefix = match keep_next(writer, bytes_of(window.held()), disk, out) {
+            Ok(prefix) => prefix,
             Err(fault) => return Err(fault),
         };
-        match front {
+        match prefix {
             Front::Taken(taken) => window.advance(taken),
             Front::Overlong => return Err(KeepFault::Torn(window.place())),
             Front::Short => match read_on(window, source) {

@@ -3,10 +3,10 @@ use Rattle.std.proofs.Common.{◌≡◌, ◌+◌, ◌*◌, ℕ, ℤ, List, [], �
 use Rattle.std.specs.List.{flat_map}
 use Rattle.std.proofs.lemmas.List.{append-nil}
 use Rattle.wire_fields.specs.Numbers.{unsigned, signed, IsUnsigned, IsSigned}
-use Rattle.wire_fields.proofs.Spelling.{length-unsigned, length-signed, unsigned_unique, signed_unique}
+use Rattle.wire_fields.proofs.Encoding.{length-unsigned, length-signed, unsigned_unique, signed_unique}
 use Rattle.wire_records.proofs.CodeLaws.{counted_unique, counted_size}
 use Rattle.flow_orders.specs.Outcomes.{Fill, Clearing, Skipping}
-use Rattle.journal_records.specs.Bodies.{fill_spelling, clearing_spelling, skipping_spelling, IsFill, IsClearing, IsSkipping}
+use Rattle.journal_records.specs.Bodies.{fill_encoding, clearing_encoding, skipping_encoding, IsFill, IsClearing, IsSkipping}
 
 -- a fill from its parts
 same_fill : (f g : Fill) → f.order ≡ g.order → f.rate ≡ g.rate → f ≡ g
@@ -15,8 +15,8 @@ same_fill f g a b =
     ap (λ order. made order f.rate) a ∙ ap (λ rate. made g.order rate) b
 
 -- bytes that begin with two fills begin with one
-pub fill_unique : (f g : Fill) (x y : List ℕ) → IsFill f → IsFill g → fill_spelling f ++ x ≡ fill_spelling g ++ y → (f ≡ g) × (x ≡ y)
-unfolding fill_spelling
+pub fill_unique : (f g : Fill) (x y : List ℕ) → IsFill f → IsFill g → fill_encoding f ++ x ≡ fill_encoding g ++ y → (f ≡ g) × (x ≡ y)
+unfolding fill_encoding
 fill_unique f g x y h k same =
     let regrouped = sym (append_assoc (unsigned 8 f.order) (unsigned 4 f.rate) x) ∙ same ∙ append_assoc (unsigned 8 g.order) (unsigned 4 g.rate) y in
     let orders = unsigned_unique 8 f.order g.order _ _ h.0 k.0 regrouped in
@@ -24,8 +24,8 @@ fill_unique f g x y h k same =
     (same_fill f g orders.0 rates.0, rates.1)
 
 -- twelve bytes a fill
-pub fill_size : (f : Fill) → length (fill_spelling f) ≡ 12
-unfolding fill_spelling
+pub fill_size : (f : Fill) → length (fill_encoding f) ≡ 12
+unfolding fill_encoding
 fill_size f = simp (length-append, length-unsigned)
 
 -- bytes that begin with as many numbers with a sign begin with the same ones
@@ -46,14 +46,14 @@ gap_unique a b h k e =
     found.0
 
 -- two clearings with one encoding are equal
-pub clearing_unique : (m n : ℕ) (c d : Clearing) → IsUnsigned 4 m → IsUnsigned 4 n → IsClearing c → IsClearing d → clearing_spelling m c ≡ clearing_spelling n d → (m ≡ n) × (c ≡ d)
-unfolding clearing_spelling
+pub clearing_unique : (m n : ℕ) (c d : Clearing) → IsUnsigned 4 m → IsUnsigned 4 n → IsClearing c → IsClearing d → clearing_encoding m c ≡ clearing_encoding n d → (m ≡ n) × (c ≡ d)
+unfolding clearing_encoding
 clearing_unique m n c d in_m in_n h k same =
     let numbers = unsigned_unique 4 m n _ _ in_m in_n same in
     let counts = unsigned_unique 2 (length c.prices) (length d.prices) _ _ h.count k.count numbers.1 in
     let prices = signs_unique c.prices d.prices _ _ h.prices k.prices counts.0 counts.1 in
     let fill_counts = unsigned_unique 4 (length c.fills) (length d.fills) _ _ h.fill_count k.fill_count prices.1 in
-    let fills = counted_unique IsFill fill_spelling fill_unique c.fills d.fills _ _ h.fills k.fills fill_counts.0 fill_counts.1 in
+    let fills = counted_unique IsFill fill_encoding fill_unique c.fills d.fills _ _ h.fills k.fills fill_counts.0 fill_counts.1 in
     let residuals = signs_unique c.residuals d.residuals _ _ h.residuals k.residuals (h.residual_each ∙ counts.0 ∙ sym k.residual_each) fills.1 in
     (numbers.0, same_clearing c d prices.0 fills.0 residuals.0 (gap_unique c.gap d.gap h.gap k.gap residuals.1))
 
@@ -64,8 +64,8 @@ same_skipping s t trace start_dual end_dual =
     ap (λ w. made w s.start_dual s.end_dual) trace ∙ ap (λ a. made t.trace a s.end_dual) start_dual ∙ ap (λ b. made t.trace t.start_dual b) end_dual
 
 -- two skips with one encoding are equal
-pub skipping_unique : (m n : ℕ) (s t : Skipping) → IsUnsigned 4 m → IsUnsigned 4 n → IsSkipping s → IsSkipping t → skipping_spelling m s ≡ skipping_spelling n t → (m ≡ n) × (s ≡ t)
-unfolding skipping_spelling
+pub skipping_unique : (m n : ℕ) (s t : Skipping) → IsUnsigned 4 m → IsUnsigned 4 n → IsSkipping s → IsSkipping t → skipping_encoding m s ≡ skipping_encoding n t → (m ≡ n) × (s ≡ t)
+unfolding skipping_encoding
 skipping_unique m n s t in_m in_n h k same =
     let numbers = unsigned_unique 4 m n _ _ in_m in_n same in
     let starts = signed_unique 16 s.start_dual t.start_dual _ _ (omega arith) h.start_dual k.start_dual numbers.1 in
@@ -74,15 +74,15 @@ skipping_unique m n s t in_m in_n h k same =
     (numbers.0, same_skipping s t steps.1 starts.0 ends.0)
 
 -- 26 bytes, eight for each price and imbalance, and twelve for each fill
-pub clearing_size : (number : ℕ) (c : Clearing) → length (clearing_spelling number c) ≡ 26 + 8 * length c.prices + 12 * length c.fills + 8 * length c.residuals
-unfolding clearing_spelling
+pub clearing_size : (number : ℕ) (c : Clearing) → length (clearing_encoding number c) ≡ 26 + 8 * length c.prices + 12 * length c.fills + 8 * length c.residuals
+unfolding clearing_encoding
 clearing_size number c =
     let prices = counted_size (signed 8) 8 (length-signed 8) c.prices in
-    let fills = counted_size fill_spelling 12 fill_size c.fills in
+    let fills = counted_size fill_encoding 12 fill_size c.fills in
     let residuals = counted_size (signed 8) 8 (length-signed 8) c.residuals in
     simp (length-append, length-unsigned, length-signed) (omega (arith, prices, fills, residuals))
 
 -- 40 bytes, and one for each move
-pub skipping_size : (number : ℕ) (s : Skipping) → length (skipping_spelling number s) ≡ 40 + length s.trace
-unfolding skipping_spelling
+pub skipping_size : (number : ℕ) (s : Skipping) → length (skipping_encoding number s) ≡ 40 + length s.trace
+unfolding skipping_encoding
 skipping_size number s = simp (length-append, length-unsigned, length-signed) (omega arith)

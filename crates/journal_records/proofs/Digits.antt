@@ -6,9 +6,9 @@ use Rattle.std.proofs.lemmas.Nat.{pow-add}
 use Rattle.std.proofs.lemmas.List.{take-append-drop, length-take-le}
 use Rattle.std.proofs.lemmas.List.Elements.{All-take, All-drop}
 use Rattle.wire_fields.specs.Numbers.{unsigned, signed, IsUnsigned, IsSigned}
-use Rattle.wire_fields.proofs.Spelling.{length-signed, signed_unique, unsigned_complete}
+use Rattle.wire_fields.proofs.Encoding.{length-signed, signed_unique, unsigned_complete}
 use Rattle.wire_records.specs.Records.{AreBytes}
-use Rattle.journal_records.specs.Bodies.{fill_spelling, IsFill}
+use Rattle.journal_records.specs.Bodies.{fill_encoding, IsFill}
 use Rattle.journal_records.specs.Private.{digits_on, sign_in, fill_in}
 use Rattle.journal_records.proofs.Batches.{fill_unique, fill_size}
 use Rattle.journal_records.proofs.Values.{IsFixed}
@@ -32,8 +32,8 @@ digits_back (suc size) n fits =
     one_digit_more 0 (unsigned size (n / 256)) (n % 256) ∙ ap (λ k. k * 256 + n % 256) high ∙ omega arith
 
 -- bytes are the encoding of the number of their digits, which fits
-digits_spelled : (size : ℕ) (bytes : List ℕ) → length bytes ≡ size → AreBytes bytes → IsUnsigned size (digits_on 0 bytes) × (unsigned size (digits_on 0 bytes) ≡ bytes)
-digits_spelled size bytes len small =
+digits_encoded : (size : ℕ) (bytes : List ℕ) → length bytes ≡ size → AreBytes bytes → IsUnsigned size (digits_on 0 bytes) × (unsigned size (digits_on 0 bytes) ≡ bytes)
+digits_encoded size bytes len small =
     let found = unsigned_complete size bytes len small in
     let same : digits_on 0 bytes ≡ found.0 = ap (digits_on 0) (sym found.2) ∙ digits_back size found.0 found.1 in
     (subst (IsUnsigned size) (sym same) found.1, ap (unsigned size) same ∙ found.2)
@@ -49,19 +49,19 @@ sign_fits : (n : ℕ) → n < 2 ^ 64 → IsSigned 8 (cast_signed w64 n)
 sign_fits n small = (omega (arith, ints), omega (arith, ints))
 
 -- eight bytes encode their number with a sign
-sign_spelled : (bytes : List ℕ) → length bytes ≡ 8 → AreBytes bytes → IsSigned 8 (sign_in bytes) × (signed 8 (sign_in bytes) ≡ bytes)
-sign_spelled bytes len small =
+sign_encoded : (bytes : List ℕ) → length bytes ≡ 8 → AreBytes bytes → IsSigned 8 (sign_in bytes) × (signed 8 (sign_in bytes) ≡ bytes)
+sign_encoded bytes len small =
     let n = digits_on 0 bytes in
-    let digits = digits_spelled 8 bytes len small in
+    let digits = digits_encoded 8 bytes len small in
     (sign_fits n digits.0, stored (cast_signed w64 n) ∙ ap (unsigned 8) (of_z-to_z w64 n digits.0) ∙ digits.1)
 
 -- twelve bytes encode their fill
-fill_spelled : (bytes : List ℕ) → length bytes ≡ 12 → AreBytes bytes → IsFill (fill_in bytes) × (fill_spelling (fill_in bytes) ≡ bytes)
-unfolding fill_spelling
-fill_spelled bytes len small =
-    let order = digits_spelled 8 (take 8 bytes) (length-take-le 8 bytes (omega (arith, len))) (All-take (λ b. b < 256) 8 bytes small) in
+fill_encoded : (bytes : List ℕ) → length bytes ≡ 12 → AreBytes bytes → IsFill (fill_in bytes) × (fill_encoding (fill_in bytes) ≡ bytes)
+unfolding fill_encoding
+fill_encoded bytes len small =
+    let order = digits_encoded 8 (take 8 bytes) (length-take-le 8 bytes (omega (arith, len))) (All-take (λ b. b < 256) 8 bytes small) in
     let left : length (drop 8 bytes) ≡ 4 = length-drop 8 bytes ∙ omega (arith, len) in
-    let rate = digits_spelled 4 (drop 8 bytes) left (All-drop (λ b. b < 256) 8 bytes small) in
+    let rate = digits_encoded 4 (drop 8 bytes) left (All-drop (λ b. b < 256) 8 bytes small) in
     ((order.0, rate.0), ap (λ xs. xs ++ unsigned 4 (digits_on 0 (drop 8 bytes))) order.1 ∙ ap (λ xs. take 8 bytes ++ xs) rate.1 ∙ take-append-drop 8 bytes)
 
 -- numbers with a sign, of eight bytes each
@@ -69,15 +69,15 @@ pub fixed_signs : IsFixed (IsSigned 8) (signed 8) sign_in 8
 fixed_signs = record {
   size_is = length-signed 8;
   one = λ a b x y h k e. signed_unique 8 a b x y (omega arith) h k e;
-  fits = λ bytes len small. (sign_spelled bytes len small).0;
-  spelled = λ bytes len small. (sign_spelled bytes len small).1;
+  fits = λ bytes len small. (sign_encoded bytes len small).0;
+  encoded = λ bytes len small. (sign_encoded bytes len small).1;
 }
 
 -- fills, of twelve bytes each
-pub fixed_fills : IsFixed IsFill fill_spelling fill_in 12
+pub fixed_fills : IsFixed IsFill fill_encoding fill_in 12
 fixed_fills = record {
   size_is = fill_size;
   one = fill_unique;
-  fits = λ bytes len small. (fill_spelled bytes len small).0;
-  spelled = λ bytes len small. (fill_spelled bytes len small).1;
+  fits = λ bytes len small. (fill_encoded bytes len small).0;
+  encoded = λ bytes len small. (fill_encoded bytes len small).1;
 }

@@ -15,7 +15,7 @@ use Rattle.wire_records.proofs.Codes.{code_of-byte}
 use Rattle.flow_orders.specs.Outcomes.{Fill, Clearing, Skipping, Cleared, Skipped}
 use Rattle.wire_records.specs.Fields.{Field, Unsigned, Signed, Bytes, field_bytes, FitsField}
 use Rattle.journal_records.specs.Replies.{fill_fields, fields_of, answer_body, IsAnswer}
-use Rattle.journal_records.specs.Bodies.{reply_tag, reply_body, fill_spelling, clearing_spelling, skipping_spelling, IsReply, IsFill, IsClearing, IsSkipping}
+use Rattle.journal_records.specs.Bodies.{reply_tag, reply_body, fill_encoding, clearing_encoding, skipping_encoding, IsReply, IsFill, IsClearing, IsSkipping}
 
 -- ---- plain replies
 
@@ -51,11 +51,11 @@ reply_from (Refused refusal) h = tt
 -- ---- fields of lists
 
 -- the fields of fills
-fill_bytes : (fills : List Fill) → flat_map field_bytes (flat_map fill_fields fills) ≡ flat_map fill_spelling fills
-unfolding fill_spelling
+fill_bytes : (fills : List Fill) → flat_map field_bytes (flat_map fill_fields fills) ≡ flat_map fill_encoding fills
+unfolding fill_encoding
 fill_bytes [] = refl
 fill_bytes (f ∷ fills) =
-    ap (λ xs. unsigned 8 f.order ++ (unsigned 4 f.rate ++ xs)) (fill_bytes fills) ∙ sym (append_assoc (unsigned 8 f.order) (unsigned 4 f.rate) (flat_map fill_spelling fills))
+    ap (λ xs. unsigned 8 f.order ++ (unsigned 4 f.rate ++ xs)) (fill_bytes fills) ∙ sym (append_assoc (unsigned 8 f.order) (unsigned 4 f.rate) (flat_map fill_encoding fills))
 
 fills_fit : (fills : List Fill) → AllByRecursion IsFill fills → AllByRecursion FitsField (flat_map fill_fields fills)
 fills_fit [] h = tt
@@ -99,8 +99,8 @@ to_residuals number c = to_prices number c ++ of_fills c ++ map (Signed 8) c.res
 in_turn : (a b p c f r g : List ℕ) → a ++ (b ++ p) ++ (c ++ f) ++ r ++ (g ++ []) ≡ a ++ (b ++ (p ++ (c ++ (f ++ (r ++ g)))))
 in_turn a b p c f r g = simp (append_assoc, append-nil)
 
-pub body_of_clearing : (number : ℕ) (c : Clearing) → answer_body (Batch number (Cleared c)) ≡ clearing_spelling number c
-unfolding answer_body clearing_spelling
+pub body_of_clearing : (number : ℕ) (c : Clearing) → answer_body (Batch number (Cleared c)) ≡ clearing_encoding number c
+unfolding answer_body clearing_encoding
 body_of_clearing number c =
     let prices = flat_map field_bytes (map (Signed 8) c.prices) in
     let fills = flat_map field_bytes (flat_map fill_fields c.fills) in
@@ -111,36 +111,36 @@ body_of_clearing number c =
     ∙ in_turn (unsigned 4 number) (unsigned 2 (length c.prices)) prices (unsigned 4 (length c.fills)) fills residuals (signed 16 c.gap)
     ∙ ap (λ xs. unsigned 4 number ++ (unsigned 2 (length c.prices) ++ (xs ++ (unsigned 4 (length c.fills) ++ (fills ++ (residuals ++ signed 16 c.gap)))))) (flat_map-map field_bytes (Signed 8) c.prices)
     ∙ ap (λ xs. unsigned 4 number ++ (unsigned 2 (length c.prices) ++ (flat_map (signed 8) c.prices ++ (unsigned 4 (length c.fills) ++ (xs ++ (residuals ++ signed 16 c.gap)))))) (fill_bytes c.fills)
-    ∙ ap (λ xs. unsigned 4 number ++ (unsigned 2 (length c.prices) ++ (flat_map (signed 8) c.prices ++ (unsigned 4 (length c.fills) ++ (flat_map fill_spelling c.fills ++ (xs ++ signed 16 c.gap)))))) (flat_map-map field_bytes (Signed 8) c.residuals)
+    ∙ ap (λ xs. unsigned 4 number ++ (unsigned 2 (length c.prices) ++ (flat_map (signed 8) c.prices ++ (unsigned 4 (length c.fills) ++ (flat_map fill_encoding c.fills ++ (xs ++ signed 16 c.gap)))))) (flat_map-map field_bytes (Signed 8) c.residuals)
 
 pub clearing_fits : (number : ℕ) (c : Clearing) → IsUnsigned 4 number → IsClearing c → IsAnswer (Batch number (Cleared c))
 clearing_fits number c h k =
     let prices = signs_fit c.prices (recursion_from_All (IsSigned 8) c.prices k.prices) in
     let fills = fills_fit c.fills (recursion_from_All IsFill c.fills k.fills) in
     let residuals = signs_fit c.residuals (recursion_from_All (IsSigned 8) c.residuals k.residuals) in
-    let front = both_fit (to_prices number c) (of_fills c) (h, (k.count, prices)) (k.fill_count, fills) in
-    let all = both_fit (to_residuals number c) (Signed 16 c.gap ∷ []) (both_fit (to_prices number c ++ of_fills c) (map (Signed 8) c.residuals) front residuals) (k.gap, tt) in
+    let prefix = both_fit (to_prices number c) (of_fills c) (h, (k.count, prices)) (k.fill_count, fills) in
+    let all = both_fit (to_residuals number c) (Signed 16 c.gap ∷ []) (both_fit (to_prices number c ++ of_fills c) (map (Signed 8) c.residuals) prefix residuals) (k.gap, tt) in
     (All-from_recursion FitsField (fields_of (Batch number (Cleared c))).1 all, k.residual_each)
 
 pub clearing_from : (number : ℕ) (c : Clearing) → IsAnswer (Batch number (Cleared c)) → IsUnsigned 4 number × IsClearing c
 clearing_from number c h =
     let all = both_from (to_residuals number c) (Signed 16 c.gap ∷ []) (recursion_from_All FitsField (fields_of (Batch number (Cleared c))).1 h.0) in
     let most = both_from (to_prices number c ++ of_fills c) (map (Signed 8) c.residuals) all.0 in
-    let front = both_from (to_prices number c) (of_fills c) most.0 in (
-      front.0.0,
+    let prefix = both_from (to_prices number c) (of_fills c) most.0 in (
+      prefix.0.0,
       record {
-        count = front.0.1.0;
-        prices = All-from_recursion (IsSigned 8) c.prices (signs_from c.prices front.0.1.1);
-        fill_count = front.1.0;
-        fills = All-from_recursion IsFill c.fills (fills_from c.fills front.1.1);
+        count = prefix.0.1.0;
+        prices = All-from_recursion (IsSigned 8) c.prices (signs_from c.prices prefix.0.1.1);
+        fill_count = prefix.1.0;
+        fills = All-from_recursion IsFill c.fills (fills_from c.fills prefix.1.1);
         residual_each = h.1;
         residuals = All-from_recursion (IsSigned 8) c.residuals (signs_from c.residuals most.1);
         gap = all.1.0;
       },
     )
 
-pub body_of_skip : (number : ℕ) (s : Skipping) → answer_body (Batch number (Skipped s)) ≡ skipping_spelling number s
-unfolding answer_body skipping_spelling
+pub body_of_skip : (number : ℕ) (s : Skipping) → answer_body (Batch number (Skipped s)) ≡ skipping_encoding number s
+unfolding answer_body skipping_encoding
 body_of_skip number s = ap (λ xs. unsigned 4 number ++ (signed 16 s.start_dual ++ (signed 16 s.end_dual ++ (unsigned 4 (length s.trace) ++ xs)))) (append-nil s.trace)
 
 pub skipping_fits : (number : ℕ) (s : Skipping) → IsUnsigned 4 number → IsSkipping s → IsAnswer (Batch number (Skipped s))

@@ -5,22 +5,22 @@ use Rattle.std.specs.List.{flat_map}
 use Rattle.std.proofs.lemmas.List.Elements.{All-map}
 use Rattle.wire_records.specs.Records.{Record, most_body}
 use Rattle.wire_records.specs.Commands.{Answer, Pair}
-use Rattle.wire_records.specs.Grammars.{spell_all}
+use Rattle.wire_records.specs.Grammars.{encode_all}
 use Rattle.wire_records.specs.Reading.{Reading, File, End, Reads}
 use Rattle.wire_records.specs.declared.version.Version.{Version}
 use Rattle.wire_records.specs.declared.version.Version.TheVariants.{One}
 use Rattle.wire_records.specs.Versions.{number_of}
 use Rattle.wire_records.specs.Formats.{records, EitherStatesOver}
-use Rattle.wire_records.proofs.Fronts.{states_none-from_few}
+use Rattle.wire_records.proofs.Prefixes.{states_none-from_few}
 use Rattle.wire_records.proofs.CodeLaws.{both_code}
 use Rattle.wire_records.proofs.ReadingLaws.{IsReadable, none_in_none, file_read, reads_one}
 use Rattle.wire_records.proofs.RecordCode.{AreMagics, record_code, magic_code, either_over_told}
 use Rattle.flow_orders.specs.Outcomes.{Outcome}
 use Rattle.journal_records.specs.Replies.{most_reply_body}
-use Rattle.journal_records.specs.Pairs.{IsPair, pair_spelling}
+use Rattle.journal_records.specs.Pairs.{IsPair, pair_encoding}
 use Rattle.journal_records.specs.Formats.{journal_magic_of, journals, journal_in, records_of}
 use Rattle.journal_records.specs.Laws.{JournalIsFile, JournalIsRead, OneJournal}
-use Rattle.journal_records.proofs.Spelled.{answer_unique}
+use Rattle.journal_records.proofs.Encoded.{answer_unique}
 
 -- each magic of a journal has eight bytes
 pub eight : (version : Version) → length (journal_magic_of version) ≡ 8
@@ -44,15 +44,15 @@ journals_readable = record {
 }
 
 -- entries are encoded as their records are
-spelled_alike : (pairs : List (Pair Record Outcome)) → flat_map pair_spelling pairs ≡ spell_all journals.units (map records_of pairs)
-unfolding pair_spelling
-spelled_alike [] = refl
-spelled_alike (pair ∷ pairs) = ap (λ xs. pair_spelling pair ++ xs) (spelled_alike pairs)
+encoded_alike : (pairs : List (Pair Record Outcome)) → flat_map pair_encoding pairs ≡ encode_all journals.units (map records_of pairs)
+unfolding pair_encoding
+encoded_alike [] = refl
+encoded_alike (pair ∷ pairs) = ap (λ xs. pair_encoding pair ++ xs) (encoded_alike pairs)
 
 pub journal_is_file : JournalIsFile
 journal_is_file = record {
   one = λ pairs. refl;
-  file = λ version pairs. ap (λ xs. journal_magic_of version ++ xs) (spelled_alike pairs);
+  file = λ version pairs. ap (λ xs. journal_magic_of version ++ xs) (encoded_alike pairs);
 }
 
 -- no bytes state no length above the limit
@@ -62,7 +62,7 @@ short_at_end (inr later) = none_in_none (records most_body) (record_code most_bo
 
 pub journal_is_read : JournalIsRead
 journal_is_read limit version pairs each fits =
-    let file = journal_magic_of version ++ spell_all journals.units (map records_of pairs) in
+    let file = journal_magic_of version ++ encode_all journals.units (map records_of pairs) in
     let same : journal_in version pairs ≡ file = journal_is_file.file version pairs in
     let lawful = All-map journals.units.IsLawful records_of pairs (λ k d in_list. ((each k d in_list).asked, (each k d in_list).answered)) in
     let small : length file ≤ limit = omega (arith, fits, ap length same) in

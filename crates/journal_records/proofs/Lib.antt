@@ -2,9 +2,9 @@ pub mod Batches
 pub mod FieldForms
 pub mod Values
 pub mod Digits
-pub mod Spelled
+pub mod Encoded
 pub mod Fills
 pub mod Files
 pub mod Reading
-pub mod PairFronts
+pub mod PairPrefixes
 pub mod OutcomesFit

@@ -50,12 +50,12 @@ fills_fit prices orders [] each numbered same rounded = All-nil IsFill
 fills_fit prices [] (f ∷ fills) each numbered same rounded = absurd (omega (arith, ap length same))
 fills_fit prices (o ∷ orders) (f ∷ fills) each numbered same rounded =
     let number : f.order ≡ o.number = ap (λ (xs : List ℕ). slice_index_or xs 0 0) same in
-    let behind : map (λ (f : Fill). f.order) fills ≡ map (λ (o : Order). o.number) orders = ap (drop 1) same in
+    let following : map (λ (f : Fill). f.order) fills ≡ map (λ (o : Order). o.number) orders = ap (drop 1) same in
     let terms = (All-head IsOrder o orders each).terms in
     let t : Trade = record { order = o; traded = f.rate } in
     let rate = rounding_is_within_room (terms_of o) terms (price_for prices o) f.rate (rounded 0 t (omega arith)) in
     All-cons IsFill f fills (rw number (All-head (λ (p : Order). p.number < 2 ^ 64) o orders numbered), omega (arith, rate, terms.room_most, terms.rate_most))
-    (fills_fit prices orders fills (All-tail IsOrder o orders each) (All-tail (λ (p : Order). p.number < 2 ^ 64) o orders numbered) behind (λ k d inside. rounded (suc k) d (omega (arith, inside))))
+    (fills_fit prices orders fills (All-tail IsOrder o orders each) (All-tail (λ (p : Order). p.number < 2 ^ 64) o orders numbered) following (λ k d inside. rounded (suc k) d (omega (arith, inside))))
 
 -- what roundings lose is at most 2^60 for each order
 losses_most : (prices : List ℤ) (orders : List Order) (rates : List ℕ) → All IsOrder orders

@@ -25,20 +25,20 @@ reply_body (Order order) = unsigned 8 order
 reply_body (Refused refusal) = unsigned 1 (code_of refusal)
 
 -- the bytes of a fill: the order's number, and its rate
-unfoldable pub fill_spelling : Fill → List ℕ
-fill_spelling f = unsigned 8 f.order ++ unsigned 4 f.rate
+unfoldable pub fill_encoding : Fill → List ℕ
+fill_encoding f = unsigned 8 f.order ++ unsigned 4 f.rate
 
 -- the bytes of a batch that cleared: its number, how many prices there are and the prices, how many fills there are and
 -- the fills, as many imbalances as prices, and the gap
-unfoldable pub clearing_spelling : ℕ → Clearing → List ℕ
-clearing_spelling number c =
+unfoldable pub clearing_encoding : ℕ → Clearing → List ℕ
+clearing_encoding number c =
     unsigned 4 number ++ (unsigned 2 (length c.prices) ++ (flat_map (signed 8) c.prices
-    ++ (unsigned 4 (length c.fills) ++ (flat_map fill_spelling c.fills ++ (flat_map (signed 8) c.residuals ++ signed 16 c.gap)))))
+    ++ (unsigned 4 (length c.fills) ++ (flat_map fill_encoding c.fills ++ (flat_map (signed 8) c.residuals ++ signed 16 c.gap)))))
 
 -- the bytes of a batch that was skipped: its number, the dual values at the start and at the end, how many moves there are,
 -- and the asset of each
-unfoldable pub skipping_spelling : ℕ → Skipping → List ℕ
-skipping_spelling number s =
+unfoldable pub skipping_encoding : ℕ → Skipping → List ℕ
+skipping_encoding number s =
     unsigned 4 number ++ (signed 16 s.start_dual ++ (signed 16 s.end_dual ++ (unsigned 4 (length s.trace) ++ s.trace)))
 
 -- a plain reply whose number fits its width

@@ -10,7 +10,7 @@ use Rattle.wire_records.specs.declared.version.Version.TheVariants.{One, Two, Th
 use Rattle.wire_records.specs.Formats.{magics, records, EitherStatesOver}
 use Rattle.flow_orders.specs.Outcomes.{Outcome}
 use Rattle.journal_records.specs.Replies.{answer_record, most_reply_body}
-use Rattle.journal_records.specs.Pairs.{pair_spelling}
+use Rattle.journal_records.specs.Pairs.{pair_encoding}
 
 -- the magic of a journal of each version
 abbrev pub journal_magic_of : Version → List ℕ
@@ -21,7 +21,7 @@ journal_magic_of Four = codes "FLOWJNL4"
 
 -- the bytes of a journal of these entries, in a version
 abbrev pub journal_in : Version → List (Pair Record Outcome) → List ℕ
-journal_in version pairs = journal_magic_of version ++ flat_map pair_spelling pairs
+journal_in version pairs = journal_magic_of version ++ flat_map pair_encoding pairs
 
 -- the format of journals: each entry is a command record followed by the record of a reply, each with a body within its limit
 abbrev pub journals : Format Version (Record × Record)

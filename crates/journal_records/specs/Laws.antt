@@ -3,7 +3,7 @@ use Rattle.std.specs.Prelude.{◌≡◌, ◌<◌, ◌≤◌, ◌^◌, ℕ, ℤ, 
 use Rattle.wire_records.specs.declared.reply.Reply.{Reply}
 use Rattle.wire_records.specs.Records.{Record, IsRecord}
 use Rattle.wire_records.specs.Commands.{Answer, Plain, Batch, Pair}
-use Rattle.wire_records.specs.Grammars.{spell_all}
+use Rattle.wire_records.specs.Grammars.{encode_all}
 use Rattle.wire_records.specs.Reading.{Reading, File, End, Reads}
 use Rattle.wire_records.specs.declared.version.Version.{Version}
 use Rattle.wire_records.specs.declared.version.Version.TheVariants.{One}
@@ -12,7 +12,7 @@ use Rattle.flow_orders.specs.Orders.{Order, IsOrder, most_orders}
 use Rattle.flow_orders.specs.declared.search.Search.{Search}
 use Rattle.flow_orders.specs.Outcomes.{Clearing, Skipping, Outcome, Cleared, Skipped, IsAdmissibleOutcome, most_budget}
 use Rattle.journal_records.specs.Replies.{answer_record, IsAnswer, most_reply_body, IsWithinLimits}
-use Rattle.journal_records.specs.Pairs.{IsPair, pair_spelling, journal, plain_room, cleared_room, skipped_room}
+use Rattle.journal_records.specs.Pairs.{IsPair, pair_encoding, journal, plain_room, cleared_room, skipped_room}
 use Rattle.journal_records.specs.Formats.{journals, journal_in, records_of}
 
 -- a record encodes at most one answer
@@ -21,22 +21,22 @@ OneAnswer = (a b : Answer Outcome) → IsAnswer a → IsAnswer b → answer_reco
 
 -- No entry's encoding is a proper prefix of another's: two entries that the same bytes begin with are one.
 abbrev pub OnePair : Type 0
-OnePair = (p q : Pair Record Outcome) (x y : List ℕ) → IsPair p → IsPair q → pair_spelling p ++ x ≡ pair_spelling q ++ y → (p ≡ q) × (x ≡ y)
+OnePair = (p q : Pair Record Outcome) (x y : List ℕ) → IsPair p → IsPair q → pair_encoding p ++ x ≡ pair_encoding q ++ y → (p ≡ q) × (x ≡ y)
 
 -- an entry with a plain reply takes at most the space that is reserved for one
 abbrev pub PairFits : Type 0
-PairFits = (asked : Record) (reply : Reply) → length (pair_spelling (record { asked = asked; answer = Plain reply })) ≤ plain_room asked
+PairFits = (asked : Record) (reply : Reply) → length (pair_encoding (record { asked = asked; answer = Plain reply })) ≤ plain_room asked
 
 -- an entry with a batch that cleared takes exactly the space that is reserved for it
 abbrev pub ClearedPairFits : Type 0
 ClearedPairFits =
     (asked : Record) (number : ℕ) (c : Clearing) → length c.residuals ≡ length c.prices
-    → length (pair_spelling (record { asked = asked; answer = Batch number (Cleared c) })) ≡ cleared_room asked (length c.prices) (length c.fills)
+    → length (pair_encoding (record { asked = asked; answer = Batch number (Cleared c) })) ≡ cleared_room asked (length c.prices) (length c.fills)
 
 -- an entry with a batch that was skipped takes exactly the space that is reserved for it
 abbrev pub SkippedPairFits : Type 0
 SkippedPairFits =
-    (asked : Record) (number : ℕ) (s : Skipping) → length (pair_spelling (record { asked = asked; answer = Batch number (Skipped s) })) ≡ skipped_room asked (length s.trace)
+    (asked : Record) (number : ℕ) (s : Skipping) → length (pair_encoding (record { asked = asked; answer = Batch number (Skipped s) })) ≡ skipped_room asked (length s.trace)
 
 -- the record of a plain reply is within the limit of replies
 abbrev pub PlainRepliesFit : Type 0
@@ -64,7 +64,7 @@ OneJournalFile =
 -- a journal is the file of its entries' records, in each version
 pub record JournalIsFile : Type 0 where
   pub one : (pairs : List (Pair Record Outcome)) → journal pairs ≡ journal_in One pairs
-  pub file : (version : Version) (pairs : List (Pair Record Outcome)) → journal_in version pairs ≡ journals.magics.spell version ++ spell_all journals.units (map records_of pairs)
+  pub file : (version : Version) (pairs : List (Pair Record Outcome)) → journal_in version pairs ≡ journals.magics.encode version ++ encode_all journals.units (map records_of pairs)
 
 -- a journal within the limit is read as the records of its entries, in its version and to its end
 abbrev pub JournalIsRead : Type 0

@@ -6,7 +6,7 @@ use Rattle.wire_fields.specs.Numbers.{signed, IsUnsigned, IsSigned}
 use Rattle.wire_records.specs.declared.reply.Reply.{Reply}
 use Rattle.flow_orders.specs.Outcomes.{Fill}
 use Rattle.journal_records.specs.Numbered.{ClearedBatch, SkippedBatch}
-use Rattle.journal_records.specs.Bodies.{reply_tag, reply_body, fill_spelling, clearing_spelling, skipping_spelling, IsReply, IsFill, IsClearing, IsSkipping}
+use Rattle.journal_records.specs.Bodies.{reply_tag, reply_body, fill_encoding, clearing_encoding, skipping_encoding, IsReply, IsFill, IsClearing, IsSkipping}
 
 -- the number whose digits to the base 256 are those of n, followed by these bytes
 unfoldable pub digits_on : ℕ → List ℕ → ℕ
@@ -35,44 +35,44 @@ abbrev pub fills_in : List ℕ → List Fill
 fills_in bytes = values_in fill_in 12 (length bytes / 12) bytes
 
 -- these bytes encode these values, one after the other, and each fits
-pub record SpellValues {A : Type 0} (Fits : A → Type 0) (spell : A → List ℕ) (bytes : List ℕ) (values : List A) : Type 0 where
+pub record EncodeValues {A : Type 0} (Fits : A → Type 0) (encode : A → List ℕ) (bytes : List ℕ) (values : List A) : Type 0 where
   pub fit : All Fits values
-  pub spelled : bytes ≡ flat_map spell values
+  pub encoded : bytes ≡ flat_map encode values
 
 -- these bytes encode these numbers with a sign
-abbrev pub SpellSigns : List ℕ → List ℤ → Type 0
-SpellSigns bytes numbers = SpellValues (IsSigned 8) (signed 8) bytes numbers
+abbrev pub EncodeSigns : List ℕ → List ℤ → Type 0
+EncodeSigns bytes numbers = EncodeValues (IsSigned 8) (signed 8) bytes numbers
 
 -- these bytes encode these fills
-abbrev pub SpellFills : List ℕ → List Fill → Type 0
-SpellFills bytes fills = SpellValues IsFill fill_spelling bytes fills
+abbrev pub EncodeFills : List ℕ → List Fill → Type 0
+EncodeFills bytes fills = EncodeValues IsFill fill_encoding bytes fills
 
 -- this body encodes this batch that cleared
-pub record SpellsCleared (body : List ℕ) (b : ClearedBatch) : Type 0 where
+pub record EncodesCleared (body : List ℕ) (b : ClearedBatch) : Type 0 where
   pub batch : IsUnsigned 4 b.batch
   pub fits : IsClearing b.clearing
-  pub spelled : body ≡ clearing_spelling b.batch b.clearing
+  pub encoded : body ≡ clearing_encoding b.batch b.clearing
 
 -- this body encodes no batch that cleared
-abbrev pub SpellsNoCleared : List ℕ → Type 0
-SpellsNoCleared body = (b : ClearedBatch) → ¬ SpellsCleared body b
+abbrev pub EncodesNoCleared : List ℕ → Type 0
+EncodesNoCleared body = (b : ClearedBatch) → ¬ EncodesCleared body b
 
 -- this body encodes this batch that was skipped
-pub record SpellsSkipped (body : List ℕ) (b : SkippedBatch) : Type 0 where
+pub record EncodesSkipped (body : List ℕ) (b : SkippedBatch) : Type 0 where
   pub batch : IsUnsigned 4 b.batch
   pub fits : IsSkipping b.skipping
-  pub spelled : body ≡ skipping_spelling b.batch b.skipping
+  pub encoded : body ≡ skipping_encoding b.batch b.skipping
 
 -- this body encodes no batch that was skipped
-abbrev pub SpellsNoSkipped : List ℕ → Type 0
-SpellsNoSkipped body = (b : SkippedBatch) → ¬ SpellsSkipped body b
+abbrev pub EncodesNoSkipped : List ℕ → Type 0
+EncodesNoSkipped body = (b : SkippedBatch) → ¬ EncodesSkipped body b
 
 -- this tag and this body encode this plain reply
-pub record SpellsReply (tag : ℕ) (body : List ℕ) (reply : Reply) : Type 0 where
+pub record EncodesReply (tag : ℕ) (body : List ℕ) (reply : Reply) : Type 0 where
   pub fits : IsReply reply
   pub tag_is : tag ≡ reply_tag reply
-  pub spelled : body ≡ reply_body reply
+  pub encoded : body ≡ reply_body reply
 
 -- this tag and this body encode no plain reply
-abbrev pub SpellsNoReply : ℕ → List ℕ → Type 0
-SpellsNoReply tag body = (reply : Reply) → ¬ SpellsReply tag body reply
+abbrev pub EncodesNoReply : ℕ → List ℕ → Type 0
+EncodesNoReply tag body = (reply : Reply) → ¬ EncodesReply tag body reply

@@ -49,9 +49,9 @@ IsAnswer (Batch number (Cleared c)) = All FitsField (fields_of (Batch number (Cl
 IsAnswer (Batch number (Skipped s)) = All FitsField (fields_of (Batch number (Skipped s))).1
 
 -- a record encodes an answer
-pub record SpellsAnswer (r : Record) (answer : Answer Outcome) : Type 0 where
+pub record EncodesAnswer (r : Record) (answer : Answer Outcome) : Type 0 where
   pub fits : IsAnswer answer
-  pub spelled : r ≡ answer_record answer
+  pub encoded : r ≡ answer_record answer
 
 -- the longest body of a reply's record, in bytes
 abbrev pub most_reply_body : ℕ

@@ -2,15 +2,15 @@
 ghost use Rattle.std.specs.Prelude.{◌≡◌, ◌+◌, ◌*◌, ◌<◌, ◌≤◌, ◌++◌, length, map, All, OnOk, OnErr, vec_len, vec_capacity};
 ghost use Rattle.std.specs.List.{flat_map};
 ghost use Rattle.wire_fields.specs.Numbers.{signed, IsSigned};
-ghost use Rattle.wire_records.specs.Records.{spelling};
+ghost use Rattle.wire_records.specs.Records.{encoding};
 ghost use Rattle.wire_records.specs.Commands.{Batch};
 ghost use Rattle.flow_orders.specs.Orders.{most_orders};
 ghost use Rattle.flow_orders.specs.Trades.{trades};
 ghost use Rattle.flow_orders.specs.Outcomes.{fill_of, Cleared as cleared_outcome};
 ghost use Rattle.batch_outcome.specs.Published.{clearing_of};
 ghost use Rattle.journal_records.specs.Replies.{answer_record, IsAnswer};
-ghost use Rattle.journal_records.specs.Bodies.{fill_spelling, IsFill};
-ghost use Rattle.journal_records.specs.Pairs.{pair_spelling, cleared_room};
+ghost use Rattle.journal_records.specs.Bodies.{fill_encoding, IsFill};
+ghost use Rattle.journal_records.specs.Pairs.{pair_encoding, cleared_room};
 
 use batch_outcome::Cleared;
 use flow_orders::Order;
@@ -50,7 +50,7 @@ fn put_fills(out: &mut Vec<u8>, orders: &[Order], rates: &[u32])
     requires count { length rates.now ≡ length orders.now }
     requires room { vec_len out.old + 12 * length orders.now ≤ vec_capacity out.old }
     ensures written { out.new.items
-        ≡ out.old.items ++ flat_map fill_spelling (map fill_of (trades orders.now rates.now)) }
+        ≡ out.old.items ++ flat_map fill_encoding (map fill_of (trades orders.now rates.now)) }
     ensures len { vec_len out.new ≡ vec_len out.old + 12 * length orders.now }
     ensures capacity { vec_capacity out.new ≡ vec_capacity out.old }
     ensures fit { All IsFill (map fill_of (trades orders.now rates.now)) }
@@ -70,7 +70,7 @@ fn put_cleared(batch: u32, orders: &[Order], cleared: &Cleared, out: &mut Vec<u8
     requires room { vec_len out.old + (31 + 16 * length cleared.now.prices + 12 * length orders.now)
         ≤ vec_capacity out.old }
     ensures written { out.new.items ≡ out.old.items
-        ++ spelling (answer_record (Batch batch (cleared_outcome (clearing_of orders.now cleared.now)))) }
+        ++ encoding (answer_record (Batch batch (cleared_outcome (clearing_of orders.now cleared.now)))) }
     ensures capacity { vec_capacity out.new ≡ vec_capacity out.old }
     ensures fits { IsAnswer (Batch batch (cleared_outcome (clearing_of orders.now cleared.now))) }
 {
@@ -104,7 +104,7 @@ pub fn write_cleared(
     requires one_residual_each { length cleared.now.residuals ≡ length cleared.now.prices }
     requires few_assets { length cleared.now.prices ≤ 64 }
     requires few_orders { length orders.now ≤ most_orders }
-    ensures written { OnOk result (out.new.items ≡ out.old.items ++ pair_spelling (record {
+    ensures written { OnOk result (out.new.items ≡ out.old.items ++ pair_encoding (record {
       asked = asked.now;
       answer = Batch batch (cleared_outcome (clearing_of orders.now cleared.now));
     })) }

@@ -1,6 +1,6 @@
 //! A batch that cleared, in the bytes of its reply.
 ghost use Rattle.std.specs.Prelude.{◌≡◌, IfOk, IfSome, IfNone};
-ghost use Rattle.journal_records.specs.Private.{SpellsCleared, SpellsNoCleared};
+ghost use Rattle.journal_records.specs.Private.{EncodesCleared, EncodesNoCleared};
 
 use crate::fills_view::{FillsView, take_fills};
 use crate::numbers_view::{NumbersView, take_numbers};
@@ -101,8 +101,8 @@ impl<'a> ClearedParts for ClearedView<'a> {
 
 // Returns the batch that a body encodes, or `None` if it encodes none. Only its number, the counts and the gap are read.
 pub(crate) fn cleared_in(body: &[u8]) -> Option<ClearedView<'_>>
-    ensures found { IfSome result (λ cleared. SpellsCleared body.now cleared) }
-    ensures none { IfNone result (SpellsNoCleared body.now) }
+    ensures found { IfSome result (λ cleared. EncodesCleared body.now cleared) }
+    ensures none { IfNone result (EncodesNoCleared body.now) }
 {
     let mut cursor = Cursor::new(body);
     let batch = cursor.take_u32()?;

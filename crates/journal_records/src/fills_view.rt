@@ -2,7 +2,7 @@
 ghost use Rattle.std.specs.Prelude.{◌≡◌, ◌+◌, ◌*◌, ◌<◌, ◌^◌, ◌++◌, ℕ, List, All, map, length, slice_get, Option, Some, IfOk, IfSome, IsSomeAnd};
 ghost use Rattle.std.specs.List.{flat_map};
 ghost use Rattle.flow_orders.specs.Outcomes.{Fill};
-ghost use Rattle.journal_records.specs.Bodies.{fill_spelling, IsFill};
+ghost use Rattle.journal_records.specs.Bodies.{fill_encoding, IsFill};
 
 use crate::numbers_view::as_bytes;
 use std::alloc::Global;
@@ -24,25 +24,25 @@ pub(crate) struct FillsView<'a> {
 impl<'a> Model for FillsView<'a> {
     ghost use Rattle.std.specs.Prelude.{List};
     ghost use Rattle.flow_orders.specs.Outcomes.{Fill};
-    ghost use Rattle.journal_records.specs.Private.{fills_in, SpellFills};
+    ghost use Rattle.journal_records.specs.Private.{fills_in, EncodeFills};
 
     ghost Value = { List Fill };
 
     ghost view = { λ v. fills_in v.bytes.now };
 
-    ghost invariant = { λ v. SpellFills v.bytes.now (fills_in v.bytes.now) };
+    ghost invariant = { λ v. EncodeFills v.bytes.now (fills_in v.bytes.now) };
 }
 
 // Returns the order's number in the fill that `bytes` begin with.
 fn order_of(bytes: &[u8]) -> Option<u64>
-    ensures { (f : Fill) (rest : List ℕ) → IsFill f → bytes.now ≡ fill_spelling f ++ rest → result ≡ Some f.order }
+    ensures { (f : Fill) (rest : List ℕ) → IsFill f → bytes.now ≡ fill_encoding f ++ rest → result ≡ Some f.order }
 {
     Cursor::new(bytes).take_u64()
 }
 
 // Returns the rate in the fill that `bytes` begin with.
 fn rate_of(bytes: &[u8]) -> Option<u32>
-    ensures { (f : Fill) (rest : List ℕ) → IsFill f → bytes.now ≡ fill_spelling f ++ rest → result ≡ Some f.rate }
+    ensures { (f : Fill) (rest : List ℕ) → IsFill f → bytes.now ≡ fill_encoding f ++ rest → result ≡ Some f.rate }
 {
     let mut cursor = Cursor::new(bytes);
     cursor.take(NUMBER)?;
@@ -91,11 +91,11 @@ impl<'a> FillsView<'a> {
 // Takes `count` fills, or returns `None` if fewer are left.
 pub(crate) fn take_fills<'a>(cursor: &mut Cursor<'a>, count: usize) -> Option<FillsView<'a>>
     requires few { count < 2 ^ 32 }
-    ensures found { IfSome result (λ fills. cursor.old ≡ flat_map fill_spelling fills ++ cursor.new) }
+    ensures found { IfSome result (λ fills. cursor.old ≡ flat_map fill_encoding fills ++ cursor.new) }
     ensures size { IfSome result (λ fills. length fills ≡ count) }
     ensures fit { IfSome result (λ fills. All IsFill fills) }
     ensures again { (fills : List Fill) (rest : List ℕ) → length fills ≡ count → All IsFill fills
-        → cursor.old ≡ flat_map fill_spelling fills ++ rest
+        → cursor.old ≡ flat_map fill_encoding fills ++ rest
         → IsSomeAnd result (λ found. found ≡ fills) × (cursor.new ≡ rest) }
 {
     let bytes = as_bytes(cursor.take(FILL * count)?);

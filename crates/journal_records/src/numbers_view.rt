@@ -28,13 +28,13 @@ pub(crate) struct NumbersView<'a> {
 
 impl<'a> Model for NumbersView<'a> {
     ghost use Rattle.std.specs.Prelude.{List, ℤ};
-    ghost use Rattle.journal_records.specs.Private.{signs_in, SpellSigns};
+    ghost use Rattle.journal_records.specs.Private.{signs_in, EncodeSigns};
 
     ghost Value = { List ℤ };
 
     ghost view = { λ v. signs_in v.bytes.now };
 
-    ghost invariant = { λ v. SpellSigns v.bytes.now (signs_in v.bytes.now) };
+    ghost invariant = { λ v. EncodeSigns v.bytes.now (signs_in v.bytes.now) };
 }
 
 // Returns the number that `bytes` begin with.

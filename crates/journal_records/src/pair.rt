@@ -2,7 +2,7 @@
 ghost use Rattle.std.specs.Prelude.{◌≡◌, ◌↔◌, IsTrue};
 ghost use Rattle.wire_records.specs.Formats.{StatesOver};
 ghost use Rattle.journal_records.specs.Formats.{journals};
-ghost use Rattle.journal_records.specs.Views.{IsPairFront};
+ghost use Rattle.journal_records.specs.Views.{IsPairPrefix};
 
 use crate::MOST_REPLY_BODY;
 use std::marker::Model;
@@ -56,7 +56,7 @@ pub enum PairFramed<'a> {
 /// Returns what `bytes` begin with. What follows the entry isn't looked at, and neither is what the two bodies hold.
 /// Constant cost; doesn't allocate.
 pub fn next_pair<'a>(bytes: &'a [u8]) -> PairFramed<'a>
-    ensures { IsPairFront result bytes.now }
+    ensures { IsPairPrefix result bytes.now }
 {
     match next_record(bytes, MOST_BODY) {
         Framed::Whole(asked, taken) => match next_record(&bytes[taken..], MOST_REPLY_BODY) {

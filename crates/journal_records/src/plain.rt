@@ -1,9 +1,9 @@
 //! Entries with a plain reply, one without lists.
 ghost use Rattle.std.specs.Prelude.{◌≡◌, ◌+◌, ◌<◌, ◌≤◌, ◌++◌, OnOk, OnErr, vec_len, vec_capacity};
-ghost use Rattle.wire_records.specs.Records.{spelling};
+ghost use Rattle.wire_records.specs.Records.{encoding};
 ghost use Rattle.wire_records.specs.Commands.{Plain};
 ghost use Rattle.journal_records.specs.Replies.{answer_record, IsAnswer};
-ghost use Rattle.journal_records.specs.Pairs.{pair_spelling, plain_room};
+ghost use Rattle.journal_records.specs.Pairs.{pair_encoding, plain_room};
 
 use wire_fields::{put_bytes, put_u8, put_u16, put_u32, put_u64};
 use wire_records::{MOST_RECORD, Memory, RecordView, Reply, put_head};
@@ -34,7 +34,7 @@ pub fn reserve_plain(asked: &RecordView<'_>, out: &mut Vec<u8>) -> Result<(), Me
 #[tactic(auto, using(crate::proofs::FieldForms::reply_fits))]
 fn put_reply(reply: &Reply, out: &mut Vec<u8>)
     requires { vec_len out.old + 13 ≤ vec_capacity out.old }
-    ensures written { out.new.items ≡ out.old.items ++ spelling (answer_record (Plain reply.now)) }
+    ensures written { out.new.items ≡ out.old.items ++ encoding (answer_record (Plain reply.now)) }
     ensures fits { IsAnswer (Plain reply.now) }
     ensures capacity { vec_capacity out.new ≡ vec_capacity out.old }
 {
@@ -64,7 +64,7 @@ fn put_reply(reply: &Reply, out: &mut Vec<u8>)
 pub fn write_plain(asked: &RecordView<'_>, reply: &Reply, out: &mut Vec<u8>)
     requires { vec_len out.old + plain_room asked.now ≤ vec_capacity out.old }
     ensures written { out.new.items
-        ≡ out.old.items ++ pair_spelling (record { asked = asked.now; answer = Plain reply.now }) }
+        ≡ out.old.items ++ pair_encoding (record { asked = asked.now; answer = Plain reply.now }) }
     ensures fits { IsAnswer (Plain reply.now) }
     ensures capacity { vec_capacity out.new ≡ vec_capacity out.old }
 {

@@ -1,7 +1,7 @@
 //! Which answer a record encodes.
 ghost use Rattle.std.specs.Prelude.{◌≡◌, ◌≢◌, ◌<◌, ◌^◌, length, IfSome, IfNone};
 ghost use Rattle.wire_fields.specs.Numbers.{unsigned};
-ghost use Rattle.journal_records.specs.Private.{SpellsReply, SpellsNoReply};
+ghost use Rattle.journal_records.specs.Private.{EncodesReply, EncodesNoReply};
 ghost use Rattle.journal_records.specs.Views.{IsReplyRead};
 
 use crate::cleared_view::{ClearedView, cleared_in};
@@ -22,7 +22,7 @@ pub enum ReplyView<'a> {
 
 // Returns the number that a body of 1 byte is.
 fn u8_in(body: &[u8]) -> Option<u8>
-    ensures spelled { IfSome result (λ n. body.now ≡ unsigned 1 n) }
+    ensures encoded { IfSome result (λ n. body.now ≡ unsigned 1 n) }
     ensures fits { IfSome result (λ n. n < 2 ^ 8) }
     ensures other { IfNone result (length body.now ≢ 1) }
 {
@@ -36,7 +36,7 @@ fn u8_in(body: &[u8]) -> Option<u8>
 
 // Returns the number that a body of 2 bytes is.
 fn u16_in(body: &[u8]) -> Option<u16>
-    ensures spelled { IfSome result (λ n. body.now ≡ unsigned 2 n) }
+    ensures encoded { IfSome result (λ n. body.now ≡ unsigned 2 n) }
     ensures fits { IfSome result (λ n. n < 2 ^ 16) }
     ensures other { IfNone result (length body.now ≢ 2) }
 {
@@ -50,7 +50,7 @@ fn u16_in(body: &[u8]) -> Option<u16>
 
 // Returns the number that a body of 4 bytes is.
 fn u32_in(body: &[u8]) -> Option<u32>
-    ensures spelled { IfSome result (λ n. body.now ≡ unsigned 4 n) }
+    ensures encoded { IfSome result (λ n. body.now ≡ unsigned 4 n) }
     ensures fits { IfSome result (λ n. n < 2 ^ 32) }
     ensures other { IfNone result (length body.now ≢ 4) }
 {
@@ -64,7 +64,7 @@ fn u32_in(body: &[u8]) -> Option<u32>
 
 // Returns the number that a body of 8 bytes is.
 fn u64_in(body: &[u8]) -> Option<u64>
-    ensures spelled { IfSome result (λ n. body.now ≡ unsigned 8 n) }
+    ensures encoded { IfSome result (λ n. body.now ≡ unsigned 8 n) }
     ensures fits { IfSome result (λ n. n < 2 ^ 64) }
     ensures other { IfNone result (length body.now ≢ 8) }
 {
@@ -78,8 +78,8 @@ fn u64_in(body: &[u8]) -> Option<u64>
 
 // Returns the plain reply that a tag and a body encode, or `None` if they encode none.
 fn plain_in(tag: u8, body: &[u8]) -> Option<Reply>
-    ensures found { IfSome result (λ reply. SpellsReply tag body.now reply) }
-    ensures none { IfNone result (SpellsNoReply tag body.now) }
+    ensures found { IfSome result (λ reply. EncodesReply tag body.now reply) }
+    ensures none { IfNone result (EncodesNoReply tag body.now) }
 {
     match tag {
         128 if body.is_empty() => Some(Reply::Done),

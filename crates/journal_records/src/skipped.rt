@@ -1,11 +1,11 @@
 //! Entries whose reply is a batch that was skipped.
 ghost use Rattle.std.specs.Prelude.{◌≡◌, ◌+◌, ◌<◌, ◌≤◌, ◌++◌, length, OnOk, OnErr, vec_len, vec_capacity};
-ghost use Rattle.wire_records.specs.Records.{spelling};
+ghost use Rattle.wire_records.specs.Records.{encoding};
 ghost use Rattle.wire_records.specs.Commands.{Batch};
 ghost use Rattle.flow_orders.specs.Outcomes.{most_budget, Skipped as skipped_outcome};
 ghost use Rattle.batch_outcome.specs.Published.{skipping_of};
 ghost use Rattle.journal_records.specs.Replies.{answer_record, IsAnswer};
-ghost use Rattle.journal_records.specs.Pairs.{pair_spelling, skipped_room};
+ghost use Rattle.journal_records.specs.Pairs.{pair_encoding, skipped_room};
 
 use batch_outcome::Skipped;
 use wire_fields::{put_bytes, put_i128, put_u32};
@@ -22,7 +22,7 @@ fn put_skipped(batch: u32, skipped: &Skipped, out: &mut Vec<u8>)
     requires few { length skipped.now.trace ≤ most_budget }
     requires room { vec_len out.old + (45 + length skipped.now.trace) ≤ vec_capacity out.old }
     ensures written { out.new.items
-        ≡ out.old.items ++ spelling (answer_record (Batch batch (skipped_outcome (skipping_of skipped.now)))) }
+        ≡ out.old.items ++ encoding (answer_record (Batch batch (skipped_outcome (skipping_of skipped.now)))) }
     ensures capacity { vec_capacity out.new ≡ vec_capacity out.old }
     ensures fits { IsAnswer (Batch batch (skipped_outcome (skipping_of skipped.now))) }
 {
@@ -49,7 +49,7 @@ pub fn write_skipped(
     out: &mut Vec<u8>,
 ) -> Result<(), Memory>
     requires few { length skipped.now.trace ≤ most_budget }
-    ensures written { OnOk result (out.new.items ≡ out.old.items ++ pair_spelling (record {
+    ensures written { OnOk result (out.new.items ≡ out.old.items ++ pair_encoding (record {
       asked = asked.now;
       answer = Batch batch (skipped_outcome (skipping_of skipped.now));
     })) }

@@ -1,7 +1,7 @@
 //! A batch that was skipped, in the bytes of its reply.
 ghost use Rattle.std.specs.Prelude.{◌≡◌, IfSome, IfNone};
 ghost use Rattle.wire_records.specs.Records.{AreBytes};
-ghost use Rattle.journal_records.specs.Private.{SpellsSkipped, SpellsNoSkipped};
+ghost use Rattle.journal_records.specs.Private.{EncodesSkipped, EncodesNoSkipped};
 
 use crate::numbers_view::as_bytes;
 use std::marker::Model;
@@ -62,8 +62,8 @@ impl<'a> SkippedView<'a> {
 
 // Returns the batch that a body encodes, or `None` if it encodes none. The moves aren't looked at.
 pub(crate) fn skipped_in(body: &[u8]) -> Option<SkippedView<'_>>
-    ensures found { IfSome result (λ skipped. SpellsSkipped body.now skipped) }
-    ensures none { IfNone result (SpellsNoSkipped body.now) }
+    ensures found { IfSome result (λ skipped. EncodesSkipped body.now skipped) }
+    ensures none { IfNone result (EncodesNoSkipped body.now) }
 {
     let mut cursor = Cursor::new(body);
     let batch = cursor.take_u32()?;

@@ -7,7 +7,7 @@ use Rattle.std.proofs.lemmas.List.Elements.{All-nil, All-cons, All-head, All-tai
 use Rattle.wire_records.specs.Records.{Record}
 use Rattle.wire_records.specs.Commands.{Pair}
 use Rattle.wire_records.specs.Versions.{IsReadAs}
-use Rattle.wire_records.specs.Grammars.{spell_all}
+use Rattle.wire_records.specs.Grammars.{encode_all}
 use Rattle.wire_records.specs.Reading.{Ending, EndsAs, ReadsOn}
 use Rattle.wire_records.specs.declared.version.Version.{Version}
 use Rattle.wire_records.proofs.ReadingLaws.{reads_on_some}
@@ -55,8 +55,8 @@ are_legal start new before after (unit ∷ units) each leads =
     let pair : Pair Record Outcome = record { asked = unit.0; answer = one.legal.answer } in
     record {
       legal = pair ∷ rest.legal;
-      parts = ap (λ xs. unit ∷ xs) rest.parts ∙ ap (λ (r : Record). (unit.0, r) ∷ map records_of rest.legal) one.legal.spelled.spelled;
-      each = All-cons IsPair pair rest.legal (record { asked = lawful.0; answer = one.legal.spelled.fits; answered = rw (← one.legal.spelled.spelled) lawful.1 }) rest.each;
+      parts = ap (λ xs. unit ∷ xs) rest.parts ∙ ap (λ (r : Record). (unit.0, r) ∷ map records_of rest.legal) one.legal.encoded.encoded;
+      each = All-cons IsPair pair rest.legal (record { asked = lawful.0; answer = one.legal.encoded.fits; answered = rw (← one.legal.encoded.encoded) lawful.1 }) rest.each;
       steps = (leads.0.market, one.legal.step, rest.steps);
       pairs = omega (arith, rest.pairs, one.pairs);
     }
@@ -85,26 +85,26 @@ module _ {O : Type 0} (version : Version) (place : ℕ) (more : Bool) (bytes : L
       )
 
 -- units, then one more, and then more are read on
-pub read_more : (place : ℕ) (More : Type 0) → More ⊎ (¬ More) → (bytes left rest : List ℕ) (units : List (Record × Record)) (bad : Record × Record) → bytes ≡ spell_all journals.units units ++ left
-    → All journals.units.IsLawful units → journals.units.IsLawful bad → left ≡ journals.units.spell bad ++ rest
+pub read_more : (place : ℕ) (More : Type 0) → More ⊎ (¬ More) → (bytes left rest : List ℕ) (units : List (Record × Record)) (bad : Record × Record) → bytes ≡ encode_all journals.units units ++ left
+    → All journals.units.IsLawful units → journals.units.IsLawful bad → left ≡ journals.units.encode bad ++ rest
     → (more : List (Record × Record)) × (ending : Ending) × ReadsOn journals place More bytes (units ++ bad ∷ more) ending
-read_more place More dec bytes left rest units bad begins each lawful front =
+read_more place More dec bytes left rest units bad begins each lawful prefix =
     let first = units ++ bad ∷ [] in
-    let tail = reads_on_some journals journals_readable (place + length (spell_all journals.units first)) More dec rest in
+    let tail = reads_on_some journals journals_readable (place + length (encode_all journals.units first)) More dec rest in
     let on = tail.2 in
     let all : units ++ bad ∷ tail.0 ≡ first ++ tail.0 = sym (append_assoc units (bad ∷ []) tail.0) in
-    let joined : spell_all journals.units (first ++ tail.0) ≡ spell_all journals.units first ++ spell_all journals.units tail.0 = flat_map-append journals.units.spell first tail.0 in
-    let opened : spell_all journals.units first ≡ spell_all journals.units units ++ journals.units.spell bad = sym (flat_map_more journals.units.spell [] units bad) in (
+    let joined : encode_all journals.units (first ++ tail.0) ≡ encode_all journals.units first ++ encode_all journals.units tail.0 = flat_map-append journals.units.encode first tail.0 in
+    let opened : encode_all journals.units first ≡ encode_all journals.units units ++ journals.units.encode bad = sym (flat_map_more journals.units.encode [] units bad) in (
       tail.0,
       tail.1,
       rw all (record {
         rest = on.rest;
-        whole = begins ∙ ap (λ xs. spell_all journals.units units ++ xs) front ∙ sym (append_assoc (spell_all journals.units units) (journals.units.spell bad) rest)
-            ∙ ap (λ xs. xs ++ rest) (sym opened) ∙ ap (λ xs. spell_all journals.units first ++ xs) on.whole
-            ∙ sym (append_assoc (spell_all journals.units first) (spell_all journals.units tail.0) on.rest) ∙ ap (λ xs. xs ++ on.rest) (sym joined);
+        whole = begins ∙ ap (λ xs. encode_all journals.units units ++ xs) prefix ∙ sym (append_assoc (encode_all journals.units units) (journals.units.encode bad) rest)
+            ∙ ap (λ xs. xs ++ rest) (sym opened) ∙ ap (λ xs. encode_all journals.units first ++ xs) on.whole
+            ∙ sym (append_assoc (encode_all journals.units first) (encode_all journals.units tail.0) on.rest) ∙ ap (λ xs. xs ++ on.rest) (sym joined);
         each = All-append journals.units.IsLawful first tail.0 (All-push journals.units.IsLawful units bad each lawful) on.each;
         none = on.none;
-        ends = subst (λ (n : ℕ). EndsAs journals More on.rest n tail.1) (omega (arith, ap length joined, length-append (spell_all journals.units first) (spell_all journals.units tail.0))) on.ends;
+        ends = subst (λ (n : ℕ). EndsAs journals More on.rest n tail.1) (omega (arith, ap length joined, length-append (encode_all journals.units first) (encode_all journals.units tail.0))) on.ends;
       }),
     )
 
@@ -120,13 +120,13 @@ some_fault version place more bytes start Memory before after goes begins none =
       market = goes.middle.market;
       journal = record { each = are.each; steps = subst (λ (m : Market). Follows IsReadAs IsAdmissibleOutcome m are.legal goes.middle.market) begins are.steps };
       lawful = off.lawful;
-      begins = goes.begins ∙ ap (λ units. spell_all journals.units units ++ goes.left) are.parts ∙ ap (λ left. spell_all journals.units (map records_of are.legal) ++ left) off.front;
+      begins = goes.begins ∙ ap (λ units. encode_all journals.units units ++ goes.left) are.parts ∙ ap (λ left. encode_all journals.units (map records_of are.legal) ++ left) off.prefix;
       allocates = off.broken;
     }
 some_fault version place more bytes start (Illegal number) before after goes begins none =
     let are = are_legal start goes.middle before goes.between goes.units goes.each goes.leads in
     let off = goes.breaks in
-    let on = read_more place (IsTrue more) (told more) bytes goes.left off.rest goes.units off.unit goes.begins goes.each off.lawful off.front in
+    let on = read_more place (IsTrue more) (told more) bytes goes.left off.rest goes.units off.unit goes.begins goes.each off.lawful off.prefix in
     record {
       legal = are.legal;
       bad = off.unit;

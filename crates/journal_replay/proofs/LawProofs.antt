@@ -4,7 +4,7 @@ use Rattle.std.proofs.lemmas.Bool.{cases_lt}
 use Rattle.std.proofs.lemmas.List.{take_all, append-nil}
 use Rattle.wire_records.specs.Records.{Record}
 use Rattle.wire_records.specs.Commands.{Pair}
-use Rattle.wire_records.specs.Grammars.{spell_all}
+use Rattle.wire_records.specs.Grammars.{encode_all}
 use Rattle.wire_records.specs.Reading.{Ending, End, Torn, TooLong, NotFlow, File, Reads}
 use Rattle.wire_records.specs.declared.version.Version.{Version}
 use Rattle.wire_records.proofs.ReadingLaws.{reads_one}
@@ -35,9 +35,9 @@ to_legal limit bytes pairs market audits =
     let magic = journal_magic_of audits.version in
     let short = within limit bytes on.ends.1 in
     let same : audits.units ≡ map records_of pairs = audits.judged.parts ∙ append-nil (map records_of pairs) in
-    let whole : bytes ≡ magic ++ spell_all journals.units (map records_of pairs) =
+    let whole : bytes ≡ magic ++ encode_all journals.units (map records_of pairs) =
     sym (take_all limit bytes short) ∙ audits.reads.1.1
-    ∙ ap (λ xs. magic ++ xs) (on.whole ∙ ap (λ xs. spell_all journals.units audits.units ++ xs) on.ends.2 ∙ append-nil (spell_all journals.units audits.units) ∙ ap (spell_all journals.units) same)
+    ∙ ap (λ xs. magic ++ xs) (on.whole ∙ ap (λ xs. encode_all journals.units audits.units ++ xs) on.ends.2 ∙ append-nil (encode_all journals.units audits.units) ∙ ap (encode_all journals.units) same)
     in
     (audits.version, audits.judged.journal, whole ∙ sym (journal_is_file.file audits.version pairs), short)
 
@@ -84,8 +84,8 @@ illegal n = Err (Illegal n)
 abbrev Answered : List ℕ → Result Market ReplayFault → Type 0
 Answered bytes answer =
     (Reads journals (length bytes) bytes NotFlow × (answer ≡ Err NotJournal))
-    ⊎ ((legal : List (Pair Record Outcome)) × (behind : List (Record × Record)) × (ending : Ending) × (market : Market) × Audits (length bytes) bytes legal behind ending market
-    × (answer ≡ answer_for (length legal) behind ending market))
+    ⊎ ((legal : List (Pair Record Outcome)) × (following : List (Record × Record)) × (ending : Ending) × (market : Market) × Audits (length bytes) bytes legal following ending market
+    × (answer ≡ answer_for (length legal) following ending market))
 
 answered : (bytes : List ℕ) (answer : Result Market ReplayFault) → answer ≢ Err Memory → IsReplayed bytes answer → Answered bytes answer
 answered bytes (Ok market) some replayed = inr (replayed.0, [], End, market, replayed.1, refl)

@@ -18,8 +18,8 @@ pub begins_with_magic : (version : Version) (bytes : List ℕ) → (body : List 
 begins_with_magic version bytes (body, begins) = ap (take 8) begins.1 ∙ take_at (journal_magic_of version) body 8 (eight version)
 
 -- the bytes after its magic are the others
-pub behind_magic : (version : Version) (bytes body : List ℕ) → BeginsWith journals.magics bytes version body → body ≡ drop 8 bytes
-behind_magic version bytes body begins = sym (drop_at (journal_magic_of version) body 8 (eight version)) ∙ ap (drop 8) (sym begins.1)
+pub after_magic : (version : Version) (bytes body : List ℕ) → BeginsWith journals.magics bytes version body → body ≡ drop 8 bytes
+after_magic version bytes body begins = sym (drop_at (journal_magic_of version) body 8 (eight version)) ∙ ap (drop 8) (sym begins.1)
 
 -- bytes that begin as a journal have eight bytes at least
 pub begins_with_eight : (version : Version) (bytes : List ℕ) → (body : List ℕ) × BeginsWith journals.magics bytes version body → 8 ≤ length bytes
@@ -30,9 +30,9 @@ none_more : (n : ℕ) → IsTrue false ↔ (n < n)
 none_more n = (λ e. absurd (let no = e in cc), λ less. absurd (omega (arith, less)))
 
 -- an audit of the entries after the magic of complete bytes is an audit of the bytes
-pub audits_all : (version : Version) (bytes : List ℕ) (legal : List (Pair Record Outcome)) (behind : List (Record × Record)) (ending : Ending) (market : Market)
-    → (body : List ℕ) × BeginsWith journals.magics bytes version body → AuditsOn version 8 (IsTrue false) (drop 8 bytes) legal behind ending market → Audits (length bytes) bytes legal behind ending market
-audits_all version bytes legal behind ending market (body, begins) on =
+pub audits_all : (version : Version) (bytes : List ℕ) (legal : List (Pair Record Outcome)) (following : List (Record × Record)) (ending : Ending) (market : Market)
+    → (body : List ℕ) × BeginsWith journals.magics bytes version body → AuditsOn version 8 (IsTrue false) (drop 8 bytes) legal following ending market → Audits (length bytes) bytes legal following ending market
+audits_all version bytes legal following ending market (body, begins) on =
     let here = reads_alike journals (IsTrue false) (length bytes < length bytes) 8 (drop 8 bytes) on.units ending (none_more (length bytes)) on.reads in
     record {
       version = version;
@@ -40,7 +40,7 @@ audits_all version bytes legal behind ending market (body, begins) on =
       reads = (
         body,
         (tt, take_all (length bytes) bytes (omega arith) ∙ begins.1),
-        rw (eight version, behind_magic version bytes body begins) here,
+        rw (eight version, after_magic version bytes body begins) here,
       );
       judged = on.judged;
     }

@@ -12,18 +12,18 @@ use Rattle.batch_audit.specs.Legal.{AreJudged}
 
 -- The bytes from a place on are, in a version, these valid entries and those after them, of which the first is invalid;
 -- and the reading ends so.
-pub record AuditsOn (version : Version) (place : ℕ) (More : Type 0) (bytes : List ℕ) (legal : List (Pair Record Outcome)) (behind : List (Record × Record)) (ending : Ending) (market : Market) : Type 0 where
+pub record AuditsOn (version : Version) (place : ℕ) (More : Type 0) (bytes : List ℕ) (legal : List (Pair Record Outcome)) (following : List (Record × Record)) (ending : Ending) (market : Market) : Type 0 where
   pub units : List (Record × Record)
   pub reads : ReadsOn journals place More bytes units ending
-  pub judged : AreJudged version units legal behind market
+  pub judged : AreJudged version units legal following market
 
 -- The first `limit` bytes are the magic of a journal of a version, these valid entries, and those after them, of which
 -- the first is invalid.
-pub record Audits (limit : ℕ) (bytes : List ℕ) (legal : List (Pair Record Outcome)) (behind : List (Record × Record)) (ending : Ending) (market : Market) : Type 0 where
+pub record Audits (limit : ℕ) (bytes : List ℕ) (legal : List (Pair Record Outcome)) (following : List (Record × Record)) (ending : Ending) (market : Market) : Type 0 where
   pub version : Version
   pub units : List (Record × Record)
   pub reads : Reads journals limit bytes (File version units ending)
-  pub judged : AreJudged version units legal behind market
+  pub judged : AreJudged version units legal following market
 
 -- 1 for a batch that cleared, and 0 for any other answer
 abbrev pub cleared_by : Answer Outcome → ℕ

@@ -2,7 +2,7 @@
 use Rattle.std.specs.Prelude.{◌≡◌, ◌+◌, ℕ, List, [], ◌∷◌, ◌++◌, map, length, Result, Ok, Err}
 use Rattle.wire_records.specs.Records.{Record}
 use Rattle.wire_records.specs.Commands.{Pair}
-use Rattle.wire_records.specs.Grammars.{BeginsWith, spell_all}
+use Rattle.wire_records.specs.Grammars.{BeginsWith, encode_all}
 use Rattle.wire_records.specs.Reading.{Ending, End, NotFlow, Reads}
 use Rattle.wire_records.specs.Reading as reading
 use Rattle.wire_records.specs.declared.version.Version.{Version}
@@ -42,7 +42,7 @@ pub record FindsAllocating (version : Version) (bytes : List ℕ) : Type 0 where
   pub market : Market
   pub journal : IsLegalJournal version legal market
   pub lawful : journals.units.IsLawful next
-  pub begins : bytes ≡ spell_all journals.units (map records_of legal) ++ (journals.units.spell next ++ rest)
+  pub begins : bytes ≡ encode_all journals.units (map records_of legal) ++ (journals.units.encode next ++ rest)
   pub allocates : RecordMayAllocate market next.0
 
 -- what an audit found, by the fault that it returns
@@ -63,9 +63,9 @@ pub record HasIllegal (limit : ℕ) (bytes : List ℕ) (number : ℕ) : Type 0 w
 -- the bytes are the magic of a version, valid entries, and one after them whose command may allocate
 pub record HasAllocation (bytes : List ℕ) : Type 0 where
   pub version : Version
-  pub behind : List ℕ
-  pub begins : BeginsWith journals.magics bytes version behind
-  pub finds : FindsAllocating version behind
+  pub following : List ℕ
+  pub begins : BeginsWith journals.magics bytes version following
+  pub finds : FindsAllocating version following
 
 -- what a replay of all the bytes returns: the market of a valid journal; or that an entry isn't complete, with the
 -- place of its first byte, or isn't valid, whichever comes first; or that memory ran out after valid entries, at

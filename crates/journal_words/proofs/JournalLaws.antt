@@ -13,7 +13,7 @@ use Rattle.journal_records.specs.Pairs.{IsPair}
 use Rattle.journal_records.specs.Formats.{journal_magic_of, journals, records_of}
 use Rattle.journal_records.proofs.Files.{eight}
 use Rattle.journal_records.proofs.Files.{journals_readable, short_at_end}
-use Rattle.journal_records.proofs.Spelled.{answer_unique}
+use Rattle.journal_records.proofs.Encoded.{answer_unique}
 use Rattle.market_rules.specs.Market.{Market, empty_market, IsConsistent}
 use Rattle.market_rules.specs.Journal.{Follows}
 use Rattle.market_rules.proofs.LawProofs.{journals_stay_consistent, steps_keep_consistency}
@@ -101,8 +101,8 @@ module _ {S B : Type 0} (watch : Watch S B) where
       let pair : Pair Record Outcome = record { asked = unit.0; answer = one.legal.answer } in
       record {
         legal = pair ∷ rest.legal;
-        parts = ap (λ xs. unit ∷ xs) rest.parts ∙ ap (λ (r : Record). (unit.0, r) ∷ map records_of rest.legal) one.legal.spelled.spelled;
-        each = All-cons IsPair pair rest.legal (record { asked = lawful.0; answer = one.legal.spelled.fits; answered = rw (← one.legal.spelled.spelled) lawful.1 }) rest.each;
+        parts = ap (λ xs. unit ∷ xs) rest.parts ∙ ap (λ (r : Record). (unit.0, r) ∷ map records_of rest.legal) one.legal.encoded.encoded;
+        each = All-cons IsPair pair rest.legal (record { asked = lawful.0; answer = one.legal.encoded.fits; answered = rw (← one.legal.encoded.encoded) lawful.1 }) rest.each;
         steps = (goes.0.market, one.legal.step, rest.steps);
         pairs = omega (arith, rest.pairs, one.counted);
       }
@@ -165,7 +165,7 @@ same_counts t r c s =
 
 one_count : (pair : Record × Record) (s t r : Counts) → CountsOne pair s t → CountsOne pair s r → t ≡ r
 one_count pair s t r a b =
-    let same = answer_unique a.answer b.answer a.spelled.fits b.spelled.fits (sym a.spelled.spelled ∙ b.spelled.spelled) in
+    let same = answer_unique a.answer b.answer a.encoded.fits b.encoded.fits (sym a.encoded.encoded ∙ b.encoded.encoded) in
     same_counts t r (a.cleared ∙ ap (λ (z : Answer Outcome). s.cleared + cleared_by z) same ∙ sym b.cleared) (a.skipped ∙ ap (λ (z : Answer Outcome). s.skipped + skipped_by z) same ∙ sym b.skipped)
 
 counting_is_exact : IsExactWatch counting
@@ -215,7 +215,7 @@ some_count : (old new : Market) (n : ℕ) (pair : Record × Record) (s : Counts)
 some_count old new n pair s legal = (
   record { cleared = s.cleared + cleared_by legal.answer; skipped = s.skipped + skipped_by legal.answer },
   [],
-  (record { answer = legal.answer; spelled = legal.spelled; cleared = refl; skipped = refl }, refl),
+  (record { answer = legal.answer; encoded = legal.encoded; cleared = refl; skipped = refl }, refl),
 )
 
 counting_has_sight : HasSight counting

@@ -51,10 +51,10 @@ tells_order number old new asked (Err why) read served step = absurd (order_plai
 
 -- a step has its text
 step_tells : (old new : Market) (asked : Record) (a : Answer Outcome) → Step IsReadAs IsAdmissibleOutcome old asked a new → (text : List ℕ) × Tells new asked a text
-step_tells old new asked (Plain reply.Done) step = tells_done old new asked step.read step.spelled step.served step
+step_tells old new asked (Plain reply.Done) step = tells_done old new asked step.read step.encoded step.served step
 step_tells old new asked (Plain (reply.Asset asset)) step = (_, refl)
 step_tells old new asked (Plain (reply.Account account)) step = (_, refl)
-step_tells old new asked (Plain (reply.Order order)) step = tells_order order old new asked step.read step.spelled step.served step
+step_tells old new asked (Plain (reply.Order order)) step = tells_order order old new asked step.read step.encoded step.served step
 step_tells old new asked (Plain (reply.Refused refusal)) step = (_, refl)
 step_tells old new asked (Batch batch (Cleared c)) step = (_, refl)
 step_tells old new asked (Batch batch (Skipped s)) step = (_, refl)
@@ -62,4 +62,4 @@ step_tells old new asked (Batch batch (Skipped s)) step = (_, refl)
 pub some_text : (old new : Market) (number : ℕ) (pair : Record × Record) → IsLegalPair old pair new → (text : List ℕ) × IsReport new number pair text
 some_text old new number pair legal =
     let tells = step_tells old new pair.0 legal.answer legal.step in
-    (decimal number ++ (codes " " ++ tells.0), record { answer = legal.answer; told = tells.0; spelled = legal.spelled; tells = tells.1; numbered = refl })
+    (decimal number ++ (codes " " ++ tells.0), record { answer = legal.answer; told = tells.0; encoded = legal.encoded; tells = tells.1; numbered = refl })

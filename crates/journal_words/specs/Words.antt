@@ -3,7 +3,7 @@ use Rattle.std.specs.Prelude.{◌≡◌, ◌+◌, ℕ, []}
 use Rattle.wire_records.specs.Records.{Record}
 use Rattle.wire_records.specs.Commands.{Answer}
 use Rattle.flow_orders.specs.Outcomes.{Outcome}
-use Rattle.journal_records.specs.Replies.{SpellsAnswer}
+use Rattle.journal_records.specs.Replies.{EncodesAnswer}
 use Rattle.market_rules.specs.Market.{Market}
 use Rattle.market_rules.specs.Allocating.{RecordMayAllocate}
 use Rattle.journal_replay.specs.Audits.{cleared_by, skipped_by}
@@ -21,7 +21,7 @@ pub record Counts : Type 0 where
 -- an entry is counted by the answer that its reply encodes
 pub record CountsOne (pair : Record × Record) (old new : Counts) : Type 0 where
   pub answer : Answer Outcome
-  pub spelled : SpellsAnswer pair.1 answer
+  pub encoded : EncodesAnswer pair.1 answer
   pub cleared : new.cleared ≡ old.cleared + cleared_by answer
   pub skipped : new.skipped ≡ old.skipped + skipped_by answer
 

@@ -12,6 +12,7 @@ pub(crate) struct Asked {
     pub(crate) calls: u32,
     pub(crate) fails: u64,
     pub(crate) stops: bool,
+    pub(crate) lines: bool,
 }
 
 impl Asked {
@@ -27,6 +28,7 @@ impl Asked {
             calls: 1000,
             fails: 0,
             stops: false,
+            lines: false,
         }
     }
 
@@ -44,6 +46,7 @@ impl Asked {
             "calls" => self.calls = number,
             "fails" => self.fails = number as u64,
             "stops" => self.stops = number > 0,
+            "lines" => self.lines = number > 0,
             _ => return None,
         }
         Some(())

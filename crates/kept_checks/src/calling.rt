@@ -3,7 +3,7 @@ use crate::asked::Asked;
 use crate::counting::Counts;
 use check_lines::Told;
 use flow_exchange::Status;
-use kept_exchange::{flow_disk, flow_disk_limited};
+use kept_exchange::{flow_disk, flow_disk_limited, flow_lines, flow_lines_limited};
 use memory_disk::MemoryDisk;
 use memory_streams::{MemorySink, MemorySource};
 use std::alloc::Global;
@@ -55,18 +55,24 @@ fn disk_of(alloc: Global, bytes: &[u8], calls: u32, fails: u64) -> Option<Memory
     MemoryDisk::new(alloc, bytes.to_vec(alloc).ok()?, ROOM, calls, fails).ok()
 }
 
-// Makes the call with this source, this disk and these sinks.
+// Makes the call of a subcommand with this source, this disk and these sinks.
 fn call(
     alloc: Global,
-    limit: Option<u64>,
+    asked: &Asked,
     source: &mut MemorySource,
     disk: &mut MemoryDisk,
     out: &mut MemorySink,
     notes: &mut MemorySink,
 ) -> Status {
-    match limit {
-        Some(limit) => flow_disk_limited(alloc, limit.min(1 << 32), source, disk, out, notes),
-        None => flow_disk(alloc, source, disk, out, notes),
+    match (asked.limit, asked.lines) {
+        (Some(limit), false) => {
+            flow_disk_limited(alloc, limit.min(1 << 32), source, disk, out, notes)
+        }
+        (Some(limit), true) => {
+            flow_lines_limited(alloc, limit.min(1 << 32), source, disk, out, notes)
+        }
+        (None, false) => flow_disk(alloc, source, disk, out, notes),
+        (None, true) => flow_lines(alloc, source, disk, out, notes),
     }
 }
 
@@ -76,14 +82,7 @@ fn end_of(alloc: Global, asked: &Asked, held: &[u8], given: &[u8]) -> Option<End
     let mut out = sink_of(alloc, MOST_OUT, asked.out)?;
     let mut notes = sink_of(alloc, MOST_NOTES, asked.notes)?;
     let mut disk = disk_of(alloc, held, asked.calls, asked.fail)?;
-    let status = call(
-        alloc,
-        asked.limit,
-        &mut source,
-        &mut disk,
-        &mut out,
-        &mut notes,
-    );
+    let status = call(alloc, asked, &mut source, &mut disk, &mut out, &mut notes);
     Some(Ended {
         status,
         out,
@@ -114,13 +113,17 @@ pub(crate) fn put_digits(alloc: Global, bytes: &[u8], told: &mut Told) {
 }
 
 // Appends how a call ended, and what it left.
-fn put_ended(alloc: Global, ended: &Ended, told: &mut Told) {
+fn put_ended(alloc: Global, asked: &Asked, ended: &Ended, told: &mut Told) {
     told.put_number(" ", i128::from(ended.status.exit()));
     told.put_number(", ", ended.out.bytes().len() as i128);
     told.put(" bytes");
     put_note(ended.notes.bytes(), told);
     told.put("\n");
-    told.put_records(ended.out.bytes(), 64);
+    if asked.lines {
+        told.put_text(ended.out.bytes());
+    } else {
+        told.put_records(ended.out.bytes(), 64);
+    }
     told.put("  disk ");
     put_digits(alloc, ended.disk.bytes(), told);
 }
@@ -221,7 +224,7 @@ pub(crate) fn put_case(alloc: Global, options: &str, bytes: &[u8], told: &mut To
         return put_counts(alloc, &asked, held, given, told);
     }
     match end_of(alloc, &asked, held, given) {
-        Some(ended) => put_ended(alloc, &ended, told),
+        Some(ended) => put_ended(alloc, &asked, &ended, told),
         None => told.give_up(),
     }
 }

@@ -6,6 +6,7 @@
 //!
 //! | option | what it says |
 //! |---|---|
+//! | `lines=1` | the source has lines of JSON, which `serve` answers; else records, for `keep` |
 //! | `disk=N` | so many of the bytes are the disk's; else none |
 //! | `limit=N` | the most bytes of the source that are considered; else 2^32 |
 //! | `read=N`, `out=N`, `notes=N` | the read, the write to the output or the write to standard error that fails, counted from 1 |
@@ -15,7 +16,7 @@
 //! | `stops=1` | the call is made, and then once more on what a stop in each of the disk's calls leaves: of each write that isn't synced the first 0, 1 or 3 bytes, and 00, 01 or FF in place of the rest |
 //!
 //! Printed are the options, the number that the program would exit with, how many bytes were written, the line on standard error, if there
-//! is one, the records in the output, and what the disk holds. With `fails` and `stops` it is printed how often each number came with each
+//! is one, the records or the lines in the output, and what the disk holds. With `fails` and `stops` it is printed how often each number came with each
 //! output.
 //!
 //! What is in `stdout` comes from the formats of the files and the rules of the market, by hand.

@@ -1,5 +1,12 @@
+mod AsStatus
 mod OneStatus
 mod SomeStatus
-mod AsStatus
+mod OneLinesStatus
+mod SomeLinesStatus
+mod Ends
 mod Serving
+mod ServingLines
+mod Refusing
+mod Determined
+mod Following
 mod TwoWords

@@ -1,4 +1,5 @@
 pub mod Words
 pub mod Statuses
 pub mod Keeping
+pub mod Lines
 pub mod Laws

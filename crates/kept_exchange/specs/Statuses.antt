@@ -1,7 +1,8 @@
--- Which status keeping a journal ends with.
-use Rattle.std.specs.Prelude.{◌≡◌, ◌⊎◌, ℕ, List, take, Result, Ok, Err}
+-- Which status keeping a journal, and serving lines, ends with: by its result, and by the bytes of the disk and of the source.
+use Rattle.std.specs.Prelude.{◌≡◌, ◌⊎◌, ◌<◌, ◌≤◌, ℕ, List, length, take, Result, Ok, Err}
 use Rattle.wire_records.specs.Records.{Record}
 use Rattle.wire_records.specs.Reading.{Reading, NotFlow, File, Reads}
+use Rattle.market_snapshot.specs.Checkpoints.{HasCheckpointMagic}
 use Rattle.market_history.specs.Histories.{Start}
 use Rattle.journal_keeping.specs.Starts.{version_of, sources, BeginsUnsound}
 use Rattle.journal_keeping.specs.declared.fault.KeepFault.{KeepFault}
@@ -45,3 +46,22 @@ OpensTo limit bytes (Legal begin pairs market) ends =
 -- the bytes of a disk and of a source lead to this status, if no call fails and memory doesn't run out
 abbrev pub AsksStatus : ℕ → List ℕ → List ℕ → Status → Type 0
 AsksStatus limit held bytes ends = (opening : Opening) × IsOpening held opening × OpensTo limit bytes opening ends
+
+-- the status at the end of the lines: the input has at most the limit, or more
+abbrev pub IsEnd : ℕ → List ℕ → Status → Type 0
+IsEnd limit bytes ends = ((length bytes ≤ limit) × (ends ≡ status.Done)) ⊎ ((limit < length bytes) × (ends ≡ status.TooLong limit))
+
+-- The status after a disk was opened so: a disk that is refused has a status of its own. An input that begins with the magic of a checkpoint is none for a disk
+-- that isn't new, and for a new one has to begin with the checkpoint of a consistent market. Any other is served to its end.
+abbrev pub LinesOpenTo : ℕ → List ℕ → Opening → Status → Type 0
+LinesOpenTo limit bytes Foreign ends = ends ≡ status.NotDisk
+LinesOpenTo limit bytes (Damaged place) ends = ends ≡ status.Damaged place
+LinesOpenTo limit bytes (Rejected number) ends = ends ≡ status.Rejected number
+LinesOpenTo limit bytes New ends =
+    (BeginsUnsound (take limit bytes) × (ends ≡ status.BadCheckpoint)) ⊎ ((¬ BeginsUnsound (take limit bytes)) × IsEnd limit bytes ends)
+LinesOpenTo limit bytes (Legal begin pairs market) ends =
+    (HasCheckpointMagic (take limit bytes) × (ends ≡ status.NotFlow)) ⊎ ((¬ HasCheckpointMagic (take limit bytes)) × IsEnd limit bytes ends)
+
+-- the bytes of a disk and of an input lead to this status, if no call fails and memory doesn't run out
+abbrev pub LinesAskStatus : ℕ → List ℕ → List ℕ → Status → Type 0
+LinesAskStatus limit held bytes ends = (opening : Opening) × IsOpening held opening × LinesOpenTo limit bytes opening ends

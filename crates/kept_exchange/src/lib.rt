@@ -7,8 +7,10 @@
 
 mod ending;
 pub mod laws;
+mod lines;
 mod top;
 mod words;
 
+pub use lines::{flow_lines, flow_lines_limited};
 pub use top::{flow_disk, flow_disk_limited};
-pub use words::kept_file;
+pub use words::{kept_file, served_file};

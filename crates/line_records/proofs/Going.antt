@@ -5,16 +5,16 @@ use Rattle.std.proofs.lemmas.Grind.{flat_map-append}
 use Rattle.std.proofs.lemmas.List.Elements.{All-push}
 use Rattle.memchr.specs.Find.{IsFirstByte, is_byte}
 use Rattle.flow_io.specs.Streams.{Grows}
-use Rattle.wire_records.specs.Records.{spelling}
+use Rattle.wire_records.specs.Records.{encoding}
 use Rattle.wire_records.specs.Commands.{Command}
 use Rattle.wire_records.specs.CommandRecords.{record_of}
 use Rattle.line_records.specs.declared.encode.EncodeFault.{EncodeFault}
 use Rattle.line_records.specs.declared.encode.EncodeFault.TheVariants.{NoCommand, Write, Memory}
-use Rattle.line_records.specs.Lines.{IsPiece, ended_by_feeds, AreLines, Say, spell_commands}
+use Rattle.line_records.specs.Lines.{IsPiece, ended_by_feeds, AreLines, Say, encode_commands}
 use Rattle.line_records.specs.Encoded.{HasEncoded, IsEncoded}
 use Rattle.line_records.specs.Private.{EncodesLine, IsLineEncoded, IsRecordWritten, AreWritten}
 use Rattle.flow_io.proofs.Growth.{Grows-more, GrowsByPrefix-more}
-use Rattle.line_records.proofs.Pieces.{ended_lines, line_found, no_line_found, lines_behind, told}
+use Rattle.line_records.proofs.Pieces.{ended_lines, line_found, no_line_found, lines_after, told}
 use Rattle.line_records.proofs.Saying.{say_more, no_more}
 use Rattle.wire_records.specs.declared.version.Version.{Version}
 use Rattle.order_text.specs.Lines.{Asked, Alone, commands_of, Says}
@@ -36,8 +36,8 @@ pub not_where : (more : Bool) → more ≡ false → ¬ IsTrue more
 not_where more no_is is = true≢false (sym is ∙ no_is)
 
 -- records of more commands
-records_more : (commands more : List Command) → spell_commands (commands ++ more) ≡ spell_commands commands ++ spell_commands more
-records_more commands more = flat_map-append (λ command. spelling (record_of command)) commands more
+records_more : (commands more : List Command) → encode_commands (commands ++ more) ≡ encode_commands commands ++ encode_commands more
+records_more commands more = flat_map-append (λ command. encoding (record_of command)) commands more
 
 -- the text, with one line more of it that is ended
 line_ended : (text : List ℕ) (place size : ℕ) (ended : List (List ℕ)) → text ≡ ended_by_feeds ended ++ drop place text → IsFirstByte (is_byte 10) (drop place text) (Some size)
@@ -45,9 +45,9 @@ line_ended : (text : List ℕ) (place size : ℕ) (ended : List (List ℕ)) → 
 line_ended text place size ended whole first =
     let line = take size (drop place text) in
     let found = line_found (drop place text) size first in
-    whole ∙ ap (λ xs. ended_by_feeds ended ++ xs) (found.0.1 ∙ ap (λ xs. ended_lines.spell line ++ xs) (drop-drop (size + 1) place text))
-    ∙ sym (append_assoc (ended_by_feeds ended) (ended_lines.spell line) (drop (place + (size + 1)) text))
-    ∙ ap (λ xs. xs ++ drop (place + (size + 1)) text) (flat_map_more ended_lines.spell [] ended line)
+    whole ∙ ap (λ xs. ended_by_feeds ended ++ xs) (found.0.1 ∙ ap (λ xs. ended_lines.encode line ++ xs) (drop-drop (size + 1) place text))
+    ∙ sym (append_assoc (ended_by_feeds ended) (ended_lines.encode line) (drop (place + (size + 1)) text))
+    ∙ ap (λ xs. xs ++ drop (place + (size + 1)) text) (flat_map_more ended_lines.encode [] ended line)
 
 module _ (version : Version) where
   -- a line alone
@@ -64,9 +64,9 @@ module _ (version : Version) where
 
   -- one record is that of one command
   alone_written : (command : Command) (result : Result (Unit {0}) EncodeFault) (before after : Option (List ℕ)) → IsRecordWritten command result before after → AreWritten (command ∷ []) result before after
-  alone_written command (Ok done) before after is = rw (append-nil (spelling (record_of command))) is
+  alone_written command (Ok done) before after is = rw (append-nil (encoding (record_of command))) is
   alone_written command (Err (NoCommand bad)) before after is = is
-  alone_written command (Err Write) before after is = rw (append-nil (spelling (record_of command))) is
+  alone_written command (Err Write) before after is = rw (append-nil (encoding (record_of command))) is
   alone_written command (Err Memory) before after is = is
 
   pub command_encoded : (tickers : List (List ℕ)) (line : List ℕ) (number : ℕ) (command : Command) (next : List (List ℕ)) (result : Result (Unit {0}) EncodeFault) (before after : Option (List ℕ)) → Says version tickers line (Alone command) next
@@ -82,7 +82,7 @@ module _ (version : Version) (known : List (List ℕ)) where
     pub whole : text ≡ ended_by_feeds ended ++ drop place text
     pub pieces : All IsPiece ended
     pub say : Say version known ended commands tickers
-    pub written : Grows before after (spell_commands commands)
+    pub written : Grows before after (encode_commands commands)
     pub counted : number ≡ length ended + 1
     pub few : length ended ≤ place
     pub within : place ≤ length text
@@ -101,7 +101,7 @@ module _ (version : Version) (known : List (List ℕ)) where
         whole = line_ended text place size so.ended so.whole first;
         pieces = All-push IsPiece so.ended line so.pieces found.0.0;
         say = say_more version known tickers next so.ended (line ∷ []) so.commands one.commands so.say one.say;
-        written = rw (records_more so.commands one.commands) (Grows-more before between after (spell_commands so.commands) (spell_commands one.commands) so.written one.written);
+        written = rw (records_more so.commands one.commands) (Grows-more before between after (encode_commands so.commands) (encode_commands one.commands) so.written one.written);
         counted = omega (arith, so.counted, length-append so.ended (line ∷ []));
         few = omega (arith, so.few, length-append so.ended (line ∷ []));
         within = omega (arith, left, found.1, so.within);
@@ -130,14 +130,14 @@ module _ (version : Version) (known : List (List ℕ)) where
         more = rest;
         tickers = next;
         split = split;
-        front = sym (append_assoc so.ended (line ∷ []) rest);
+        prefix = sym (append_assoc so.ended (line ∷ []) rest);
         say = say_more version known tickers next so.ended (line ∷ []) so.commands (commands_of at.0) so.say (one_line version tickers line at.0 next at.1);
       },
-      rw (records_more so.commands (commands_of at.0)) (GrowsByPrefix-more before between after (spell_commands so.commands) (spell_commands (commands_of at.0)) so.written at.2),
+      rw (records_more so.commands (commands_of at.0)) (GrowsByPrefix-more before between after (encode_commands so.commands) (encode_commands (commands_of at.0)) so.written at.2),
     )
     stopped Memory at = (
       so.commands,
-      record { lines = so.ended ++ line ∷ rest; read = so.ended; next = line; more = rest; tickers = tickers; split = split; front = refl; say = so.say; written = at.0 },
+      record { lines = so.ended ++ line ∷ rest; read = so.ended; next = line; more = rest; tickers = tickers; split = split; prefix = refl; say = so.say; written = at.0 },
       rw at.1 so.written,
     )
 
@@ -153,7 +153,7 @@ module _ (version : Version) (known : List (List ℕ)) where
         say = say_more version known tickers next so.ended (line ∷ []) so.commands one.commands so.say one.say;
         stops = ap (λ xs. so.ended ++ line ∷ xs) none;
       };
-      written = rw (records_more so.commands one.commands) (Grows-more before between after (spell_commands so.commands) (spell_commands one.commands) so.written one.written);
+      written = rw (records_more so.commands one.commands) (Grows-more before between after (encode_commands so.commands) (encode_commands one.commands) so.written one.written);
     }
 
   -- a line that is ended stopped it
@@ -162,8 +162,8 @@ module _ (version : Version) (known : List (List ℕ)) where
   stopped_within more text place size number tickers next before between after fault so first at =
       let line = take size (drop place text) in
       let pieces = All-push IsPiece so.ended line so.pieces (line_found (drop place text) size first).0.0 in
-      let behind = lines_behind (IsTrue more) (told more) text (drop (place + (size + 1)) text) (so.ended ++ line ∷ []) (line_ended text place size so.ended so.whole first) pieces in
-      stopped (IsTrue more) text place number tickers next before between after so line behind.0 (subst (λ lines. AreLines (IsTrue more) text lines) (append_assoc so.ended (line ∷ []) behind.0) behind.1) fault
+      let following = lines_after (IsTrue more) (told more) text (drop (place + (size + 1)) text) (so.ended ++ line ∷ []) (line_ended text place size so.ended so.whole first) pieces in
+      stopped (IsTrue more) text place number tickers next before between after so line following.0 (subst (λ lines. AreLines (IsTrue more) text lines) (append_assoc so.ended (line ∷ []) following.0) following.1) fault
       (subst (λ n. IsLineEncoded version tickers (take n (drop place text)) number next (Err fault) between after) (slice_size place size) at)
 
   -- there is no line after the last line feed

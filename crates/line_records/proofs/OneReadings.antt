@@ -47,12 +47,12 @@ module _ (version : Version) (known : List (List ℕ)) where
   pub first_is_a_prefix : (More : Type 0) → FirstIsAPrefix version known More
   first_is_a_prefix More bytes bad first commands a b =
       let y = rest_of b.tickers b.read b.lines bad b.stops in
-      let on = goes_on version known a.read a.more b.read y.more first commands a.tickers b.tickers (sym a.front ∙ one_split More bytes a.lines b.lines a.split b.split ∙ y.all) a.say b.say y.stops in
+      let on = goes_on version known a.read a.more b.read y.more first commands a.tickers b.tickers (sym a.prefix ∙ one_split More bytes a.lines b.lines a.split b.split ∙ y.all) a.say b.say y.stops in
       (on.asked, on.commands_are)
 
   -- the lines before one that isn't blank are first lines
   pub before_next : (More : Type 0) (bytes : List ℕ) (commands : List Command) → HaveNext version known More bytes commands → AreFirst version known More bytes commands
-  before_next More bytes commands at = record { lines = at.lines; read = at.read; more = at.next ∷ at.more; tickers = at.tickers; split = at.split; front = at.front; say = at.say }
+  before_next More bytes commands at = record { lines = at.lines; read = at.read; more = at.next ∷ at.more; tickers = at.tickers; split = at.split; prefix = at.prefix; say = at.say }
 
   -- if it is known whether there is more, there is a reading
   unread_where : (More : Type 0) (bytes : List ℕ) → ((bad : Option ℕ) (commands : List Command) → AreRead version known More bytes bad commands → ⊥) → More ⊎ (¬ More) → ⊥

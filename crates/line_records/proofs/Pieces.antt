@@ -11,7 +11,7 @@ use Rattle.line_records.specs.Lines.{IsPiece, ended_by_feeds, AreLines}
 
 -- a line, and the line feed that ends it
 abbrev pub ended_lines : Grammar (List ℕ)
-ended_lines = record { IsLawful = IsPiece; spell = λ piece. piece ++ 10 ∷ [] }
+ended_lines = record { IsLawful = IsPiece; encode = λ piece. piece ++ 10 ∷ [] }
 
 -- a piece begins with no line that is ended
 pub none_in_piece : (bytes : List ℕ) → IsPiece bytes → BeginsWithNone ended_lines bytes
@@ -115,13 +115,13 @@ all_lines More more bytes ended last whole pieces piece =
     ]
 
 -- all lines, if the first ones are known
-pub lines_behind : (More : Type 0) → More ⊎ (¬ More) → (bytes behind : List ℕ) (ended : List (List ℕ)) → bytes ≡ ended_by_feeds ended ++ behind → All IsPiece ended
+pub lines_after : (More : Type 0) → More ⊎ (¬ More) → (bytes following : List ℕ) (ended : List (List ℕ)) → bytes ≡ ended_by_feeds ended ++ following → All IsPiece ended
     → (rest : List (List ℕ)) × AreLines More bytes (ended ++ rest)
-lines_behind More more bytes behind ended whole pieces =
-    let parts = parted ended_lines ended_code behind in
+lines_after More more bytes following ended whole pieces =
+    let parts = parted ended_lines ended_code following in
     let all = all_lines More more bytes (ended ++ parts.values) parts.rest
     (whole ∙ ap (λ xs. ended_by_feeds ended ++ xs) parts.whole ∙ sym (append_assoc (ended_by_feeds ended) (ended_by_feeds parts.values) parts.rest)
-    ∙ ap (λ xs. xs ++ parts.rest) (sym (flat_map-append ended_lines.spell ended parts.values)))
+    ∙ ap (λ xs. xs ++ parts.rest) (sym (flat_map-append ended_lines.encode ended parts.values)))
     (All-append IsPiece ended parts.values pieces parts.each) (piece_from_none parts.rest parts.none)
     in
     (parts.values ++ all.0, subst (λ lines. AreLines More bytes lines) (append_assoc ended parts.values all.0) all.1)

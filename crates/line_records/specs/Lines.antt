@@ -1,7 +1,7 @@
 -- The lines of a text, and the commands that they ask for.
 use Rattle.std.specs.Prelude.{◌≡◌, ◌≢◌, ◌+◌, ℕ, List, [], ◌∷◌, ◌++◌, length, ◌⊎◌, All, Contains, Option, Some, None}
 use Rattle.std.specs.List.{flat_map}
-use Rattle.wire_records.specs.Records.{spelling}
+use Rattle.wire_records.specs.Records.{encoding}
 use Rattle.wire_records.specs.Commands.{Command}
 use Rattle.wire_records.specs.CommandRecords.{record_of}
 use Rattle.wire_records.specs.declared.version.Version.{Version}
@@ -26,8 +26,8 @@ pub record AreLines (More : Type 0) (bytes : List ℕ) (lines : List (List ℕ))
   pub all : ((lines ≡ ended) × (More ⊎ (last ≡ []))) ⊎ ((lines ≡ ended ++ last ∷ []) × (¬ More) × (last ≢ []))
 
 -- the bytes of the records of commands, one after the other
-abbrev pub spell_commands : List Command → List ℕ
-spell_commands commands = flat_map (λ command. spelling (record_of command)) commands
+abbrev pub encode_commands : List Command → List ℕ
+encode_commands commands = flat_map (λ command. encoding (record_of command)) commands
 
 -- In a version.
 module _ (version : Version) where
@@ -64,7 +64,7 @@ module _ (version : Version) (known : List (List ℕ)) where
     pub more : List (List ℕ)
     pub tickers : List (List ℕ)
     pub split : AreLines More bytes lines
-    pub front : lines ≡ read ++ more
+    pub prefix : lines ≡ read ++ more
     pub say : Say version known read commands tickers
 
   -- The first lines ask for these commands, and the line after them isn't blank.
@@ -75,6 +75,6 @@ module _ (version : Version) (known : List (List ℕ)) where
     pub more : List (List ℕ)
     pub tickers : List (List ℕ)
     pub split : AreLines More bytes lines
-    pub front : lines ≡ read ++ next ∷ more
+    pub prefix : lines ≡ read ++ next ∷ more
     pub say : Say version known read commands tickers
     pub written : ¬ IsBlank next

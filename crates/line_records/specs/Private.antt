@@ -1,27 +1,27 @@
 -- Definitions that only private functions use: what encoding one line, and all lines of an input, results in.
 use Rattle.std.specs.Prelude.{◌≡◌, ℕ, List, [], ◌∷◌, Option, Result, Ok, Err}
 use Rattle.flow_io.specs.Streams.{Grows, GrowsByPrefix}
-use Rattle.wire_records.specs.Records.{spelling}
+use Rattle.wire_records.specs.Records.{encoding}
 use Rattle.wire_records.specs.Commands.{Command}
 use Rattle.wire_records.specs.CommandRecords.{record_of}
 use Rattle.wire_records.specs.declared.version.Version.{Version}
 use Rattle.order_text.specs.Lines.{IsBlank, Asked, commands_of, Says, SaysNothing}
 use Rattle.line_records.specs.declared.encode.EncodeFault.{EncodeFault}
 use Rattle.line_records.specs.declared.encode.EncodeFault.TheVariants.{NoCommand, Write, Memory}
-use Rattle.line_records.specs.Lines.{Say, spell_commands}
+use Rattle.line_records.specs.Lines.{Say, encode_commands}
 
 -- the record of a command is written, or a prefix of it if the write fails, or nothing if memory runs out
 abbrev pub IsRecordWritten : Command → Result (Unit {0}) EncodeFault → Option (List ℕ) → Option (List ℕ) → Type 0
-IsRecordWritten command (Ok _) before after = Grows before after (spelling (record_of command))
+IsRecordWritten command (Ok _) before after = Grows before after (encoding (record_of command))
 IsRecordWritten command (Err (NoCommand number)) before after = ⊥
-IsRecordWritten command (Err Write) before after = GrowsByPrefix before after (spelling (record_of command))
+IsRecordWritten command (Err Write) before after = GrowsByPrefix before after (encoding (record_of command))
 IsRecordWritten command (Err Memory) before after = after ≡ before
 
 -- the records of commands are written, or a prefix of them if the write fails, or nothing if memory runs out
 abbrev pub AreWritten : List Command → Result (Unit {0}) EncodeFault → Option (List ℕ) → Option (List ℕ) → Type 0
-AreWritten commands (Ok _) before after = Grows before after (spell_commands commands)
+AreWritten commands (Ok _) before after = Grows before after (encode_commands commands)
 AreWritten commands (Err (NoCommand number)) before after = ⊥
-AreWritten commands (Err Write) before after = GrowsByPrefix before after (spell_commands commands)
+AreWritten commands (Err Write) before after = GrowsByPrefix before after (encode_commands commands)
 AreWritten commands (Err Memory) before after = after ≡ before
 
 -- In a version.
@@ -30,12 +30,12 @@ module _ (version : Version) where
   pub record EncodesLine (tickers : List (List ℕ)) (line : List ℕ) (next : List (List ℕ)) (before after : Option (List ℕ)) : Type 0 where
     pub commands : List Command
     pub say : Say version tickers (line ∷ []) commands next
-    pub written : Grows before after (spell_commands commands)
+    pub written : Grows before after (encode_commands commands)
 
   -- a line with this number was encoded with this result
   abbrev pub IsLineEncoded : List (List ℕ) → List ℕ → ℕ → List (List ℕ) → Result (Unit {0}) EncodeFault → Option (List ℕ) → Option (List ℕ) → Type 0
   IsLineEncoded tickers line number next (Ok _) before after = EncodesLine tickers line next before after
   IsLineEncoded tickers line number next (Err (NoCommand bad)) before after = SaysNothing version tickers line × (bad ≡ number) × (after ≡ before)
   IsLineEncoded tickers line number next (Err Write) before after =
-      (asked : Asked) × Says version tickers line asked next × GrowsByPrefix before after (spell_commands (commands_of asked))
+      (asked : Asked) × Says version tickers line asked next × GrowsByPrefix before after (encode_commands (commands_of asked))
   IsLineEncoded tickers line number next (Err Memory) before after = (¬ IsBlank line) × (after ≡ before)

@@ -4,7 +4,7 @@ ghost use Rattle.flow_io.specs.Faults.{Blames};
 ghost use Rattle.wire_records.specs.CommandRecords.{HasShortRow};
 ghost use Rattle.wire_records.specs.Views.{command_in};
 ghost use Rattle.line_records.specs.Encoded.{IsEncoded};
-ghost use Rattle.line_records.specs.Lines.{spell_commands};
+ghost use Rattle.line_records.specs.Lines.{encode_commands};
 ghost use Rattle.line_records.specs.Private.{IsRecordWritten, AreWritten};
 
 use flow_io::Sink;
@@ -43,7 +43,7 @@ fn write_record<K: Sink>(
 // Appends the records of commands to `records`.
 fn put_records(records: &mut Vec<u8>, commands: &[Command]) -> Result<(), Memory>
     requires short { All (λ command. HasShortRow (command_in command)) commands.now }
-    ensures { OnOk result (records.new.items ≡ records.old.items ++ spell_commands (map command_in commands.now)) }
+    ensures { OnOk result (records.new.items ≡ records.old.items ++ encode_commands (map command_in commands.now)) }
 {
     for command in commands {
         write_command(command, records)?;

@@ -23,7 +23,7 @@ fn serve_over(market: Market, pairs: &[&[u8]], answered: &mut Vec<u8>, told: &mu
 }
 
 // Appends the entries that a session over the market of a journal answers to the commands of other entries.
-fn serve_behind(
+fn serve_after(
     alloc: Global,
     journal: &[u8],
     pairs: &[&[u8]],
@@ -37,15 +37,15 @@ fn serve_behind(
 }
 
 // Appends whether the entries that are served after the first `count` are those of the journal.
-fn put_cut(alloc: Global, first: &[u8], behind: &[u8], count: usize, told: &mut Told) {
+fn put_cut(alloc: Global, first: &[u8], following: &[u8], count: usize, told: &mut Told) {
     let mut answered = Vec::new(alloc);
-    match pairs(alloc, behind) {
-        Some(pairs) => serve_behind(alloc, first, &pairs, &mut answered, told),
+    match pairs(alloc, following) {
+        Some(pairs) => serve_after(alloc, first, &pairs, &mut answered, told),
         None => told.give_up(),
     }
     told.put_number("  behind ", count as i128);
     told.put_number(": ", answered.len() as i128);
-    if answered.as_slice() == behind {
+    if answered.as_slice() == following {
         told.put(" bytes, as they were\n");
     } else {
         told.put(" bytes, others\n");
@@ -55,16 +55,16 @@ fn put_cut(alloc: Global, first: &[u8], behind: &[u8], count: usize, told: &mut 
 // Cuts the journal after `count` entries, at this byte, and appends what is served from there on.
 fn put_cut_at(alloc: Global, journal: &[u8], end: usize, count: usize, told: &mut Told) {
     match journal.split_at_checked(end) {
-        Some((first, behind)) => put_cut(alloc, first, behind, count, told),
+        Some((first, following)) => put_cut(alloc, first, following, count, told),
         None => told.give_up(),
     }
 }
 
 // Cuts the journal after each of its entries in turn, after the magic first, and appends what is served from there on.
 pub(crate) fn put_resumed(alloc: Global, journal: &[u8], told: &mut Told) {
-    let (magic, behind) = journal.split_at(journal.len().min(MAGIC));
+    let (magic, following) = journal.split_at(journal.len().min(MAGIC));
     put_cut_at(alloc, journal, magic.len(), 0, told);
-    match pairs(alloc, behind) {
+    match pairs(alloc, following) {
         Some(pairs) => put_cuts(alloc, journal, magic.len(), &pairs, told),
         None => told.give_up(),
     }

@@ -135,15 +135,15 @@ refuses_row m last r first (inr (row, inr (assets, inr (few, inl (dear, is))))) 
 refuses_row m last r first (inr (row, inr (assets, inr (few, inr (free, none))))) = inr (row, inr (assets, inr (few, inr (free_until m last r free, none))))
 
 -- the refusals that decide once account and numbers are valid
-abbrev pub BehindNumbers : Market → Option ℕ → Request → Option Refusal → Type 0
-BehindNumbers m last r = BadLast unless IfSome last (λ batch. m.batches < batch) else RefusesRow m (placed m last r)
+abbrev pub AfterNumbers : Market → Option ℕ → Request → Option Refusal → Type 0
+AfterNumbers m last r = BadLast unless IfSome last (λ batch. m.batches < batch) else RefusesRow m (placed m last r)
 
 -- the first refusal of an order, by its parts
 pub first_of_place : (m : Market) (last : Option ℕ) (r : Request) (first : Option Refusal) → HasRightNumbers m r → IfSome last (λ batch. m.batches < batch) → RefusesRow m (placed m None r) first → FirstRefusal m (Place last r) first
-first_of_place m last r first right later row = passes_numbers m r (BehindNumbers m last r) first right (inr (later, refuses_row m last r first row))
+first_of_place m last r first right later row = passes_numbers m r (AfterNumbers m last r) first right (inr (later, refuses_row m last r first row))
 
 pub too_late : (m : Market) (last : Option ℕ) (r : Request) → HasRightNumbers m r → ¬ IfSome last (λ batch. m.batches < batch) → FirstRefusal m (Place last r) (Some BadLast)
-too_late m last r right over = passes_numbers m r (BehindNumbers m last r) (Some BadLast) right (inl (over, refl))
+too_late m last r right over = passes_numbers m r (AfterNumbers m last r) (Some BadLast) right (inl (over, refl))
 
 -- if no refusal holds, there is room for one more order
 row_is_few : (m : Market) (o : Order) → RefusesRow m o None → length m.orders < most_orders

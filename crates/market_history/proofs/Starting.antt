@@ -19,7 +19,7 @@ use Rattle.market_history.specs.declared.start.StartFault.TheVariants.{Read, Mem
 use Rattle.market_history.specs.Histories.{Start, Empty, Kept, starts, BeginsUnsound, BeginsOtherwise}
 use Rattle.market_history.specs.Reading.{Begins, AreFound, AreTaken, FindsStart}
 use Rattle.market_history.specs.Kept.{TakesOn, FindsNone, FindsKept}
-use Rattle.market_history.proofs.Taking.{known_behind, considered_behind}
+use Rattle.market_history.proofs.Taking.{known_after, considered_after}
 
 -- a checkpoint begins with its magic
 pub made_magic : (market : Market) → (rest : List ℕ) × (checkpoint_bytes market ≡ checkpoint_magic ++ rest)
@@ -94,14 +94,14 @@ module _ (before x : Option (List ℕ)) (old : WindowState) (held_first : Takes 
     taken = old.held;
     takes = held_first;
     few = omega (arith, first, within);
-    are = subst BeginsOtherwise (sym (ap (λ xs. take old.limit (known xs x)) (sym (append-nil old.held)) ∙ considered_behind old.limit old.held [] x (omega (arith, first, within)))) (otherwise old.held (take (old.limit - length old.held) (known [] x)) some none not);
+    are = subst BeginsOtherwise (sym (ap (λ xs. take old.limit (known xs x)) (sym (append-nil old.held)) ∙ considered_after old.limit old.held [] x (omega (arith, first, within)))) (otherwise old.held (take (old.limit - length old.held) (known [] x)) some none not);
   }
 
   module _ (z : Option (List ℕ)) (new : WindowState) (first : old.place ≡ 0) (within : old.place + length old.held ≤ old.limit) (none : BeginsWithNone journals.magics old.held) (magic : HasCheckpointMagic old.held) where
     kept : (market : Market) → FindsKept old new x z market → Begins before z new market
     kept market found =
         let on = found.taken in
-        let is = found.is_one.spelled in
+        let is = found.is_one.encoded in
         record {
           start = Kept market;
           lawful = subst (λ (xs : List ℕ). IsCheckpoint market xs) is found.is_one;
@@ -126,13 +126,13 @@ module _ (before x : Option (List ℕ)) (old : WindowState) (held_first : Takes 
       are = magic_on old.held more magic;
     }
     faulted NoCheckpoint (more, takes, few, unsound) =
-        let behind = take (old.limit - length old.held) (known more z) in
-        let all : take old.limit (known (old.held ++ more) z) ≡ old.held ++ behind = considered_behind old.limit old.held more z (omega (arith, first, within)) in
+        let following = take (old.limit - length old.held) (known more z) in
+        let all : take old.limit (known (old.held ++ more) z) ≡ old.held ++ following = considered_after old.limit old.held more z (omega (arith, first, within)) in
         record {
           taken = old.held ++ more;
           takes = Takes-more before x z old.held more held_first takes;
           few = few;
-          are = (unstarted (take old.limit (known (old.held ++ more) z)) (subst (λ (xs : List ℕ). BeginsWithNone journals.magics xs) (sym all) (no_journal old.held behind some none)) unsound, subst HasCheckpointMagic (sym all) (magic_on old.held behind magic));
+          are = (unstarted (take old.limit (known (old.held ++ more) z)) (subst (λ (xs : List ℕ). BeginsWithNone journals.magics xs) (sym all) (no_journal old.held following some none)) unsound, subst HasCheckpointMagic (sym all) (magic_on old.held following magic));
         }
     faulted NotFlow found = absurd found
 

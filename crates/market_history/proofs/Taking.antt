@@ -17,11 +17,11 @@ nothing_taken None = tt
 nothing_taken (Some left) = refl
 
 -- no bytes were taken yet
-pub none_taken : (w : WindowState) (front : List ℕ) (told : Option (List ℕ)) → w.place ≡ length front → w.place + length w.held ≤ w.limit → w.over ≡ None → TakesOn w w front front told told
-none_taken w front told placed within unended = record {
+pub none_taken : (w : WindowState) (prefix : List ℕ) (told : Option (List ℕ)) → w.place ≡ length prefix → w.place + length w.held ≤ w.limit → w.over ≡ None → TakesOn w w prefix prefix told told
+none_taken w prefix told placed within unended = record {
   more = [];
   takes = nothing_taken told;
-  grew = sym (append-nil (front ++ w.held));
+  grew = sym (append-nil (prefix ++ w.held));
   place = placed;
   limit = refl;
   room = refl;
@@ -43,8 +43,8 @@ more_taken a b c f g h x y z one two = record {
 }
 
 -- bytes that are held are moved to the prefix
-pub moved : (old new : WindowState) (front now : List ℕ) (most : ℕ) (told : Option (List ℕ)) → old.place ≡ length front → old.place + length old.held ≤ old.limit → old.over ≡ None → IsJoined old new front now most → TakesOn old new front now told told
-moved old new front now most told placed within unended is =
+pub moved : (old new : WindowState) (prefix now : List ℕ) (most : ℕ) (told : Option (List ℕ)) → old.place ≡ length prefix → old.place + length old.held ≤ old.limit → old.over ≡ None → IsJoined old new prefix now most → TakesOn old new prefix now told told
+moved old new prefix now most told placed within unended is =
     let window = is.window in
     let held : new.held ≡ drop is.count old.held = ap (λ (w : WindowState). w.held) window in
     let place : new.place ≡ old.place + is.count = ap (λ (w : WindowState). w.place) window in
@@ -53,8 +53,8 @@ moved old new front now most told placed within unended is =
     record {
       more = [];
       takes = nothing_taken told;
-      grew = ap (λ xs. xs ++ new.held) is.moved ∙ append_assoc front (take is.count old.held) new.held ∙ ap (λ xs. front ++ (take is.count old.held ++ xs)) held ∙ ap (λ xs. front ++ xs) whole ∙ sym (append-nil (front ++ old.held));
-      place = omega (arith, place, placed, ap length is.moved, length-append front (take is.count old.held), length-take-le is.count old.held is.inside);
+      grew = ap (λ xs. xs ++ new.held) is.moved ∙ append_assoc prefix (take is.count old.held) new.held ∙ ap (λ xs. prefix ++ (take is.count old.held ++ xs)) held ∙ ap (λ xs. prefix ++ xs) whole ∙ sym (append-nil (prefix ++ old.held));
+      place = omega (arith, place, placed, ap length is.moved, length-append prefix (take is.count old.held), length-take-le is.count old.held is.inside);
       limit = limit;
       room = ap (λ (w : WindowState). w.room) window;
       within = omega (arith, place, limit, within, ap length held, ap length whole, length-append (take is.count old.held) (drop is.count old.held), length-take-le is.count old.held is.inside);
@@ -74,69 +74,69 @@ all_taken a b f g h x y z one all = record {
 }
 
 -- what is known after a prefix
-pub known_behind : (front more : List ℕ) (after : Option (List ℕ)) → known (front ++ more) after ≡ front ++ known more after
-known_behind front more None = refl
-known_behind front more (Some left) = append_assoc front more left
+pub known_after : (prefix more : List ℕ) (after : Option (List ℕ)) → known (prefix ++ more) after ≡ prefix ++ known more after
+known_after prefix more None = refl
+known_after prefix more (Some left) = append_assoc prefix more left
 
 -- considered bytes that begin with a prefix
-pub considered_behind : (limit : ℕ) (front more : List ℕ) (after : Option (List ℕ)) → length front ≤ limit → take limit (known (front ++ more) after) ≡ front ++ take (limit - length front) (known more after)
-considered_behind limit front more after within = ap (take limit) (known_behind front more after) ∙ considered limit front (known more after) within
+pub considered_after : (limit : ℕ) (prefix more : List ℕ) (after : Option (List ℕ)) → length prefix ≤ limit → take limit (known (prefix ++ more) after) ≡ prefix ++ take (limit - length prefix) (known more after)
+considered_after limit prefix more after within = ap (take limit) (known_after prefix more after) ∙ considered limit prefix (known more after) within
 
 -- fewer bytes than each checkpoint has that begins with them begin with no checkpoint
 pub too_short : (bytes now x : List ℕ) (n : ℕ) → HasLeast bytes n → now ≡ bytes ++ x → length now < n → BeginsWithNoCheckpoint now
-too_short bytes now x n least is short m front rest is_one e =
-    absurd (omega (arith, least m front x rest is_one (sym is ∙ e), ap length e, length-append front rest, short))
+too_short bytes now x n least is short m prefix rest is_one e =
+    absurd (omega (arith, least m prefix x rest is_one (sym is ∙ e), ap length e, length-append prefix rest, short))
 
 -- of two prefixes of a text, the shorter is a prefix of the longer
-pub front_of : (a b x y : List ℕ) → a ++ x ≡ b ++ y → length b ≤ length a → a ≡ b ++ drop (length b) a
-front_of a b x y e few = sym (take-append-drop (length b) a) ∙ ap (λ z. z ++ drop (length b) a) (sym (take-append-le (length b) a x few) ∙ ap (take (length b)) e ∙ take_at b y (length b) refl)
+pub prefix_of : (a b x y : List ℕ) → a ++ x ≡ b ++ y → length b ≤ length a → a ≡ b ++ drop (length b) a
+prefix_of a b x y e few = sym (take-append-drop (length b) a) ∙ ap (λ z. z ++ drop (length b) a) (sym (take-append-le (length b) a x few) ∙ ap (take (length b)) e ∙ take_at b y (length b) refl)
 
 -- ---- the bytes of a checkpoint so far
 
-module _ (a b : WindowState) (front : List ℕ) (x y : Option (List ℕ)) (on : TakesOn a b [] front x y) where
+module _ (a b : WindowState) (prefix : List ℕ) (x y : Option (List ℕ)) (on : TakesOn a b [] prefix x y) where
   -- what was taken is within the limit
   pub few_taken : length (a.held ++ on.more) ≤ a.limit
-  few_taken = omega (arith, ap length on.grew, length-append front b.held, on.place, on.within, on.limit)
+  few_taken = omega (arith, ap length on.grew, length-append prefix b.held, on.place, on.within, on.limit)
 
   -- no checkpoint begins with these bytes, whatever follows
-  pub none_at : ((more : List ℕ) → BeginsWithNoCheckpoint (front ++ more)) → FindsNone a x y NoCheckpoint
+  pub none_at : ((more : List ℕ) → BeginsWithNoCheckpoint (prefix ++ more)) → FindsNone a x y NoCheckpoint
   none_at none =
       let limit = a.limit in
-      let here : length front ≤ limit = omega (arith, on.place, on.within, on.limit) in
-      let all : take limit (known (a.held ++ on.more) y) ≡ front ++ take (limit - length front) (known b.held y) = ap (λ xs. take limit (known xs y)) (sym on.grew) ∙ considered_behind limit front b.held y here in
-      (on.more, on.takes, omega (arith, few_taken), λ m k rest is e. none (take (limit - length front) (known b.held y)) m k rest is (sym all ∙ e))
+      let here : length prefix ≤ limit = omega (arith, on.place, on.within, on.limit) in
+      let all : take limit (known (a.held ++ on.more) y) ≡ prefix ++ take (limit - length prefix) (known b.held y) = ap (λ xs. take limit (known xs y)) (sym on.grew) ∙ considered_after limit prefix b.held y here in
+      (on.more, on.takes, omega (arith, few_taken), λ m k rest is e. none (take (limit - length prefix) (known b.held y)) m k rest is (sym all ∙ e))
 
   pub may_run_out : FindsNone a x y Memory
   may_run_out = (on.more, on.takes, few_taken)
 
   -- a read failed before the least length was there
-  pub not_read : (bytes : List ℕ) (n : ℕ) → HasLeast bytes n → length bytes ≤ length front → (first : List ℕ) (more : List ℕ) → front ++ first ≡ bytes ++ more → b.held ≡ [] → length front < n → FindsNone a x y Read
+  pub not_read : (bytes : List ℕ) (n : ℕ) → HasLeast bytes n → length bytes ≤ length prefix → (first : List ℕ) (more : List ℕ) → prefix ++ first ≡ bytes ++ more → b.held ≡ [] → length prefix < n → FindsNone a x y Read
   not_read bytes n least longer first more e none short =
-      let all : a.held ++ on.more ≡ front = sym on.grew ∙ ap (λ xs. front ++ xs) none ∙ append-nil front in
-      (on.more, on.takes, few_taken, subst (λ (xs : List ℕ). BeginsWithNoCheckpoint xs) (sym all) (too_short bytes front (drop (length bytes) front) n least (front_of front bytes first more e longer) short))
+      let all : a.held ++ on.more ≡ prefix = sym on.grew ∙ ap (λ xs. prefix ++ xs) none ∙ append-nil prefix in
+      (on.more, on.takes, few_taken, subst (λ (xs : List ℕ). BeginsWithNoCheckpoint xs) (sym all) (too_short bytes prefix (drop (length bytes) prefix) n least (prefix_of prefix bytes first more e longer) short))
 
 -- all considered bytes are fewer than the least length
-pub all_short : (a b : WindowState) (front now : List ℕ) (x y z : Option (List ℕ)) → TakesOn a b [] front x y → (n : ℕ) → HasLeast front n → TakesAll b front now y z → length now < n → FindsNone a x z NoCheckpoint
-all_short a b front now x y z on n least rest short =
-    let all = all_taken a b [] front now x y z on rest in
+pub all_short : (a b : WindowState) (prefix now : List ℕ) (x y z : Option (List ℕ)) → TakesOn a b [] prefix x y → (n : ℕ) → HasLeast prefix n → TakesAll b prefix now y z → length now < n → FindsNone a x z NoCheckpoint
+all_short a b prefix now x y z on n least rest short =
+    let all = all_taken a b [] prefix now x y z on rest in
     let whole : a.held ++ (all.more ++ all.past) ≡ now ++ all.past = sym (append_assoc a.held all.more all.past) ∙ ap (λ xs. xs ++ all.past) (sym all.grew) in
     let same : take a.limit (known (a.held ++ (all.more ++ all.past)) z) ≡ now = ap (λ xs. take a.limit (known xs z)) whole ∙ all.all in (
       all.more ++ all.past,
       all.takes,
       omega (arith, ap length whole, length-append now all.past, all.few, all.within),
-      subst (λ (xs : List ℕ). BeginsWithNoCheckpoint xs) (sym same) (too_short front now (b.held ++ rest.more) n least (rest.grew ∙ append_assoc front b.held rest.more) short),
+      subst (λ (xs : List ℕ). BeginsWithNoCheckpoint xs) (sym same) (too_short prefix now (b.held ++ rest.more) n least (rest.grew ∙ append_assoc prefix b.held rest.more) short),
     )
 
 -- a prefix that was read to its length is the checkpoint that it begins with
-pub whole_one : (front : List ℕ) (m : Market) (n : ℕ) → IsWholeIfAny front → IsCheckpoint m (take n front) → n ≤ length front → IsCheckpoint m front
-whole_one front m n whole is few =
-    let size = whole m (take n front) [] (drop n front) is (append-nil front ∙ sym (take-append-drop n front)) in
-    let all : n ≡ length front = omega (arith, size, length-take-le n front few) in
-    subst (λ (xs : List ℕ). IsCheckpoint m xs) (ap (λ k. take k front) all ∙ take_all (length front) front (omega arith)) is
+pub whole_one : (prefix : List ℕ) (m : Market) (n : ℕ) → IsWholeIfAny prefix → IsCheckpoint m (take n prefix) → n ≤ length prefix → IsCheckpoint m prefix
+whole_one prefix m n whole is few =
+    let size = whole m (take n prefix) [] (drop n prefix) is (append-nil prefix ∙ sym (take-append-drop n prefix)) in
+    let all : n ≡ length prefix = omega (arith, size, length-take-le n prefix few) in
+    subst (λ (xs : List ℕ). IsCheckpoint m xs) (ap (λ k. take k prefix) all ∙ take_all (length prefix) prefix (omega arith)) is
 
 -- if it begins with no checkpoint, none begins with it, whatever follows
-pub none_behind : (front : List ℕ) → IsWholeIfAny front → BeginsWithNoCheckpoint front → (more : List ℕ) → BeginsWithNoCheckpoint (front ++ more)
-none_behind front whole none more m k rest is e =
+pub none_after : (prefix : List ℕ) → IsWholeIfAny prefix → BeginsWithNoCheckpoint prefix → (more : List ℕ) → BeginsWithNoCheckpoint (prefix ++ more)
+none_after prefix whole none more m k rest is e =
     let size = whole m k more rest is e in
-    let same : front ≡ k = sym (take_at front more (length front) refl) ∙ ap (take (length front)) e ∙ take_at k rest (length front) size in
+    let same : prefix ≡ k = sym (take_at prefix more (length prefix) refl) ∙ ap (take (length prefix)) e ∙ take_at k rest (length prefix) size in
     none m k [] is (same ∙ sym (append-nil k))

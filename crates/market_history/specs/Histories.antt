@@ -24,12 +24,12 @@ CanStart (Empty version) = Unit {0}
 CanStart (Kept market) = IsCheckpoint market (checkpoint_bytes market)
 
 -- the bytes of the beginning: the magic, or the checkpoint
-abbrev pub spell_start : Start → List ℕ
-spell_start (Empty version) = journal_magic_of version
-spell_start (Kept market) = checkpoint_bytes market
+abbrev pub encode_start : Start → List ℕ
+encode_start (Empty version) = journal_magic_of version
+encode_start (Kept market) = checkpoint_bytes market
 
 abbrev pub starts : Grammar Start
-starts = record { IsLawful = CanStart; spell = spell_start }
+starts = record { IsLawful = CanStart; encode = encode_start }
 
 -- histories: a beginning, followed by entries as a journal has them; a journal is a history that begins with the empty market
 abbrev pub histories : Format Start (Record × Record)

@@ -9,10 +9,10 @@ use Rattle.market_history.specs.declared.start.StartFault.{StartFault}
 use Rattle.market_history.specs.declared.start.StartFault.TheVariants.{Read, Memory, NotFlow, NoCheckpoint}
 
 -- Bytes were taken from a source: the prefix grew, and the window holds what follows it. The end of the input wasn't seen.
-pub record TakesOn (old new : WindowState) (front now : List ℕ) (before after : Option (List ℕ)) : Type 0 where
+pub record TakesOn (old new : WindowState) (prefix now : List ℕ) (before after : Option (List ℕ)) : Type 0 where
   pub more : List ℕ
   pub takes : Takes before after more
-  pub grew : now ++ new.held ≡ (front ++ old.held) ++ more
+  pub grew : now ++ new.held ≡ (prefix ++ old.held) ++ more
   pub place : new.place ≡ length now
   pub limit : new.limit ≡ old.limit
   pub room : new.room ≡ old.room

@@ -7,20 +7,20 @@ use Rattle.market_rules.specs.Market.{Market}
 use Rattle.market_snapshot.specs.Checkpoints.{IsCheckpoint}
 
 -- The first bytes that a window held were moved to the end of the prefix: `most` of them at most, and some if there were any.
-pub record IsJoined (old new : WindowState) (front now : List ℕ) (most : ℕ) : Type 0 where
+pub record IsJoined (old new : WindowState) (prefix now : List ℕ) (most : ℕ) : Type 0 where
   pub count : ℕ
   pub few : count ≤ most
   pub inside : count ≤ length old.held
   pub some : 0 < most → 0 < length old.held → 0 < count
   pub window : new ≡ record old { held = drop count old.held; place = old.place + count }
-  pub moved : now ≡ front ++ take count old.held
+  pub moved : now ≡ prefix ++ take count old.held
 
 -- The prefix grew to all bytes that are considered.
-pub record TakesAll (old : WindowState) (front now : List ℕ) (before after : Option (List ℕ)) : Type 0 where
+pub record TakesAll (old : WindowState) (prefix now : List ℕ) (before after : Option (List ℕ)) : Type 0 where
   pub more : List ℕ
   pub past : List ℕ
   pub takes : Takes before after (more ++ past)
-  pub grew : now ≡ (front ++ old.held) ++ more
+  pub grew : now ≡ (prefix ++ old.held) ++ more
   pub few : length past ≤ 1
   pub within : length now ≤ old.limit
   pub all : take old.limit (known (now ++ past) after) ≡ now

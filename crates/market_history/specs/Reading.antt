@@ -16,8 +16,8 @@ pub record Begins (before after : Option (List ℕ)) (window : WindowState) (mar
   pub start : Start
   pub lawful : starts.IsLawful start
   pub market_is : market ≡ market_of start
-  pub takes : Takes before after (starts.spell start ++ window.held)
-  pub place : window.place ≡ length (starts.spell start)
+  pub takes : Takes before after (starts.encode start ++ window.held)
+  pub place : window.place ≡ length (starts.encode start)
   pub within : window.place + length window.held ≤ window.limit
   pub unended : window.over ≡ None
 

@@ -34,16 +34,16 @@ pub enum StartFault {
 fn refill<S: Source>(
     window: &mut Window,
     source: &mut S,
-    front: &[u8],
+    prefix: &[u8],
 ) -> Result<bool, ReadAllFault>
     requires none { window.old.held ≡ [] }
     requires room { 1 ≤ window.old.room }
     requires open { window.old.over ≡ None }
-    requires placed { window.old.place ≡ length front.now }
-    ensures more { IfOk result (λ more. IsTrue more → TakesOn window.old window.new front.now front.now (S.rest source.old) (S.rest source.new)) }
+    requires placed { window.old.place ≡ length prefix.now }
+    ensures more { IfOk result (λ more. IsTrue more → TakesOn window.old window.new prefix.now prefix.now (S.rest source.old) (S.rest source.new)) }
     ensures some { IfOk result (λ more. IsTrue more → 0 < length window.new.held) }
-    ensures all { IfOk result (λ more. more ≡ false → TakesAll window.old front.now front.now (S.rest source.old) (S.rest source.new)) }
-    ensures failed { OnErr result ((result ≡ Err ReadAllFault.Read) × TakesOn window.old window.new front.now front.now (S.rest source.old) (S.rest source.new)) }
+    ensures all { IfOk result (λ more. more ≡ false → TakesAll window.old prefix.now prefix.now (S.rest source.old) (S.rest source.new)) }
+    ensures failed { OnErr result ((result ≡ Err ReadAllFault.Read) × TakesOn window.old window.new prefix.now prefix.now (S.rest source.old) (S.rest source.new)) }
     ensures held { OnErr result (window.new.held ≡ []) }
     ensures cause { Blames (IsErr result) (S.faults source.old) (S.faults source.new) }
 {
@@ -59,33 +59,33 @@ fn refill<S: Source>(
 fn holds_some<S: Source>(
     window: &mut Window,
     source: &mut S,
-    front: &[u8],
+    prefix: &[u8],
 ) -> Result<bool, ReadAllFault>
     requires room { 1 ≤ window.old.room }
     requires open { window.old.over ≡ None }
     requires within { window.old.place + length window.old.held ≤ window.old.limit }
-    requires placed { window.old.place ≡ length front.now }
-    ensures more { IfOk result (λ more. IsTrue more → TakesOn window.old window.new front.now front.now (S.rest source.old) (S.rest source.new)) }
+    requires placed { window.old.place ≡ length prefix.now }
+    ensures more { IfOk result (λ more. IsTrue more → TakesOn window.old window.new prefix.now prefix.now (S.rest source.old) (S.rest source.new)) }
     ensures some { IfOk result (λ more. IsTrue more → 0 < length window.new.held) }
-    ensures all { IfOk result (λ more. more ≡ false → TakesAll window.old front.now front.now (S.rest source.old) (S.rest source.new)) }
-    ensures failed { OnErr result ((result ≡ Err ReadAllFault.Read) × TakesOn window.old window.new front.now front.now (S.rest source.old) (S.rest source.new)) }
+    ensures all { IfOk result (λ more. more ≡ false → TakesAll window.old prefix.now prefix.now (S.rest source.old) (S.rest source.new)) }
+    ensures failed { OnErr result ((result ≡ Err ReadAllFault.Read) × TakesOn window.old window.new prefix.now prefix.now (S.rest source.old) (S.rest source.new)) }
     ensures held { OnErr result (window.new.held ≡ []) }
     ensures cause { Blames (IsErr result) (S.faults source.old) (S.faults source.new) }
 {
     if !window.held().is_empty() {
         return Ok(true);
     }
-    refill(window, source, front)
+    refill(window, source, prefix)
 }
 
-// Moves bytes from the beginning of the window to the end of `front`, `most` of them at most. If an allocation fails, nothing moves.
-fn join(window: &mut Window, front: &mut Vec<u8>, most: usize) -> Result<(), ReadAllFault>
-    ensures joined { OnOk result (IsJoined window.old window.new front.old.items front.new.items most) }
-    ensures stays { OnErr result ((result ≡ Err ReadAllFault.Memory) × (window.new ≡ window.old) × (front.new.items ≡ front.old.items)) }
+// Moves bytes from the beginning of the window to the end of `prefix`, `most` of them at most. If an allocation fails, nothing moves.
+fn join(window: &mut Window, prefix: &mut Vec<u8>, most: usize) -> Result<(), ReadAllFault>
+    ensures joined { OnOk result (IsJoined window.old window.new prefix.old.items prefix.new.items most) }
+    ensures stays { OnErr result ((result ≡ Err ReadAllFault.Memory) × (window.new ≡ window.old) × (prefix.new.items ≡ prefix.old.items)) }
 {
     let held = window.held();
     let count = held.len().min(most);
-    match front.extend_from_slice(&held[..count]) {
+    match prefix.extend_from_slice(&held[..count]) {
         Ok(()) => {}
         Err(_) => return Err(ReadAllFault::Memory),
     }
@@ -93,34 +93,34 @@ fn join(window: &mut Window, front: &mut Vec<u8>, most: usize) -> Result<(), Rea
     Ok(())
 }
 
-// Reads until `front` has `want` bytes, and returns whether it has.
+// Reads until `prefix` has `want` bytes, and returns whether it has.
 fn read_to<S: Source>(
     window: &mut Window,
     source: &mut S,
-    front: &mut Vec<u8>,
+    prefix: &mut Vec<u8>,
     want: usize,
 ) -> Result<bool, ReadAllFault>
     requires room { 1 ≤ window.old.room }
     requires within { window.old.place + length window.old.held ≤ window.old.limit }
     requires open { window.old.over ≡ None }
-    requires placed { window.old.place ≡ length front.old.items }
-    requires fewer { length front.old.items ≤ want }
-    ensures there { IfOk result (λ there. IsTrue there → length front.new.items ≡ want) }
-    ensures taken { IfOk result (λ there. IsTrue there → TakesOn window.old window.new front.old.items front.new.items (S.rest source.old) (S.rest source.new)) }
-    ensures all { IfOk result (λ there. there ≡ false → TakesAll window.old front.old.items front.new.items (S.rest source.old) (S.rest source.new)) }
-    ensures fewer { IfOk result (λ there. there ≡ false → length front.new.items < want) }
-    ensures failed { OnErr result (TakesOn window.old window.new front.old.items front.new.items (S.rest source.old) (S.rest source.new)) }
-    ensures unread { result ≡ Err ReadAllFault.Read → (window.new.held ≡ []) × (length front.new.items < want) }
+    requires placed { window.old.place ≡ length prefix.old.items }
+    requires fewer { length prefix.old.items ≤ want }
+    ensures there { IfOk result (λ there. IsTrue there → length prefix.new.items ≡ want) }
+    ensures taken { IfOk result (λ there. IsTrue there → TakesOn window.old window.new prefix.old.items prefix.new.items (S.rest source.old) (S.rest source.new)) }
+    ensures all { IfOk result (λ there. there ≡ false → TakesAll window.old prefix.old.items prefix.new.items (S.rest source.old) (S.rest source.new)) }
+    ensures fewer { IfOk result (λ there. there ≡ false → length prefix.new.items < want) }
+    ensures failed { OnErr result (TakesOn window.old window.new prefix.old.items prefix.new.items (S.rest source.old) (S.rest source.new)) }
+    ensures unread { result ≡ Err ReadAllFault.Read → (window.new.held ≡ []) × (length prefix.new.items < want) }
     ensures cause { Blames (result ≡ Err ReadAllFault.Read) (S.faults source.old) (S.faults source.new) }
 {
-    while front.len() < want {
-        match holds_some(window, source, front) {
+    while prefix.len() < want {
+        match holds_some(window, source, prefix) {
             Ok(true) => {}
             Ok(false) => return Ok(false),
             Err(fault) => return Err(fault),
         }
-        let most = want - front.len();
-        match join(window, front, most) {
+        let most = want - prefix.len();
+        match join(window, prefix, most) {
             Ok(()) => {}
             Err(fault) => return Err(fault),
         }
@@ -128,31 +128,31 @@ fn read_to<S: Source>(
     Ok(true)
 }
 
-// Reads a checkpoint to its length into `front`, if one begins.
+// Reads a checkpoint to its length into `prefix`, if one begins.
 fn read_checkpoint<S: Source>(
     window: &mut Window,
     source: &mut S,
-    front: &mut Vec<u8>,
+    prefix: &mut Vec<u8>,
 ) -> Result<(), StartFault>
     requires room { 1 ≤ window.old.room }
     requires within { window.old.place + length window.old.held ≤ window.old.limit }
     requires open { window.old.over ≡ None }
     requires first { window.old.place ≡ 0 }
-    requires none { front.old.items ≡ [] }
-    ensures whole { OnOk result (IsWholeIfAny front.new.items) }
-    ensures taken { OnOk result (TakesOn window.old window.new [] front.new.items (S.rest source.old) (S.rest source.new)) }
+    requires none { prefix.old.items ≡ [] }
+    ensures whole { OnOk result (IsWholeIfAny prefix.new.items) }
+    ensures taken { OnOk result (TakesOn window.old window.new [] prefix.new.items (S.rest source.old) (S.rest source.new)) }
     ensures none { IfErr result (FindsNone window.old (S.rest source.old) (S.rest source.new)) }
     ensures cause { Blames (result ≡ Err StartFault.Read) (S.faults source.old) (S.faults source.new) }
 {
     'sizes: loop {
-        let size = match checkpoint_size(front) {
+        let size = match checkpoint_size(prefix) {
             Some(size) => size,
             None => return Err(StartFault::NoCheckpoint),
         };
-        if size <= front.len() {
+        if size <= prefix.len() {
             return Ok(());
         }
-        match read_to(window, source, front, size) {
+        match read_to(window, source, prefix, size) {
             Ok(true) => {}
             Ok(false) => return Err(StartFault::NoCheckpoint),
             Err(ReadAllFault::Read) => return Err(StartFault::Read),
@@ -182,12 +182,12 @@ pub fn kept_market<S: Source>(
     ensures none { IfErr result (FindsNone window.old (S.rest source.old) (S.rest source.new)) }
     ensures cause { Blames (result ≡ Err StartFault.Read) (S.faults source.old) (S.faults source.new) }
 {
-    let mut front = Vec::new(alloc);
-    match read_checkpoint(window, source, &mut front) {
+    let mut prefix = Vec::new(alloc);
+    match read_checkpoint(window, source, &mut prefix) {
         Ok(()) => {}
         Err(fault) => return Err(fault),
     }
-    match read_market(alloc, &front) {
+    match read_market(alloc, &prefix) {
         Ok((market, _)) => Ok(market),
         Err(SnapshotFault::NotSound) => Err(StartFault::NoCheckpoint),
         Err(SnapshotFault::Memory) => Err(StartFault::Memory),

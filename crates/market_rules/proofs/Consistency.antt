@@ -138,12 +138,12 @@ ReadsOwn {R} Reads = (version : Version) (r : R) (c : Command) → Reads version
 
 module _ {R : Type 0} (Reads : Version → R → Result Command BodyFault → Type 0) (own : ReadsOwn Reads) where
   consistent-read : (m : Market) (asked : R) (read : Result Command BodyFault) (a : Answer Outcome) (n : Market) → IsConsistent m → Reads m.version asked read → ServesRead IsAdmissibleOutcome m read a n → IsConsistent n
-  consistent-read m asked (Ok c) a n consistent spelled serves = consistent_served m c a n (own m.version asked c spelled) consistent serves
-  consistent-read m asked (Err r) a n consistent spelled serves = subst IsConsistent (sym serves.1) consistent
+  consistent-read m asked (Ok c) a n consistent encoded serves = consistent_served m c a n (own m.version asked c encoded) consistent serves
+  consistent-read m asked (Err r) a n consistent encoded serves = subst IsConsistent (sym serves.1) consistent
 
   -- every step of records, and every sequence of them, keeps a market consistent
   pub consistent_step : (m : Market) (asked : R) (a : Answer Outcome) (n : Market) → IsConsistent m → Step Reads IsAdmissibleOutcome m asked a n → IsConsistent n
-  consistent_step m asked a n consistent step = consistent-read m asked step.read a n consistent step.spelled step.served
+  consistent_step m asked a n consistent step = consistent-read m asked step.read a n consistent step.encoded step.served
 
   pub consistent_follows : (m : Market) (pairs : List (Pair R Outcome)) (n : Market) → IsConsistent m → Follows Reads IsAdmissibleOutcome m pairs n → IsConsistent n
   consistent_follows m [] n consistent follows = subst IsConsistent (sym follows) consistent

@@ -181,15 +181,15 @@ either_ticker bytes =
     (λ p. IsTicker-from_parts bytes (p.1.0 + 1) p.0 (omega arith) (let below = p.1.1 in omega (arith, below)) p.1.2.0 p.1.2.1)
     (λ is.
     let n = length is.name in
-    let sides : n + is.spaces ≡ 8 = sym (length-append is.name (replicate is.spaces 32) ∙ ap (λ k. n + k) (length-replicate is.spaces 32)) ∙ ap length (sym is.spelled) ∙ is.whole in
+    let sides : n + is.spaces ≡ 8 = sym (length-append is.name (replicate is.spaces 32) ∙ ap (λ k. n + k) (length-replicate is.spaces 32)) ∙ ap length (sym is.encoded) ∙ is.whole in
     let same : n - 1 + 1 ≡ n = omega (arith, is.named) in (
       is.whole,
       (
         n - 1,
         omega (arith, is.named, sides),
         (
-          subst (λ k. All IsNameCharacter (take k bytes)) (sym same) (subst (All IsNameCharacter) (sym (ap (take n) is.spelled ∙ take_at is.name (replicate is.spaces 32) n refl)) is.characters),
-          subst (λ k. All (λ byte. byte ≡ 32) (drop k bytes)) (sym same) (subst (All (λ byte. byte ≡ 32)) (sym (ap (drop n) is.spelled ∙ drop-append_seam is.name (replicate is.spaces 32)))
+          subst (λ k. All IsNameCharacter (take k bytes)) (sym same) (subst (All IsNameCharacter) (sym (ap (take n) is.encoded ∙ take_at is.name (replicate is.spaces 32) n refl)) is.characters),
+          subst (λ k. All (λ byte. byte ≡ 32) (drop k bytes)) (sym same) (subst (All (λ byte. byte ≡ 32)) (sym (ap (drop n) is.encoded ∙ drop-append_seam is.name (replicate is.spaces 32)))
               (λ k d inside. get_or-replicate is.spaces k 32 d (omega (arith, inside, length-replicate {A = ℕ} is.spaces 32)))),
         ),
       ),

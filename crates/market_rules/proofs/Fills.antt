@@ -278,7 +278,7 @@ module _ {R : Type 0} (Reads : Version → R → Result Command BodyFault → Ty
       let last = places.asks.0 in
       let command = Place last places.request in
       let served = subst (λ r. ServesRead IsAdmissibleOutcome mid r pair.answer next)
-      (one_reading mid.version pair.asked step.read (Ok command) step.spelled (subst (λ v. Reads v pair.asked (Ok command)) (sym version) places.asks.1)) step.served in
+      (one_reading mid.version pair.asked step.read (Ok command) step.encoded (subst (λ v. Reads v pair.asked (Ok command)) (sym version) places.asks.1)) step.served in
       let placing : (number ≡ mid.next_order) × IsFilled next number places.request.cap 0 = placed_by mid last places.request pair.answer next number consistent served places.answered in
       let none = (unused_follows old before mid number start parts.1 (omega (arith, placing.0))).0 in
       let here : filled_by number pair.answer ≡ 0 = ap (filled_by number) places.answered in

@@ -124,7 +124,7 @@ module _ {R : Type 0} (Reads : Version → R → Result Command BodyFault → Ty
       let rest = totals_change kind next pairs n (consistent_step Reads own m pair.asked pair.answer next consistent step) follows.2 in
       let kept = step_version IsAdmissibleOutcome Reads m pair.asked pair.answer next step in
       let first = added_by_read kind step.read pair.answer in
-      (first +ℤ rest.0, (step.read, rest.0, step.spelled, subst (λ v. AddTogether (Reads v) kind pairs rest.0) kept rest.1, refl), omega (arith, ints, here, rest.2))
+      (first +ℤ rest.0, (step.read, rest.0, step.encoded, subst (λ v. AddTogether (Reads v) kind pairs rest.0) kept rest.1, refl), omega (arith, ints, here, rest.2))
 
   -- from a consistent market on, what is held changes by the accepted deposits less the accepted withdrawals
   pub held_changes : (old : Market) (pairs : List (Pair R Outcome)) (new : Market) (kind : Option ℕ) → IsConsistent old → Follows Reads IsAdmissibleOutcome old pairs new

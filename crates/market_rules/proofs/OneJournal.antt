@@ -19,7 +19,7 @@ module _ {R : Type 0} (Reads : Version → R → Result Command BodyFault → Ty
     -- the old market, the record and the answer determine the new market
     pub step_market : (old : Market) (asked : R) (a : Answer Outcome) (x y : Market) → Step Reads Rule old asked a x → Step Reads Rule old asked a y → x ≡ y
     step_market old asked a x y first other =
-        read_market old first.read a x y first.served (rw (one_reading old.version asked first.read other.read first.spelled other.spelled) other.served)
+        read_market old first.read a x y first.served (rw (one_reading old.version asked first.read other.read first.encoded other.encoded) other.served)
 
     -- a valid journal determines the market after it
     pub journal_market : (old : Market) (pairs : List (Pair R Outcome)) (x y : Market) → Follows Reads Rule old pairs x → Follows Reads Rule old pairs y → x ≡ y

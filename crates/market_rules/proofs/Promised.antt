@@ -37,7 +37,7 @@ module _ {start : Market} {pairs : List (Pair Record Outcome)} (begins : IsConsi
   -- the batch is served as a command with its budget
   right_step : (old : Market) (outcome : Outcome) (new : Market) (batch : HoldsBatch IsReadAs start pairs old outcome new) → Serves IsAdmissibleOutcome old (RunBatch batch.budget) (Batch batch.number outcome) new
   right_step old outcome new batch =
-      let same = reading_unique old.version batch.asked batch.made.read (Ok (RunBatch batch.budget)) batch.made.spelled batch.asks in
+      let same = reading_unique old.version batch.asked batch.made.read (Ok (RunBatch batch.budget)) batch.made.encoded batch.asks in
       subst (λ r. ServesRead IsAdmissibleOutcome old r (Batch batch.number outcome) new) same batch.made.served
 
   -- a skip is admissible with the batch's budget

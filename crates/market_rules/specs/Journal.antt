@@ -14,7 +14,7 @@ module _ {R : Type 0} (Reads : Version → R → Result Command BodyFault → Ty
   -- one step: a record, read in the market's version, gets this answer and leads from the old market to the new one
   pub record Step (old : Market) (asked : R) (answer : Answer Outcome) (new : Market) : Type 0 where
     pub read : Result Command BodyFault
-    pub spelled : Reads old.version asked read
+    pub encoded : Reads old.version asked read
     pub served : ServesRead Rule old read answer new
 
   -- the entries are steps, one after the other, from the old market to the new one

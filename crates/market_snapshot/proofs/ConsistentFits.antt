@@ -20,7 +20,7 @@ use Rattle.market_rules.specs.Market.{Market, IsConsistent, IsLiveOrder}
 use Rattle.market_rules.proofs.Lawful.{consistent_is_lawful}
 use Rattle.wire_records.specs.Versions.{number_of}
 use Rattle.market_snapshot.specs.Checkpoints.{ticks_of}
-use Rattle.market_snapshot.specs.Spellings.{read_order, parts_of_market}
+use Rattle.market_snapshot.specs.Encodings.{read_order, parts_of_market}
 use Rattle.market_snapshot.specs.Widths.{FitUnits, FitsAccount, FitsOrder, FitWidths}
 
 number_fits : (v : Version) → IsUnsigned 1 (number_of v)

@@ -11,11 +11,11 @@ use Rattle.flow_orders.specs.Orders.{most_orders}
 use Rattle.market_rules.specs.Market.{Market}
 use Rattle.market_parts.specs.Parts.{ReadOrder, Parts}
 use Rattle.market_snapshot.specs.Checkpoints.{IsCheckpoint}
-use Rattle.market_snapshot.specs.Spellings.{order_spelling, parts_of_market}
+use Rattle.market_snapshot.specs.Encodings.{order_encoding, parts_of_market}
 use Rattle.market_snapshot.specs.Widths.{FitsOrder, FitWidths}
 use Rattle.market_snapshot.specs.Layout.{account_size, order_size}
-use Rattle.market_snapshot.proofs.Walking.{order_length, StandsAt, stands, StandAhead, none_passed, next_stands, one_passed, HasFront, front}
-use Rattle.market_snapshot.proofs.OneMarket.{fitting, spelled}
+use Rattle.market_snapshot.proofs.Walking.{order_length, StandsAt, stands, StandAhead, none_passed, next_stands, one_passed, HasPrefix, prefix}
+use Rattle.market_snapshot.proofs.OneMarket.{fitting, encoded}
 
 -- a number that is complete is read alike, whatever follows
 unsigned_more : (size place : ℕ) (bytes more : List ℕ) → place + size ≤ length bytes → unsigned_at size place (bytes ++ more) ≡ unsigned_at size place bytes
@@ -24,15 +24,15 @@ unsigned_more size place bytes more there =
     ap (digits_on 0) (ap (take size) (drop-append-le place bytes more (omega (arith, there))) ∙ take-append-le size (drop place bytes) more (omega (arith, there, length-drop place bytes)))
 
 -- orders take at least 53 bytes each
-orders_least : (orders : List ReadOrder) → 53 * length orders ≤ length (flat_map order_spelling orders)
+orders_least : (orders : List ReadOrder) → 53 * length orders ≤ length (flat_map order_encoding orders)
 orders_least [] = omega arith
-orders_least (o ∷ orders) = omega (arith, orders_least orders, order_length o, length-append (order_spelling o) (flat_map order_spelling orders))
+orders_least (o ∷ orders) = omega (arith, orders_least orders, order_length o, length-append (order_encoding o) (flat_map order_encoding orders))
 
 -- where orders end, by those that are passed
-ends_behind : (bytes : List ℕ) (first end passed count : ℕ) → StandAhead bytes first end passed count → (orders : List ReadOrder) (rest : List ℕ) → length orders ≡ count → All FitsOrder orders
-    → drop first bytes ≡ flat_map order_spelling orders ++ rest → first ≤ length bytes → end ≤ length bytes → first + length (flat_map order_spelling orders) ≡ end + length (flat_map order_spelling (drop passed orders))
+ends_after : (bytes : List ℕ) (first end passed count : ℕ) → StandAhead bytes first end passed count → (orders : List ReadOrder) (rest : List ℕ) → length orders ≡ count → All FitsOrder orders
+    → drop first bytes ≡ flat_map order_encoding orders ++ rest → first ≤ length bytes → end ≤ length bytes → first + length (flat_map order_encoding orders) ≡ end + length (flat_map order_encoding (drop passed orders))
 unfolding StandAhead
-ends_behind bytes first end passed count ahead orders rest many fit here from to =
+ends_after bytes first end passed count ahead orders rest many fit here from to =
     omega (
       arith,
       from,
@@ -41,8 +41,8 @@ ends_behind bytes first end passed count ahead orders rest many fit here from to
       ap length (ahead orders rest many fit here),
       length-drop first bytes,
       length-drop end bytes,
-      length-append (flat_map order_spelling orders) rest,
-      length-append (flat_map order_spelling (drop passed orders)) rest,
+      length-append (flat_map order_encoding orders) rest,
+      length-append (flat_map order_encoding (drop passed orders)) rest,
     )
 
 -- `StandAhead` for these bytes with whatever follows them
@@ -61,31 +61,31 @@ pub one_passed_on : (bytes : List ℕ) (first end passed count size : ℕ) → S
 unfolding StandOn
 one_passed_on bytes first end passed count size ahead below is there more = one_passed (bytes ++ more) first end passed count size (ahead more) below (size_more bytes more end size is there)
 
-module _ (bytes more rest : List ℕ) (first end passed count : ℕ) (ahead : StandOn bytes first end passed count) (orders : List ReadOrder) (many : length orders ≡ count) (fit : All FitsOrder orders) (here : drop first (bytes ++ more) ≡ flat_map order_spelling orders ++ rest)
+module _ (bytes more rest : List ℕ) (first end passed count : ℕ) (ahead : StandOn bytes first end passed count) (orders : List ReadOrder) (many : length orders ≡ count) (fit : All FitsOrder orders) (here : drop first (bytes ++ more) ≡ flat_map order_encoding orders ++ rest)
     (from : first ≤ length bytes) (to : end ≤ length bytes) where
-  total : first + length (flat_map order_spelling orders) ≡ end + length (flat_map order_spelling (drop passed orders))
+  total : first + length (flat_map order_encoding orders) ≡ end + length (flat_map order_encoding (drop passed orders))
   unfolding StandOn
-  total = ends_behind (bytes ++ more) first end passed count (ahead more) orders rest many fit here (omega (arith, from, length-append bytes more)) (omega (arith, to, length-append bytes more))
+  total = ends_after (bytes ++ more) first end passed count (ahead more) orders rest many fit here (omega (arith, from, length-append bytes more)) (omega (arith, to, length-append bytes more))
 
   -- all orders are passed
-  pub all_passed : passed ≡ count → first + length (flat_map order_spelling orders) ≡ end
+  pub all_passed : passed ≡ count → first + length (flat_map order_encoding orders) ≡ end
   all_passed same =
       let none : drop passed orders ≡ [] = drop_of_length-le orders (omega (arith, same, many)) in
-      total ∙ ap (λ (os : List ReadOrder). end + length (flat_map order_spelling os)) none ∙ omega arith
+      total ∙ ap (λ (os : List ReadOrder). end + length (flat_map order_encoding os)) none ∙ omega arith
 
   -- the orders that are left take at least 53 bytes each
-  pub some_left : end + 53 * (count - passed) ≤ first + length (flat_map order_spelling orders)
+  pub some_left : end + 53 * (count - passed) ≤ first + length (flat_map order_encoding orders)
   some_left = omega (arith, total, orders_least (drop passed orders), length-drop passed orders, many)
 
   -- the numbers of the next order are complete
-  pub next_left : (size : ℕ) → passed < count → size ≡ 53 + 6 * unsigned_at 1 (end + 52) bytes → end + 53 ≤ length bytes → end + size + 53 * (count - passed - 1) ≤ first + length (flat_map order_spelling orders)
+  pub next_left : (size : ℕ) → passed < count → size ≡ 53 + 6 * unsigned_at 1 (end + 52) bytes → end + 53 ≤ length bytes → end + size + 53 * (count - passed - 1) ≤ first + length (flat_map order_encoding orders)
   unfolding StandOn
   next_left size below is there =
       let next = next_stands (bytes ++ more) first end passed count (ahead more) below orders rest many fit here in
-      let at = stands next.0 end (bytes ++ more) (flat_map order_spelling (drop (passed + 1) orders) ++ rest) next.1 next.2 in
+      let at = stands next.0 end (bytes ++ more) (flat_map order_encoding (drop (passed + 1) orders) ++ rest) next.1 next.2 in
       let same = size_more bytes more end size is there in
       let on = one_passed (bytes ++ more) first end passed count size (ahead more) below same in
-      let whole = ends_behind (bytes ++ more) first (end + size) (passed + 1) count on orders rest many fit here (omega (arith, from, length-append bytes more)) (omega (arith, at.whole, same)) in
+      let whole = ends_after (bytes ++ more) first (end + size) (passed + 1) count on orders rest many fit here (omega (arith, from, length-append bytes more)) (omega (arith, at.whole, same)) in
       omega (arith, whole, orders_least (drop (passed + 1) orders), length-drop (passed + 1) orders, many)
 
 -- a checkpoint that bytes begin with, and what follows them
@@ -105,12 +105,12 @@ module _ (bytes : List ℕ) (m : Market) (checkpoint more rest : List ℕ) (is :
   fits : FitWidths p
   fits = fitting m checkpoint is
 
-  found : HasFront p (bytes ++ more) rest
-  found = front p (bytes ++ more) rest fits (e ∙ ap (λ z. z ++ rest) (spelled m checkpoint is))
+  found : HasPrefix p (bytes ++ more) rest
+  found = prefix p (bytes ++ more) rest fits (e ∙ ap (λ z. z ++ rest) (encoded m checkpoint is))
 
   -- its length
-  pub long : length checkpoint ≡ first_of + length (flat_map order_spelling p.orders)
-  long = omega (arith, found.whole, ap length e, ap length found.orders, length-drop first_of (bytes ++ more), length-append checkpoint rest, length-append (flat_map order_spelling p.orders) rest)
+  pub long : length checkpoint ≡ first_of + length (flat_map order_encoding p.orders)
+  long = omega (arith, found.whole, ap length e, ap length found.orders, length-drop first_of (bytes ++ more), length-append checkpoint rest, length-append (flat_map order_encoding p.orders) rest)
 
   pub assets_read : 11 ≤ length bytes → unsigned_at 2 9 bytes ≡ length m.tickers
   assets_read there = sym (unsigned_more 2 9 bytes more (omega (arith, there))) ∙ found.assets
@@ -146,8 +146,8 @@ module _ (bytes : List ℕ) (m : Market) (checkpoint more rest : List ℕ) (is :
       sizes_are size is = ap (λ s. s * accounts) (is ∙ ap account_size assets_are) ∙ ap (λ n. account_size (length m.tickers) * n) accounts_are
 
   -- the place where its orders end is its length
-  pub ends : (n : ℕ) → ((orders : List ReadOrder) (behind tail : List ℕ) → length orders ≡ length p.orders → All FitsOrder orders → drop first_of (bytes ++ behind) ≡ flat_map order_spelling orders ++ tail
-      → (n ≤ first_of + length (flat_map order_spelling orders)) × (n ≤ length bytes → first_of + length (flat_map order_spelling orders) ≡ n))
+  pub ends : (n : ℕ) → ((orders : List ReadOrder) (following tail : List ℕ) → length orders ≡ length p.orders → All FitsOrder orders → drop first_of (bytes ++ following) ≡ flat_map order_encoding orders ++ tail
+      → (n ≤ first_of + length (flat_map order_encoding orders)) × (n ≤ length bytes → first_of + length (flat_map order_encoding orders) ≡ n))
       → (n ≤ length checkpoint) × (n ≤ length bytes → length checkpoint ≡ n)
   ends n so =
       let same : length p.orders ≡ length p.orders = omega arith in

@@ -8,7 +8,7 @@ use Rattle.market_rules.specs.Market.{Market}
 use Rattle.wire_records.specs.Versions.{number_of}
 use Rattle.market_parts.specs.Parts.{ReadOrder, Parts, order_of, market_of, HasParts}
 use Rattle.market_snapshot.specs.Checkpoints.{ticks_of}
-use Rattle.market_snapshot.specs.Spellings.{read_order, parts_of_market}
+use Rattle.market_snapshot.specs.Encodings.{read_order, parts_of_market}
 
 -- a price of whole ticks, in ticks
 pub ticks_are : (grains ticks : ℤ) → grains ≡ price_of_ticks ticks → ticks_of grains ≡ ticks

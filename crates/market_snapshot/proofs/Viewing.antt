@@ -9,16 +9,16 @@ use Rattle.market_snapshot.specs.declared.layout.Layout.{Layout}
 use Rattle.market_snapshot.specs.declared.reading.SnapshotFault.{SnapshotFault}
 use Rattle.market_snapshot.specs.declared.reading.SnapshotFault.TheVariants.{NotSound, Memory}
 use Rattle.market_snapshot.specs.Answers.{WhereNotSound}
-use Rattle.market_snapshot.specs.Spellings.{order_spelling}
+use Rattle.market_snapshot.specs.Encodings.{order_encoding}
 use Rattle.market_snapshot.specs.Layout.{account_size, count_place, first_place, IsLayout, BeginsWithNoParts, HasNoOrders}
-use Rattle.market_snapshot.proofs.Walking.{HasFront, front}
+use Rattle.market_snapshot.proofs.Walking.{HasPrefix, prefix}
 
 -- the bytes begin with parts: the places of the number of orders and of the orders
 record StandsThere (p : Parts) (l : Layout) (bytes rest : List ℕ) : Type 0 where
   count : unsigned_at 4 (count_place l) bytes ≡ length p.orders
-  orders : drop (first_place l) bytes ≡ flat_map order_spelling p.orders ++ rest
+  orders : drop (first_place l) bytes ≡ flat_map order_encoding p.orders ++ rest
 
-stands_there : (p : Parts) (l : Layout) (bytes rest : List ℕ) → IsLayout bytes l → HasFront p bytes rest → StandsThere p l bytes rest
+stands_there : (p : Parts) (l : Layout) (bytes rest : List ℕ) → IsLayout bytes l → HasPrefix p bytes rest → StandsThere p l bytes rest
 stands_there p l bytes rest laid f =
     let assets : l.assets ≡ length p.tickers = laid.assets ∙ f.assets in
     let accounts : l.accounts ≡ account_count p.balances = laid.accounts ∙ ap (λ n. unsigned_at 4 (11 + 8 * n) bytes) assets ∙ f.accounts in
@@ -33,13 +33,13 @@ stands_there p l bytes rest laid f =
 -- more orders are stated than a consistent market may have
 pub too_many : (l : Layout) (bytes : List ℕ) (count : ℕ) → IsLayout bytes l → count ≡ unsigned_at 4 (count_place l) bytes → 16385 ≤ count → BeginsWithNoParts bytes
 too_many l bytes count laid read many p rest fits is =
-    let there = stands_there p l bytes rest laid (front p bytes rest fits is) in
+    let there = stands_there p l bytes rest laid (prefix p bytes rest fits is) in
     absurd (omega (arith, many, read, there.count, fits.few))
 
 -- the bytes don't have the orders that they state
 no_parts : (l : Layout) (bytes : List ℕ) (count : ℕ) → IsLayout bytes l → count ≡ unsigned_at 4 (count_place l) bytes → HasNoOrders count (first_place l) bytes → BeginsWithNoParts bytes
 no_parts l bytes count laid read none p rest fits is =
-    let there = stands_there p l bytes rest laid (front p bytes rest fits is) in
+    let there = stands_there p l bytes rest laid (prefix p bytes rest fits is) in
     none p.orders rest (sym (read ∙ there.count)) fits.orders there.orders
 
 pub faulted : (fault : SnapshotFault) (l : Layout) (bytes : List ℕ) (count : ℕ) → IsLayout bytes l → count ≡ unsigned_at 4 (count_place l) bytes → WhereNotSound fault (HasNoOrders count (first_place l) bytes) → WhereNotSound fault (BeginsWithNoParts bytes)

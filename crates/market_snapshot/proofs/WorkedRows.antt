@@ -11,9 +11,9 @@ use Rattle.market_rules.specs.Market.{empty_market, held_balance}
 use Rattle.market_rules.proofs.Consistency.{consistent-empty}
 use Rattle.market_parts.specs.Parts.{Parts}
 use Rattle.market_snapshot.specs.Checkpoints.{checkpoint_bytes, IsCheckpoint, BeginsWithNoCheckpoint}
-use Rattle.market_snapshot.specs.Spellings.{tickers_spelling, accounts_spelling, totals_spelling, exchange_spelling, batches_spelling, orders_spelling, parts_spelling, parts_of_market}
+use Rattle.market_snapshot.specs.Encodings.{tickers_encoding, accounts_encoding, totals_encoding, exchange_encoding, batches_encoding, orders_encoding, parts_encoding, parts_of_market}
 use Rattle.market_snapshot.specs.Widths.{FitsAccount, FitsOrder, FitWidths}
-use Rattle.market_snapshot.proofs.OneMarket.{fitting, spelled}
+use Rattle.market_snapshot.proofs.OneMarket.{fitting, encoded}
 use Rattle.market_snapshot.proofs.OneParts.{parts_unique}
 
 -- the bytes with this many grains as the total of money, of version One, of no assets, accounts and orders, before the first batch
@@ -33,7 +33,7 @@ empty_checkpoint = record {
   consistent = consistent-empty One;
   next = omega arith;
   last = All-nil (λ (o : Order). o.last < 2 ^ 32);
-  spelled = sym empty_bytes;
+  encoded = sym empty_bytes;
 }
 
 -- with a grain that nobody holds, these bytes begin with no checkpoint
@@ -49,8 +49,8 @@ a_grain = record {
   last_prices = [];
 }
 
-grain_bytes : parts_spelling a_grain ≡ with_total 1
-unfolding a_grain parts_spelling tickers_spelling accounts_spelling totals_spelling exchange_spelling batches_spelling orders_spelling unsigned signed
+grain_bytes : parts_encoding a_grain ≡ with_total 1
+unfolding a_grain parts_encoding tickers_encoding accounts_encoding totals_encoding exchange_encoding batches_encoding orders_encoding unsigned signed
 grain_bytes = refl
 
 grain_fits : FitWidths a_grain
@@ -82,8 +82,8 @@ held_of p = held_balance (record { version = One; tickers = p.tickers; balances 
 
 a_grain_too_much : BeginsWithNoCheckpoint (with_total 1)
 unfolding a_grain held_of
-a_grain_too_much m front rest is e =
-    let same = parts_unique (parts_of_market m) a_grain rest [] (fitting m front is) grain_fits (ap (λ z. z ++ rest) (sym (spelled m front is)) ∙ sym e ∙ sym grain_bytes ∙ sym (append-nil (parts_spelling a_grain))) in
+a_grain_too_much m prefix rest is e =
+    let same = parts_unique (parts_of_market m) a_grain rest [] (fitting m prefix is) grain_fits (ap (λ z. z ++ rest) (sym (encoded m prefix is)) ∙ sym e ∙ sym grain_bytes ∙ sym (append-nil (parts_encoding a_grain))) in
     let held : held_of (parts_of_market m) ≡ m.balances.totals.money = is.consistent.totals None tt in
     let none : held_of a_grain ≡ pos 0 = refl in
     let total : m.balances.totals.money ≡ pos 1 = ap (λ (p : Parts). p.balances.totals.money) same.0 in

@@ -49,7 +49,7 @@ pub record IsCheckpoint (m : Market) (bytes : List ℕ) : Type 0 where
   pub consistent : IsConsistent m
   pub next : m.next_order < 2 ^ 63
   pub last : All (λ (o : Order). o.last < 2 ^ 32) m.orders
-  pub spelled : bytes ≡ checkpoint_bytes m
+  pub encoded : bytes ≡ checkpoint_bytes m
 
 -- the bytes begin with the magic of a checkpoint
 abbrev pub HasCheckpointMagic : List ℕ → Type 0
@@ -57,4 +57,4 @@ HasCheckpointMagic bytes = (rest : List ℕ) × (bytes ≡ checkpoint_magic ++ r
 
 -- no prefix of the bytes is a checkpoint
 abbrev pub BeginsWithNoCheckpoint : List ℕ → Type 0
-BeginsWithNoCheckpoint bytes = (m : Market) (front rest : List ℕ) → IsCheckpoint m front → bytes ≢ front ++ rest
+BeginsWithNoCheckpoint bytes = (m : Market) (prefix rest : List ℕ) → IsCheckpoint m prefix → bytes ≢ prefix ++ rest

@@ -8,7 +8,7 @@ use Rattle.flow_accounts.specs.Balances.{Account, Credit, Balances}
 use Rattle.market_parts.specs.Parts.{ReadOrder, Parts}
 use Rattle.market_snapshot.specs.declared.layout.Layout.{Layout}
 use Rattle.market_snapshot.specs.Checkpoints.{checkpoint_magic}
-use Rattle.market_snapshot.specs.Spellings.{order_spelling, parts_spelling}
+use Rattle.market_snapshot.specs.Encodings.{order_encoding, parts_encoding}
 use Rattle.market_snapshot.specs.Widths.{FitsOrder, FitWidths}
 
 -- how many bytes an account takes, with its credit line
@@ -111,19 +111,19 @@ pub record IsLayout (bytes : List ℕ) (l : Layout) : Type 0 where
 -- orders are at these places, one after the other, from the place `first` up to the place `end`
 pub record AreOrders (bytes : List ℕ) (first end : ℕ) (places : List ℕ) : Type 0 where
   pub there : All (λ p. p + order_size p bytes ≤ length bytes) places
-  pub spelled : flat_map order_spelling (map (λ p. order_at p bytes) places) ≡ part first (end - first) bytes
+  pub encoded : flat_map order_encoding (map (λ p. order_at p bytes) places) ≡ part first (end - first) bytes
   pub forward : first ≤ end
   pub inside : end ≤ length bytes
 
 -- the bytes don't begin with parts that fit
 abbrev pub BeginsWithNoParts : List ℕ → Type 0
-BeginsWithNoParts bytes = (p : Parts) (rest : List ℕ) → FitWidths p → ¬ (bytes ≡ parts_spelling p ++ rest)
+BeginsWithNoParts bytes = (p : Parts) (rest : List ℕ) → FitWidths p → ¬ (bytes ≡ parts_encoding p ++ rest)
 
 -- no `count` orders that fit follow one another from this place on
 abbrev pub HasNoOrders : (count place : ℕ) → List ℕ → Type 0
 HasNoOrders count place bytes =
-    (orders : List ReadOrder) (rest : List ℕ) → length orders ≡ count → All FitsOrder orders → ¬ (drop place bytes ≡ flat_map order_spelling orders ++ rest)
+    (orders : List ReadOrder) (rest : List ℕ) → length orders ≡ count → All FitsOrder orders → ¬ (drop place bytes ≡ flat_map order_encoding orders ++ rest)
 
 -- no order that fits is at a place
 abbrev pub BeginsWithNoOrder : (place : ℕ) → List ℕ → Type 0
-BeginsWithNoOrder place bytes = (o : ReadOrder) (rest : List ℕ) → FitsOrder o → ¬ (drop place bytes ≡ order_spelling o ++ rest)
+BeginsWithNoOrder place bytes = (o : ReadOrder) (rest : List ℕ) → FitsOrder o → ¬ (drop place bytes ≡ order_encoding o ++ rest)

@@ -1,6 +1,6 @@
 pub mod Answers
 pub mod Checkpoints
-pub mod Spellings
+pub mod Encodings
 pub mod Fields
 pub mod Kept
 pub mod Laws

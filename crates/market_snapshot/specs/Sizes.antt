@@ -4,7 +4,7 @@ use Rattle.std.specs.List.{flat_map}
 use Rattle.market_rules.specs.Market.{Market}
 use Rattle.market_parts.specs.Parts.{ReadOrder}
 use Rattle.market_snapshot.specs.Checkpoints.{IsCheckpoint}
-use Rattle.market_snapshot.specs.Spellings.{order_spelling}
+use Rattle.market_snapshot.specs.Encodings.{order_encoding}
 use Rattle.market_snapshot.specs.Widths.{FitsOrder}
 
 -- each checkpoint that begins with these bytes has at least n bytes, and exactly n if n of them are here
@@ -17,5 +17,5 @@ HasSize bytes n =
 -- many bytes are here
 abbrev pub EndsWith : List ℕ → (first count end : ℕ) → Type 0
 EndsWith bytes first count end =
-    (orders : List ReadOrder) (more rest : List ℕ) → length orders ≡ count → All FitsOrder orders → drop first (bytes ++ more) ≡ flat_map order_spelling orders ++ rest
-    → (end ≤ first + length (flat_map order_spelling orders)) × (end ≤ length bytes → first + length (flat_map order_spelling orders) ≡ end)
+    (orders : List ReadOrder) (more rest : List ℕ) → length orders ≡ count → All FitsOrder orders → drop first (bytes ++ more) ≡ flat_map order_encoding orders ++ rest
+    → (end ≤ first + length (flat_map order_encoding orders)) × (end ≤ length bytes → first + length (flat_map order_encoding orders) ≡ end)

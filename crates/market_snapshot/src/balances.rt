@@ -3,7 +3,7 @@ ghost use Rattle.std.specs.Prelude.{◌≡◌, ◌+◌, ◌*◌, ◌≤◌, ◌+
 ghost use Rattle.std.specs.List.{flat_map, zip};
 ghost use Rattle.flow_accounts.specs.Balances.{IsAccount, account_count, asset_count, account_of, credit_of};
 ghost use Rattle.market_snapshot.specs.Layout.{account_size};
-ghost use Rattle.market_snapshot.specs.Spellings.{units_spelling, account_spelling, accounts_spelling, totals_spelling, exchange_spelling};
+ghost use Rattle.market_snapshot.specs.Encodings.{units_encoding, account_encoding, accounts_encoding, totals_encoding, exchange_encoding};
 
 use flow_accounts::Accounts;
 use residual_account::ResidualAccount;
@@ -14,7 +14,7 @@ fn put_units(out: &mut Vec<u8>, accounts: &Accounts, account: u32)
     requires account { IsAccount accounts.now account }
     requires room { vec_len out.old + 16 * asset_count accounts.now ≤ vec_capacity out.old }
     ensures written { out.new.items ≡ out.old.items
-        ++ flat_map units_spelling (zip (account_of accounts.now account).units (credit_of accounts.now account).units) }
+        ++ flat_map units_encoding (zip (account_of accounts.now account).units (credit_of accounts.now account).units) }
     ensures len { vec_len out.new ≡ vec_len out.old + 16 * asset_count accounts.now }
     ensures capacity { vec_capacity out.new ≡ vec_capacity out.old }
 {
@@ -29,7 +29,7 @@ fn put_account(out: &mut Vec<u8>, accounts: &Accounts, account: u32)
     requires account { IsAccount accounts.now account }
     requires room { vec_len out.old + account_size (asset_count accounts.now) ≤ vec_capacity out.old }
     ensures written { out.new.items ≡ out.old.items
-        ++ account_spelling (account_of accounts.now account, credit_of accounts.now account) }
+        ++ account_encoding (account_of accounts.now account, credit_of accounts.now account) }
     ensures len { vec_len out.new ≡ vec_len out.old + account_size (asset_count accounts.now) }
     ensures capacity { vec_capacity out.new ≡ vec_capacity out.old }
 {
@@ -41,7 +41,7 @@ fn put_account(out: &mut Vec<u8>, accounts: &Accounts, account: u32)
 // Appends how many accounts there are, and the accounts.
 pub(crate) fn put_accounts(out: &mut Vec<u8>, accounts: &Accounts)
     requires { vec_len out.old + (4 + account_size (asset_count accounts.now) * account_count accounts.now) ≤ vec_capacity out.old }
-    ensures written { out.new.items ≡ out.old.items ++ accounts_spelling accounts.now }
+    ensures written { out.new.items ≡ out.old.items ++ accounts_encoding accounts.now }
     ensures len { vec_len out.new ≡ vec_len out.old + (4 + account_size (asset_count accounts.now) * account_count accounts.now) }
     ensures capacity { vec_capacity out.new ≡ vec_capacity out.old }
 {
@@ -54,7 +54,7 @@ pub(crate) fn put_accounts(out: &mut Vec<u8>, accounts: &Accounts)
 // Appends the totals of deposits less withdrawals.
 pub(crate) fn put_totals(out: &mut Vec<u8>, accounts: &Accounts)
     requires { vec_len out.old + (16 + 8 * asset_count accounts.now) ≤ vec_capacity out.old }
-    ensures written { out.new.items ≡ out.old.items ++ totals_spelling accounts.now }
+    ensures written { out.new.items ≡ out.old.items ++ totals_encoding accounts.now }
     ensures len { vec_len out.new ≡ vec_len out.old + (16 + 8 * asset_count accounts.now) }
     ensures capacity { vec_capacity out.new ≡ vec_capacity out.old }
 {
@@ -67,7 +67,7 @@ pub(crate) fn put_totals(out: &mut Vec<u8>, accounts: &Accounts)
 // Appends the exchange's own account.
 pub(crate) fn put_exchange(out: &mut Vec<u8>, exchange: &ResidualAccount)
     requires { vec_len out.old + (16 + 8 * length exchange.now.units) ≤ vec_capacity out.old }
-    ensures written { out.new.items ≡ out.old.items ++ exchange_spelling exchange.now }
+    ensures written { out.new.items ≡ out.old.items ++ exchange_encoding exchange.now }
     ensures len { vec_len out.new ≡ vec_len out.old + (16 + 8 * length exchange.now.units) }
     ensures capacity { vec_capacity out.new ≡ vec_capacity out.old }
 {

@@ -1,6 +1,6 @@
 //! A view of a checkpoint in borrowed bytes.
 ghost use Rattle.std.specs.Prelude.{◌≡◌, ◌++◌, length, drop, IfOk};
-ghost use Rattle.market_snapshot.specs.Spellings.{parts_spelling};
+ghost use Rattle.market_snapshot.specs.Encodings.{parts_encoding};
 ghost use Rattle.market_snapshot.specs.Widths.{FitWidths};
 ghost use Rattle.market_snapshot.specs.Layout.{BeginsWithNoParts};
 ghost use Rattle.market_snapshot.specs.Answers.{IfNotSound};
@@ -44,7 +44,7 @@ impl<'a> Model for SnapshotView<'a> {
 // Returns the view of the parts that the bytes begin with. Costs one pass over the orders, and eight bytes of memory for each.
 pub(crate) fn view_of(alloc: Global, bytes: &[u8]) -> Result<SnapshotView<'_>, SnapshotFault>
     ensures fits { IfOk result (λ view. FitWidths view) }
-    ensures begins { IfOk result (λ view. bytes.now ≡ parts_spelling view ++ drop (length (parts_spelling view)) bytes.now) }
+    ensures begins { IfOk result (λ view. bytes.now ≡ parts_encoding view ++ drop (length (parts_encoding view)) bytes.now) }
     ensures none { IfNotSound result (BeginsWithNoParts bytes.now) }
 {
     let layout = match layout_of(bytes) {
@@ -71,7 +71,7 @@ pub(crate) fn view_of(alloc: Global, bytes: &[u8]) -> Result<SnapshotView<'_>, S
 impl<'a> SnapshotView<'a> {
     // Returns how many bytes the parts take.
     pub(crate) fn len(&self) -> usize
-        ensures { result ≡ length (parts_spelling self.now) }
+        ensures { result ≡ length (parts_encoding self.now) }
     {
         self.end
     }

@@ -3,8 +3,8 @@ ghost use Rattle.std.specs.Prelude.{◌≡◌, ◌+◌, ◌*◌, ◌^◌, ◌<�
 ghost use Rattle.std.specs.List.{flat_map};
 ghost use Rattle.market_snapshot.specs.Layout.{account_size};
 ghost use Rattle.market_snapshot.specs.Checkpoints.{IsCheckpoint, checkpoint_bytes};
-ghost use Rattle.market_snapshot.specs.Spellings.{order_spelling, read_order, tickers_spelling, batches_spelling};
-ghost use Rattle.market_snapshot.specs.Fields.{fields_spelling};
+ghost use Rattle.market_snapshot.specs.Encodings.{order_encoding, read_order, tickers_encoding, batches_encoding};
+ghost use Rattle.market_snapshot.specs.Fields.{fields_encoding};
 ghost use Rattle.wire_records.specs.Versions.{number_of};
 ghost use Rattle.market_rules.specs.Market.{IsConsistent};
 ghost use Rattle.flow_accounts.specs.Balances.{account_count};
@@ -20,7 +20,7 @@ use wire_records::{Memory, Version};
 // Appends the magic, the version, and the tickers.
 fn put_tickers(out: &mut Vec<u8>, version: Version, tickers: &TickerTable)
     requires { vec_len out.old + (11 + 8 * length tickers.now) ≤ vec_capacity out.old }
-    ensures written { out.new.items ≡ out.old.items ++ tickers_spelling (number_of version) tickers.now }
+    ensures written { out.new.items ≡ out.old.items ++ tickers_encoding (number_of version) tickers.now }
     ensures len { vec_len out.new ≡ vec_len out.old + (11 + 8 * length tickers.now) }
     ensures capacity { vec_capacity out.new ≡ vec_capacity out.old }
 {
@@ -36,7 +36,7 @@ fn put_tickers(out: &mut Vec<u8>, version: Version, tickers: &TickerTable)
 fn put_batches(out: &mut Vec<u8>, market: &Market)
     requires { vec_len out.old + (12 + 8 * length market.now.last_prices) ≤ vec_capacity out.old }
     ensures written { out.new.items ≡ out.old.items
-        ++ batches_spelling market.now.next_order market.now.batches market.now.last_prices }
+        ++ batches_encoding market.now.next_order market.now.batches market.now.last_prices }
     ensures len { vec_len out.new ≡ vec_len out.old + (12 + 8 * length market.now.last_prices) }
     ensures capacity { vec_capacity out.new ≡ vec_capacity out.old }
 {
@@ -59,7 +59,7 @@ fn fields_size(market: &Market) -> usize
 fn put_fields(out: &mut Vec<u8>, market: &Market)
     requires { vec_len out.old + (59 + 32 * length market.now.tickers + account_size (length market.now.tickers) * account_count market.now.balances)
         ≤ vec_capacity out.old }
-    ensures written { out.new.items ≡ out.old.items ++ fields_spelling market.now }
+    ensures written { out.new.items ≡ out.old.items ++ fields_encoding market.now }
     ensures len { vec_len out.new ≡ vec_len out.old
         + (59 + 32 * length market.now.tickers + account_size (length market.now.tickers) * account_count market.now.balances) }
     ensures capacity { vec_capacity out.new ≡ vec_capacity out.old }

@@ -66,10 +66,10 @@ module _ (i : ℕ) (calls : List Call) (d : Call) (within : i < length calls) wh
   pub replay_at : (part fill n : ℕ) (rest bytes after held image now left : List ℕ) → n ≡ data_of (get_or calls i d ∷ []) → bytes ≡ take n rest → after ≡ drop n rest
       → now ≡ content_after (seen (get_or calls i d ∷ []) bytes) held → left ≡ crash_after part fill (seen (get_or calls i d ∷ []) bytes) held image
       → crash_after part fill (seen (drop (i + 1) calls) after) now left ≡ crash_after part fill (seen (drop i calls) rest) held image
-  replay_at part fill n rest bytes after held image now left size front behind is leaves =
+  replay_at part fill n rest bytes after held image now left size prefix following is leaves =
       let call = get_or calls i d in
-      ap (λ (l : List ℕ). crash_after part fill (seen (drop (i + 1) calls) l) now left) behind
-      ∙ replay_step part fill n call (drop (i + 1) calls) rest held image now left size (is ∙ ap (λ (l : List ℕ). content_after (seen (call ∷ []) l) held) front) (leaves ∙ ap (λ (l : List ℕ). crash_after part fill (seen (call ∷ []) l) held image) front)
+      ap (λ (l : List ℕ). crash_after part fill (seen (drop (i + 1) calls) l) now left) following
+      ∙ replay_step part fill n call (drop (i + 1) calls) rest held image now left size (is ∙ ap (λ (l : List ℕ). content_after (seen (call ∷ []) l) held) prefix) (leaves ∙ ap (λ (l : List ℕ). crash_after part fill (seen (call ∷ []) l) held image) prefix)
       ∙ ap (λ (l : List Call). crash_after part fill (seen l rest) held image) (sym (drop_more calls i d within))
 
 -- the first calls have no more data than all

@@ -1,9 +1,11 @@
 -- What a call does to the disk in memory, as a disk.
 use Rattle.std.proofs.Common.{◌≡◌, ◌⊎◌, inl, inr, ⊎_elim, ℕ, ◌+◌, ◌≤◌, ◌<◌, List, [], ◌∷◌, ◌++◌, Bool, true, false, length, take, Some, Result, Ok, Err, OnOk, OnErr, IsErr, is_err, is_ok, ◌↔◌, if◌then◌else◌, nat_lt, refl, sym, ap, ◌∙◌, subst, arith, length-append}
 use Rattle.std.proofs.lemmas.List.{take_all, take-append-le}
+use Rattle.std.specs.Prelude.{IfOk}
 use Rattle.memory_streams.specs.Fakes.{one_more}
-use Rattle.disk_edge.specs.Disks.{Elapses}
-use Rattle.disk_edge.specs.Images.{Images, written, TornWrite, TornCut, After, AddsNone, AddsBy, AddsNoLonger, LeavesOnly}
+use Rattle.flow_io.specs.Faults.{Blames}
+use Rattle.disk_edge.specs.Disks.{Elapses, OnlyTells, ChangesBy}
+use Rattle.disk_edge.specs.Images.{Images, written, TornWrite, TornCut, After, AddsNone, AddsNoLonger, LeavesOnly}
 use Rattle.memory_disk.specs.Memory.{Made, looked, wrote, cut, synced, content_of, images_of, content_after, images_after, MemoryState, disk_of, after_call, write_call, bytes_written, NextFails, FillsRoom}
 use Rattle.memory_disk.specs.MemoryLaws.{is_disk}
 use Rattle.std.proofs.lemmas.Bool.Decides.{nat_tests}
@@ -97,8 +99,11 @@ done_images disk call failed free = either (nat_lt disk.calls disk.most) (taken_
     either false is image left = cc
 
 module _ (disk new : MemoryState) where
+  time_goes : (call : Made) (failed : Bool) → new ≡ after_call disk call failed → Elapses (disk_of disk) (disk_of new)
+  time_goes call failed made = rw made (call_time disk call failed)
+
   module _ (failed : Bool) (made : new ≡ after_call disk looked failed) where
-    pub look_content : (disk_of new).content ≡ (disk_of disk).content
+    look_content : (disk_of new).content ≡ (disk_of disk).content
     look_content = rw made (call_content disk looked failed (λ held. refl))
 
     pub look_held : content_after new.made new.first ≡ content_after disk.made disk.first
@@ -108,18 +113,27 @@ module _ (disk new : MemoryState) where
         either true = content_push disk.made looked disk.first
         either false = refl
 
-    pub look_images : AddsNone (disk_of disk).images (disk_of new).images
+    look_images : AddsNone (disk_of disk).images (disk_of new).images
     look_images = rw made (call_images disk looked failed (disk_of disk).images (λ image is. is) (λ image is. is))
 
-  pub time_goes : (call : Made) (failed : Bool) → new ≡ after_call disk call failed → Elapses (disk_of disk) (disk_of new)
-  time_goes call failed made = rw made (call_time disk call failed)
+    pub look_tells : {T E : Type 0} (result : Result T E) (IsTold : T → List ℕ → Type 0) → IfOk result (λ value. IsTold value (content_after disk.made disk.first)) → Blames (IsErr result) disk.faults new.faults → OnlyTells result IsTold (disk_of disk) (disk_of new)
+    look_tells result IsTold told cause = record { told = told; content = look_content; images = look_images; time = time_goes looked failed made; cause = cause }
 
-  pub cut_content : {T E : Type 0} (to : ℕ) (result : Result T E) → new ≡ after_call disk (cut to (is_ok result)) (is_err result) → (IsErr result ↔ NextFails disk) → OnOk result ((disk_of new).content ≡ Some (take to (content_after disk.made disk.first)))
+  cut_content : {T E : Type 0} (to : ℕ) (result : Result T E) → new ≡ after_call disk (cut to (is_ok result)) (is_err result) → (IsErr result ↔ NextFails disk) → OnOk result ((disk_of new).content ≡ Some (take to (content_after disk.made disk.first)))
   cut_content to (Ok value) made fails = rw made (done_content disk (cut to true) false (λ may. let bad : false ≡ true = fails.1 may in cc))
   cut_content to (Err error) made fails = tt
 
-  pub cut_images : (to : ℕ) (done failed : Bool) → new ≡ after_call disk (cut to done) failed → AddsBy (TornCut to) (disk_of disk).images (disk_of new).images
+  cut_images : (to : ℕ) (done failed : Bool) → new ≡ after_call disk (cut to done) failed → AddsNone (After (TornCut to) (disk_of disk).images) (disk_of new).images
   cut_images to done failed made = rw made (call_images disk (cut to done) failed (After (TornCut to) (disk_of disk).images) (λ image is. (image, is, cut_stays to image)) (λ image is. is))
+
+  pub cut_changes : {T E : Type 0} (to : ℕ) (result : Result T E) → new ≡ after_call disk (cut to (is_ok result)) (is_err result) → (IsErr result ↔ NextFails disk) → Blames (IsErr result) disk.faults new.faults → ChangesBy result (take to) (TornCut to) (disk_of disk) (disk_of new)
+  cut_changes to result made fails cause = record {
+    content = cut_content to result made fails;
+    known = (λ is. is, λ is. is);
+    images = cut_images to (is_ok result) (is_err result) made;
+    time = time_goes (cut to (is_ok result)) (is_err result) made;
+    cause = cause;
+  }
 
   pub cut_no_longer : (to : ℕ) (done failed : Bool) → new ≡ after_call disk (cut to done) failed → to ≤ length (content_after disk.made disk.first) → AddsNoLonger (disk_of disk).images (disk_of new).images
   cut_no_longer to done failed made within = λ image left.
@@ -128,14 +142,14 @@ module _ (disk new : MemoryState) where
       (λ (past : length from.0 < length image). (content_after disk.made disk.first, (is_disk disk).content, omega (arith, from.2.no_longer, past, within)))
       (within_or_past (length image) (length from.0))
 
-  pub write_images : (place : ℕ) (bytes : List ℕ) (done failed : Bool) → new ≡ after_call disk (write_call disk place bytes done) failed → AddsBy (TornWrite place (length bytes)) (disk_of disk).images (disk_of new).images
+  write_images : (place : ℕ) (bytes : List ℕ) (done failed : Bool) → new ≡ after_call disk (write_call disk place bytes done) failed → AddsNone (After (TornWrite place (length bytes)) (disk_of disk).images) (disk_of new).images
   write_images place bytes done failed made = rw made (either (nat_lt disk.room (bytes_written disk.made + length bytes)))
     where
-      either : (full : Bool) → AddsBy (TornWrite place (length bytes)) (disk_of disk).images (disk_of (after_call disk (if full then looked else wrote place bytes done) failed)).images
+      either : (full : Bool) → AddsNone (After (TornWrite place (length bytes)) (disk_of disk).images) (disk_of (after_call disk (if full then looked else wrote place bytes done) failed)).images
       either true = call_images disk looked failed (After (TornWrite place (length bytes)) (disk_of disk).images) (λ image is. (image, is, write_stays place (length bytes) image)) (λ image is. (image, is, write_stays place (length bytes) image))
       either false = call_images disk (wrote place bytes done) failed (After (TornWrite place (length bytes)) (disk_of disk).images) (λ image is. (image, is, write_stays place (length bytes) image)) (λ image is. is)
 
-  pub write_content : {T E : Type 0} (place : ℕ) (bytes : List ℕ) (result : Result T E) → new ≡ after_call disk (write_call disk place bytes (is_ok result)) (is_err result) → (IsErr result ↔ (NextFails disk ⊎ FillsRoom disk bytes)) → OnOk result ((disk_of new).content ≡ Some (written place bytes (content_after disk.made disk.first)))
+  write_content : {T E : Type 0} (place : ℕ) (bytes : List ℕ) (result : Result T E) → new ≡ after_call disk (write_call disk place bytes (is_ok result)) (is_err result) → (IsErr result ↔ (NextFails disk ⊎ FillsRoom disk bytes)) → OnOk result ((disk_of new).content ≡ Some (written place bytes (content_after disk.made disk.first)))
   write_content place bytes (Ok value) made fails =
       let fits : nat_lt disk.room (bytes_written disk.made + length bytes) ≡ false = ⊎_elim
       (λ (full : nat_lt disk.room (bytes_written disk.made + length bytes) ≡ true). let past : FillsRoom disk bytes = grind (arith, nat_tests) in let bad : false ≡ true = fails.1 (inr past) in cc)
@@ -144,18 +158,36 @@ module _ (disk new : MemoryState) where
       rw (made, fits) (done_content disk (wrote place bytes true) false (λ may. let bad : false ≡ true = fails.1 (inl may) in cc))
   write_content place bytes (Err error) made fails = tt
 
-  pub sync_content : {T E : Type 0} (result : Result T E) → OnOk result (new ≡ after_call disk synced false) → OnErr result (new ≡ after_call disk looked true) → (disk_of new).content ≡ (disk_of disk).content
+  pub write_changes : {T E : Type 0} (place : ℕ) (bytes : List ℕ) (result : Result T E) → new ≡ after_call disk (write_call disk place bytes (is_ok result)) (is_err result) → (IsErr result ↔ (NextFails disk ⊎ FillsRoom disk bytes)) → Blames (IsErr result) disk.faults new.faults → ChangesBy result (written place bytes) (TornWrite place (length bytes)) (disk_of disk) (disk_of new)
+  write_changes place bytes result made fails cause = record {
+    content = write_content place bytes result made fails;
+    known = (λ is. is, λ is. is);
+    images = write_images place bytes (is_ok result) (is_err result) made;
+    time = time_goes (write_call disk place bytes (is_ok result)) (is_err result) made;
+    cause = cause;
+  }
+
+  sync_content : {T E : Type 0} (result : Result T E) → OnOk result (new ≡ after_call disk synced false) → OnErr result (new ≡ after_call disk looked true) → (disk_of new).content ≡ (disk_of disk).content
   sync_content (Ok value) ok err = rw ok (call_content disk synced false (λ held. refl))
   sync_content (Err error) ok err = rw err (call_content disk looked true (λ held. refl))
 
-  pub sync_kept : {T E : Type 0} (result : Result T E) → OnOk result (new ≡ after_call disk synced false) → (IsErr result ↔ NextFails disk) → OnOk result (LeavesOnly (disk_of new).images (content_after disk.made disk.first))
+  sync_kept : {T E : Type 0} (result : Result T E) → OnOk result (new ≡ after_call disk synced false) → (IsErr result ↔ NextFails disk) → IfOk result (λ value. LeavesOnly (disk_of new).images (content_after disk.made disk.first))
   sync_kept (Ok value) ok fails = rw ok (done_images disk synced false (λ may. let bad : false ≡ true = fails.1 may in cc))
   sync_kept (Err error) ok fails = tt
 
-  pub sync_images : {T E : Type 0} (result : Result T E) → OnOk result (new ≡ after_call disk synced false) → OnErr result (new ≡ after_call disk looked true) → AddsNone (disk_of disk).images (disk_of new).images
+  sync_images : {T E : Type 0} (result : Result T E) → OnOk result (new ≡ after_call disk synced false) → OnErr result (new ≡ after_call disk looked true) → AddsNone (disk_of disk).images (disk_of new).images
   sync_images (Ok value) ok err = rw ok (call_images disk synced false (disk_of disk).images (λ image is. is) (λ image is. subst (λ (l : List ℕ). (disk_of disk).images l) (sym is) (is_disk disk).content))
   sync_images (Err error) ok err = rw err (call_images disk looked true (disk_of disk).images (λ image is. is) (λ image is. is))
 
-  pub sync_time : {T E : Type 0} (result : Result T E) → OnOk result (new ≡ after_call disk synced false) → OnErr result (new ≡ after_call disk looked true) → Elapses (disk_of disk) (disk_of new)
+  sync_time : {T E : Type 0} (result : Result T E) → OnOk result (new ≡ after_call disk synced false) → OnErr result (new ≡ after_call disk looked true) → Elapses (disk_of disk) (disk_of new)
   sync_time (Ok value) ok err = time_goes synced false ok
   sync_time (Err error) ok err = time_goes looked true err
+
+  pub sync_tells : {T E : Type 0} (result : Result T E) → OnOk result (new ≡ after_call disk synced false) → OnErr result (new ≡ after_call disk looked true) → (IsErr result ↔ NextFails disk) → Blames (IsErr result) disk.faults new.faults → OnlyTells result (λ _. LeavesOnly (disk_of new).images) (disk_of disk) (disk_of new)
+  sync_tells result ok err fails cause = record {
+    told = sync_kept result ok fails;
+    content = sync_content result ok err;
+    images = sync_images result ok err;
+    time = sync_time result ok err;
+    cause = cause;
+  }

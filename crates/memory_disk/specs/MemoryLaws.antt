@@ -12,27 +12,27 @@ written_is_torn place bytes old = record {
   no_shorter = omega (arith, long);
   no_longer = omega (arith, long);
   outside = λ i below out. ⊎_elim (λ before.
-      get_or_append_left (take place old ++ bytes) (drop (place + length bytes) old) 0 i (omega (arith, front_long, before, below))
+      get_or_append_left (take place old ++ bytes) (drop (place + length bytes) old) 0 i (omega (arith, prefix_long, before, below))
       ∙ get_or_append_left (take place old) bytes 0 i (omega (arith, length-take place old, before, below))
       ∙ get_or-take place old i 0 before)
-      (λ behind.
-      get_or-append_right (take place old ++ bytes) (drop (place + length bytes) old) (place + length bytes) i 0 (omega (arith, front_long, below, behind)) behind
+      (λ following.
+      get_or-append_right (take place old ++ bytes) (drop (place + length bytes) old) (place + length bytes) i 0 (omega (arith, prefix_long, below, following)) following
       ∙ get_or-drop (place + length bytes) old (i - (place + length bytes)) 0
-      ∙ ap (λ (k : ℕ). get_or old k 0) (omega (arith, behind))) out;
+      ∙ ap (λ (k : ℕ). get_or old k 0) (omega (arith, following))) out;
 }
   where
-    front_long : length (take place old ++ bytes) ≡ min place (length old) + length bytes
-    front_long = omega (arith, length-append (take place old) bytes, length-take place old)
+    prefix_long : length (take place old ++ bytes) ≡ min place (length old) + length bytes
+    prefix_long = omega (arith, length-append (take place old) bytes, length-take place old)
 
     long : length (written place bytes old) ≡ min place (length old) + length bytes + (length old - (place + length bytes))
-    long = omega (arith, length-append (take place old ++ bytes) (drop (place + length bytes) old), front_long, length-drop (place + length bytes) old)
+    long = omega (arith, length-append (take place old ++ bytes) (drop (place + length bytes) old), prefix_long, length-drop (place + length bytes) old)
 
 -- a cut that is made is one that a crash may leave
 pub cut_is_torn : (to : ℕ) (old : List ℕ) → TornCut to old (take to old)
 cut_is_torn to old = record {
   no_shorter = omega (arith, length-take to old);
   no_longer = omega (arith, length-take to old);
-  front = λ i below within. get_or-take to old i 0 (omega (arith, length-take to old, within));
+  prefix = λ i below within. get_or-take to old i 0 (omega (arith, length-take to old, within));
 }
 
 -- what a read gives is one of the images
@@ -41,7 +41,7 @@ content_is_image looked held images is = is
 content_is_image (wrote place bytes true) held images is = (held, is, written_is_torn place bytes held)
 content_is_image (wrote place bytes false) held images is = (held, is, record { no_shorter = omega arith; no_longer = omega arith; outside = λ i below out. refl })
 content_is_image (cut to true) held images is = (held, is, cut_is_torn to held)
-content_is_image (cut to false) held images is = (held, is, record { no_shorter = omega arith; no_longer = omega arith; front = λ i below within. refl })
+content_is_image (cut to false) held images is = (held, is, record { no_shorter = omega arith; no_longer = omega arith; prefix = λ i below within. refl })
 content_is_image synced held images is = refl
 
 content_among : (calls : List Made) (held : List ℕ) (images : Images) → images held → images_after calls held images (content_after calls held)
@@ -65,7 +65,7 @@ crash_is_image part fill (wrote place bytes done) held image images is =
     let size : length (torn_bytes part fill bytes) ≡ length bytes = omega (arith, length-append (take part bytes) (replicate (length bytes - part) fill), length-take part bytes, length-replicate (length bytes - part) fill) in
     (image, is, subst (λ (n : ℕ). TornWrite place n image (written place (torn_bytes part fill bytes) image)) size (written_is_torn place (torn_bytes part fill bytes) image))
 crash_is_image part fill (cut to true) held image images is = (image, is, cut_is_torn to image)
-crash_is_image part fill (cut to false) held image images is = (image, is, record { no_shorter = omega arith; no_longer = omega arith; front = λ i below within. refl })
+crash_is_image part fill (cut to false) held image images is = (image, is, record { no_shorter = omega arith; no_longer = omega arith; prefix = λ i below within. refl })
 crash_is_image part fill synced held image images is = refl
 
 pub crash_among : (part fill : ℕ) (calls : List Made) (held image : List ℕ) (images : Images) → images image → images_after calls held images (crash_after part fill calls held image)

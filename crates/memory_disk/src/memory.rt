@@ -1,7 +1,7 @@
-ghost use Rattle.std.specs.Prelude.{◌≡◌, ◌⊎◌, ◌≤◌, ◌<◌, ◌+◌, ◌-◌, ◌^◌, min, [], true, false, IsErr, IfOk, OnOk, OnErr, length, take, drop, is_err, is_ok, ◌↔◌, IsSome, Some};
+ghost use Rattle.std.specs.Prelude.{◌≡◌, ◌⊎◌, ◌≤◌, ◌<◌, ◌+◌, ◌-◌, min, [], true, false, IsErr, IfOk, OnOk, OnErr, length, take, drop, is_err, is_ok, ◌↔◌};
 ghost use Rattle.flow_io.specs.Faults.{Rose, Blames};
-ghost use Rattle.disk_edge.specs.Disks.{Elapses};
-ghost use Rattle.disk_edge.specs.Images.{written, TornWrite, TornCut, AddsNone, AddsBy, AddsNoLonger, LeavesOnly};
+ghost use Rattle.disk_edge.specs.Disks.{OnlyTells, ChangesBy};
+ghost use Rattle.disk_edge.specs.Images.{written, TornWrite, TornCut, AddsNoLonger, LeavesOnly};
 ghost use Rattle.memory_disk.specs.Memory.{disk_of, looked, synced, cut, MemoryState, NextFails, after_call, write_call, FillsRoom, IsStopIn, content_after};
 
 use crate::bytes::{overwrite, put_all, read_out};
@@ -240,11 +240,7 @@ impl Disk for MemoryDisk {
     ghost state = { disk_of };
 
     fn length(&mut self) -> Result<u64, DiskFailed>
-        ensures length { IfOk result (λ count. count ≡ length (content_after self.old.made self.old.first)) }
-        ensures content { (disk_of self.new).content ≡ (disk_of self.old).content }
-        ensures images { AddsNone (disk_of self.old).images (disk_of self.new).images }
-        ensures time { Elapses (disk_of self.old) (disk_of self.new) }
-        ensures cause { Blames (IsErr result) self.old.faults self.new.faults }
+        ensures tells { OnlyTells result (λ count bytes. count ≡ length bytes) (disk_of self.old) (disk_of self.new) }
         ensures fails { IsErr result ↔ NextFails self.old }
         ensures made { self.new ≡ after_call self.old looked (is_err result) }
     {
@@ -254,12 +250,7 @@ impl Disk for MemoryDisk {
 
     fn read_at(&mut self, place: u64, into: &mut [u8]) -> Result<(), DiskFailed>
         requires { place + length into.old ≤ length (content_after self.old.made self.old.first) }
-        ensures read { OnOk result
-            (into.new ≡ take (length into.old) (drop place (content_after self.old.made self.old.first))) }
-        ensures content { (disk_of self.new).content ≡ (disk_of self.old).content }
-        ensures images { AddsNone (disk_of self.old).images (disk_of self.new).images }
-        ensures time { Elapses (disk_of self.old) (disk_of self.new) }
-        ensures cause { Blames (IsErr result) self.old.faults self.new.faults }
+        ensures tells { OnlyTells result (λ _ bytes. into.new ≡ take (length into.old) (drop place bytes)) (disk_of self.old) (disk_of self.new) }
         ensures fails { IsErr result ↔ NextFails self.old }
         ensures made { self.new ≡ after_call self.old looked (is_err result) }
         ensures stays { OnErr result (into.new ≡ into.old) }
@@ -270,12 +261,7 @@ impl Disk for MemoryDisk {
     }
 
     fn write_at(&mut self, place: u64, bytes: &[u8]) -> Result<(), DiskFailed>
-        ensures written { OnOk result
-            ((disk_of self.new).content ≡ Some (written place bytes.now (content_after self.old.made self.old.first))) }
-        ensures told { IsSome (disk_of self.new).content ↔ IsSome (disk_of self.old).content }
-        ensures images { AddsBy (TornWrite place (length bytes.now)) (disk_of self.old).images (disk_of self.new).images }
-        ensures time { Elapses (disk_of self.old) (disk_of self.new) }
-        ensures cause { Blames (IsErr result) self.old.faults self.new.faults }
+        ensures changes { ChangesBy result (written place bytes.now) (TornWrite place (length bytes.now)) (disk_of self.old) (disk_of self.new) }
         ensures fails { IsErr result ↔ (NextFails self.old ⊎ FillsRoom self.old bytes.now) }
         ensures made { self.new ≡ after_call self.old (write_call self.old place bytes.now (is_ok result)) (is_err result) }
     {
@@ -284,13 +270,8 @@ impl Disk for MemoryDisk {
 
     fn cut(&mut self, to: u64) -> Result<(), DiskFailed>
         requires { to ≤ length (content_after self.old.made self.old.first) }
-        ensures cut { OnOk result
-            ((disk_of self.new).content ≡ Some (take to (content_after self.old.made self.old.first))) }
-        ensures told { IsSome (disk_of self.new).content ↔ IsSome (disk_of self.old).content }
-        ensures images { AddsBy (TornCut to) (disk_of self.old).images (disk_of self.new).images }
+        ensures changes { ChangesBy result (take to) (TornCut to) (disk_of self.old) (disk_of self.new) }
         ensures no_longer { AddsNoLonger (disk_of self.old).images (disk_of self.new).images }
-        ensures time { Elapses (disk_of self.old) (disk_of self.new) }
-        ensures cause { Blames (IsErr result) self.old.faults self.new.faults }
         ensures fails { IsErr result ↔ NextFails self.old }
         ensures made { self.new ≡ after_call self.old (cut to (is_ok result)) (is_err result) }
     {
@@ -298,11 +279,7 @@ impl Disk for MemoryDisk {
     }
 
     fn sync(&mut self) -> Result<(), DiskFailed>
-        ensures kept { OnOk result (LeavesOnly (disk_of self.new).images (content_after self.old.made self.old.first)) }
-        ensures content { (disk_of self.new).content ≡ (disk_of self.old).content }
-        ensures images { AddsNone (disk_of self.old).images (disk_of self.new).images }
-        ensures time { Elapses (disk_of self.old) (disk_of self.new) }
-        ensures cause { Blames (IsErr result) self.old.faults self.new.faults }
+        ensures tells { OnlyTells result (λ _. LeavesOnly (disk_of self.new).images) (disk_of self.old) (disk_of self.new) }
         ensures fails { IsErr result ↔ NextFails self.old }
         ensures ok { OnOk result (self.new ≡ after_call self.old synced false) }
         ensures err { OnErr result (self.new ≡ after_call self.old looked true) }

@@ -26,7 +26,7 @@ fn size_of(call: &Call) -> usize
 }
 
 // Returns the first bytes.
-fn front(bytes: &[u8], size: usize) -> &[u8]
+fn prefix(bytes: &[u8], size: usize) -> &[u8]
     requires { size ≤ length bytes.now }
     ensures { result.now ≡ take size bytes.now }
 {
@@ -34,7 +34,7 @@ fn front(bytes: &[u8], size: usize) -> &[u8]
 }
 
 // Returns the bytes after the first ones.
-fn behind(bytes: &[u8], size: usize) -> &[u8]
+fn following(bytes: &[u8], size: usize) -> &[u8]
     requires { size ≤ length bytes.now }
     ensures { result.now ≡ drop size bytes.now }
 {
@@ -105,7 +105,7 @@ pub(crate) fn replay_all(replay: &mut Replay, calls: &[Call], bytes: &[u8], part
     let mut rest = bytes;
     for call in calls {
         let size = size_of(call);
-        replay_one(replay, call, front(rest, size), part, fill);
-        rest = behind(rest, size);
+        replay_one(replay, call, prefix(rest, size), part, fill);
+        rest = following(rest, size);
     }
 }

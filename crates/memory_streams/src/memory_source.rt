@@ -64,7 +64,7 @@ impl Source for MemorySource {
         // It fails if its number is listed, and otherwise gives all that fits into a piece.
         ensures fails { IsErr result ↔ NextIsListed self.old.failing self.old.calls }
         ensures count { IfOk result (λ count. count ≡ given self.old (length into.old)) }
-        ensures behind { MatchResult result
+        ensures following { MatchResult result
             (λ count. drop count into.new ≡ drop count into.old) (λ _. into.new ≡ into.old) }
         ensures given { IfOk result (λ count. self.new ≡ after_read self.old count) }
         ensures failed { OnErr result (self.new ≡ after_failed_read self.old) }

@@ -48,7 +48,7 @@ impl Source for SteadySource {
         ensures cause { Blames (IsErr result) 0 0 }
         // It never fails, and gives all that fits; the rest of `into` stays as it was.
         ensures all { result ≡ Ok (min (length self.old) (length into.old)) }
-        ensures behind { IfOk result (λ count. drop count into.new ≡ drop count into.old) }
+        ensures following { IfOk result (λ count. drop count into.new ≡ drop count into.old) }
     {
         let rest = &self.bytes[self.place..];
         let count = rest.len().min(into.len());

@@ -15,12 +15,12 @@ use Rattle.order_text.specs.declared.line.LineFault.TheVariants.{NoCommand, Memo
 use Rattle.order_text.specs.declared.word.Word.{Word}
 use Rattle.order_text.specs.declared.word.Word.TheVariants as words
 use Rattle.order_text.specs.Lines.{Asked, Alone, OfLadder, AsksFor}
-use Rattle.order_text.specs.Private.{text_at, word_of, spelled, IsWord, IsFound, IsPlaced, IsAsked, alone}
+use Rattle.order_text.specs.Private.{text_at, word_of, encoded, IsWord, IsFound, IsPlaced, IsAsked, alone}
 use Rattle.order_text.proofs.AskedFor.{of_each, of_later, gives_credit, word_asked, fits_asked, asks_of, one_word}
 use Rattle.order_text.proofs.Ladders.{ladder_asked, no_command_word}
 
 -- the word of a command
-word_for : (command : Command) → (word : Word) × (word_of command ≡ spelled word)
+word_for : (command : Command) → (word : Word) × (word_of command ≡ encoded word)
 word_for (AddAsset ticker) = (words.Asset, refl)
 word_for OpenAccount = (words.Account, refl)
 word_for (DepositMoney account ticks) = (words.Deposit, refl)

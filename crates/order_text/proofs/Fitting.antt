@@ -200,10 +200,10 @@ module _ (tickers : List (List ℕ)) (d : Data) (are : AreTickers tickers) (all 
   segments_fit version account row [] named few entries numbers = (All-nil IsCommand, All-nil (IsOfVersion version))
   segments_fit version account row (s ∷ segments) named few entries numbers =
       let place = Place None (request_of account row s) in
-      let behind = map (Place None) (map (request_of account row) segments) in
+      let following = map (Place None) (map (request_of account row) segments) in
       let rest = segments_fit version account row segments named few entries numbers.1 in (
-        All-cons IsCommand place behind (command_fits place (segment_fits account row s named few entries numbers.0)) rest.0,
-        All-cons (IsOfVersion version) place behind (of_each version place (omega arith, omega arith)) rest.1,
+        All-cons IsCommand place following (command_fits place (segment_fits account row s named few entries numbers.0)) rest.0,
+        All-cons (IsOfVersion version) place following (of_each version place (omega arith, omega arith)) rest.1,
       )
 
   -- all commands of a ladder

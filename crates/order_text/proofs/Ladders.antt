@@ -23,11 +23,11 @@ use Rattle.order_text.specs.Laws.{LadderAsksTogether}
 use Rattle.serde_json.specs.Read.{read}
 use Rattle.order_text.specs.declared.line.LineRead.{LineRead}
 use Rattle.order_text.specs.declared.line.LineRead.TheVariants as line_is
-use Rattle.order_text.specs.Answers.{IsRead, IsShort}
+use Rattle.order_text.specs.Answers.{IsAskedAs, IsRead, IsShort}
 use Rattle.order_text.specs.declared.line.LineFault.{LineFault}
 use Rattle.order_text.specs.declared.line.LineFault.TheVariants.{NoCommand, Memory}
-use Rattle.order_text.specs.Lines.{IsBlank, Leave, whole_of, signed_of, IsPoint, ArePoints, Small, Weights, Points, HasAt, ladder_members, Asks, AsksLadder, Asked, Alone, OfLadder, AsksFor}
-use Rattle.order_text.specs.Private.{text_at, number_at, items_at, in_32_bits, rate_of, point_in, point_of, put_points, word_of, HasLadder, IsLaddered, IsAsked, AreAfter}
+use Rattle.order_text.specs.Lines.{IsBlank, Leave, LineAsks, SaysNothing, whole_of, signed_of, IsPoint, ArePoints, Small, Weights, Points, HasAt, ladder_members, Asks, AsksLadder, Asked, Alone, OfLadder, AsksFor}
+use Rattle.order_text.specs.Private.{text_at, number_at, items_at, in_32_bits, rate_of, point_in, point_of, put_points, word_of, HasLadder, IsLaddered, IsAsked, AddsSome, AreAfter}
 use Rattle.order_text.proofs.AskedFor.{word_asked, text_of, text_where}
 
 -- ---- one point
@@ -252,21 +252,40 @@ leaves_none tickers l account row [] = refl
 leaves_none tickers l account row (s ∷ segments) = (tickers, inr ((λ ticker adds. absurd (let same = adds.0 in cc)), refl), leaves_none tickers l account row segments)
 
 -- the answer to a line is that for its value
-pub line_read : (version : Version) (tickers after : List (List ℕ)) (line : List ℕ) (d : Data) (lr : LineRead) → (¬ IsBlank line) → IsUtf8 line → read line ≡ Some d → IsAsked version tickers d (Ok lr) → AreAfter tickers lr after → IsRead version tickers line after (Ok lr)
-line_read version tickers after line d line_is.Blank written utf8 reads asked leaves = absurd asked
-line_read version tickers after line d (line_is.Asks command) written utf8 reads asked leaves = record {
-  asks = record { written = written; utf8 = utf8; value = d; reads = reads; asks = asked.0 };
-  leaves = (after, leaves, refl);
+pub line_asked : (version : Version) (tickers : List (List ℕ)) (line : List ℕ) (d : Data) (answer : Result LineRead LineFault) → (¬ IsBlank line) → IsUtf8 line → read line ≡ Some d → IsAsked version tickers d answer → IsAskedAs version tickers line answer
+line_asked version tickers line d (Ok line_is.Blank) written utf8 reads asked = absurd asked
+line_asked version tickers line d (Ok (line_is.Asks command)) written utf8 reads asked = record { written = written; utf8 = utf8; value = d; reads = reads; asks = asked.0 }
+line_asked version tickers line d (Ok (line_is.Many commands)) written utf8 reads asked = record { written = written; utf8 = utf8; value = d; reads = reads; asks = asked.0 }
+line_asked version tickers line d (Err NoCommand) written utf8 reads none = record {
+  written = written;
+  no_command = λ asked asks.
+      let both : Some asks.value ≡ Some d = sym asks.reads ∙ reads in
+      let same : asks.value ≡ d = cc in
+      none asked (subst (λ (v : Data). AsksFor version tickers v asked) same asks.asks);
 }
-line_read version tickers after line d (line_is.Many commands) written utf8 reads asked leaves = record {
-  asks = record { written = written; utf8 = utf8; value = d; reads = reads; asks = asked.0 };
-  leaves = rw (leaves, asked.0.commands_are) (leaves_none tickers asked.0.ladder asked.0.account asked.0.row (segments_of asked.0.ladder));
+line_asked version tickers line d (Err Memory) written utf8 reads asked = written
+
+-- the tickers after a line that was asked
+pub line_read : (version : Version) (tickers after : List (List ℕ)) (line : List ℕ) (lr : LineRead) → IsAskedAs version tickers line (Ok lr) → AreAfter tickers lr after → IsRead version tickers line after (Ok lr)
+line_read version tickers after line line_is.Blank asked leaves = (asked, leaves)
+line_read version tickers after line (line_is.Asks command) asked leaves = record { asks = asked; leaves = (after, leaves, refl) }
+line_read version tickers after line (line_is.Many commands) asked leaves = record {
+  asks = asked;
+  leaves = rw (leaves, asked.asks.commands_are) (leaves_none tickers asked.asks.ladder asked.asks.account asked.asks.row (segments_of asked.asks.ladder));
 }
 
-pub line_is_short : (version : Version) (tickers : List (List ℕ)) (d : Data) (lr : LineRead) → IsAsked version tickers d (Ok lr) → IsShort lr
-line_is_short version tickers d line_is.Blank asked = absurd asked
-line_is_short version tickers d (line_is.Asks command) asked = asked.1
-line_is_short version tickers d (line_is.Many commands) asked = asked.1
+-- a ticker that a line asks for wasn't added
+pub line_unadded : (version : Version) (tickers after : List (List ℕ)) (line : List ℕ) (lr : LineRead) (fault : LineFault) → IsAskedAs version tickers line (Ok lr) → AddsSome lr → (¬ (fault ≡ NoCommand)) → after ≡ tickers → IsRead version tickers line after (Err fault)
+line_unadded version tickers after line line_is.Blank fault asked some other same = absurd some
+line_unadded version tickers after line (line_is.Many commands) fault asked some other same = absurd some
+line_unadded version tickers after line (line_is.Asks command) NoCommand asked some other same = absurd (other refl)
+line_unadded version tickers after line (line_is.Asks command) Memory asked some other same = (asked.written, same)
+
+pub line_is_short : (version : Version) (tickers : List (List ℕ)) (d : Data) (answer : Result LineRead LineFault) → IsAsked version tickers d answer → IfOk answer IsShort
+line_is_short version tickers d (Ok line_is.Blank) asked = absurd asked
+line_is_short version tickers d (Ok (line_is.Asks command)) asked = asked.1
+line_is_short version tickers d (Ok (line_is.Many commands)) asked = asked.1
+line_is_short version tickers d (Err fault) asked = tt
 
 -- commands that place orders determine their requests
 requests_are : (a b : List Request) → map (Place None) a ≡ map (Place None) b → a ≡ b

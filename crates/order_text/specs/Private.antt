@@ -63,20 +63,20 @@ word_of (SetMoneyCredit account ticks) = codes "credit"
 word_of (SetUnitCredit account asset units) = codes "credit"
 
 -- the text of a word
-abbrev pub spelled : Word → List ℕ
-spelled words.Asset = codes "asset"
-spelled words.Account = codes "account"
-spelled words.Deposit = codes "deposit"
-spelled words.Withdraw = codes "withdraw"
-spelled words.Place = codes "place"
-spelled words.Cancel = codes "cancel"
-spelled words.Batch = codes "batch"
-spelled words.Credit = codes "credit"
-spelled words.Ladder = codes "ladder"
+abbrev pub encoded : Word → List ℕ
+encoded words.Asset = codes "asset"
+encoded words.Account = codes "account"
+encoded words.Deposit = codes "deposit"
+encoded words.Withdraw = codes "withdraw"
+encoded words.Place = codes "place"
+encoded words.Cancel = codes "cancel"
+encoded words.Batch = codes "batch"
+encoded words.Credit = codes "credit"
+encoded words.Ladder = codes "ladder"
 
 -- an object has this word at `do`
 abbrev pub IsWord : Word → Data → Type 0
-IsWord word d = text_at (codes "do") d ≡ Some (spelled word)
+IsWord word d = text_at (codes "do") d ≡ Some (encoded word)
 
 -- the answer for a command that was found, or for none
 abbrev pub alone : Option owned.Command → Result LineRead LineFault
@@ -141,6 +141,12 @@ IsAsked version tickers d (Ok (line_is.Asks command)) = Asks version tickers d (
 IsAsked version tickers d (Ok (line_is.Many commands)) = AsksLadder tickers d (map command_in commands) × All (λ command. HasShortRow (command_in command)) commands
 IsAsked version tickers d (Err NoCommand) = (asked : Asked) → ¬ AsksFor version tickers d asked
 IsAsked version tickers d (Err Memory) = Unit {0}
+
+-- what was read asks for a command that may add a ticker: for one
+abbrev pub AddsSome : LineRead → Type 0
+AddsSome line_is.Blank = ⊥
+AddsSome (line_is.Asks command) = Unit {0}
+AddsSome (line_is.Many commands) = ⊥
 
 -- the tickers after a line that was read
 abbrev pub AreAfter : List (List ℕ) → LineRead → List (List ℕ) → Type 0

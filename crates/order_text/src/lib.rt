@@ -1,6 +1,6 @@
 //! The commands that a line of JSON asks for.
 //!
-//! [`read_line`] reads one line, given the tickers of the lines before it. The text at `do` says what an object asks
+//! [`read_line`] reads one line, given the tickers of the lines before it, and [`ask_line`] one given those of a market. The text at `do` says what an object asks
 //! for, a command or the orders of a ladder, and the object has exactly the keys of that.
 #![tactic(auto)]
 
@@ -12,4 +12,4 @@ mod line;
 mod row;
 mod word;
 
-pub use line::{LineFault, LineRead, read_line};
+pub use line::{LineFault, LineRead, ask_line, read_line};

@@ -4,8 +4,8 @@ ghost use Rattle.serde_json.specs.View.{view};
 ghost use Rattle.serde_json.specs.Read.{read};
 ghost use Rattle.ticker_table.specs.Tickers.{AreTickers};
 ghost use Rattle.order_text.specs.Lines.{IsBlank};
-ghost use Rattle.order_text.specs.Private.{AreWith, AreAfter};
-ghost use Rattle.order_text.specs.Answers.{IsRead, IsShort};
+ghost use Rattle.order_text.specs.Private.{AreWith, AddsSome, AreAfter};
+ghost use Rattle.order_text.specs.Answers.{IsAskedAs, IsRead, IsShort};
 
 use crate::asking::asked_by;
 use curve_ladder::CommandList;
@@ -79,6 +79,7 @@ fn add(tickers: &mut TickerTable, ticker: [u8; 8]) -> Result<(), LineFault>
 // Adds the ticker that a line adds, if it adds one.
 fn add_ticker(tickers: &mut TickerTable, read: &LineRead) -> Result<(), LineFault>
     ensures after { OnOk result (AreAfter tickers.old read.now tickers.new) }
+    ensures asked { OnErr result (AddsSome read.now) }
     ensures stays { OnErr result (tickers.new ≡ tickers.old) }
     ensures fault { ¬ IsErrOf result LineFault.NoCommand }
 {
@@ -131,11 +132,27 @@ pub fn read_line(
     ensures read { IsRead version tickers.old line.now tickers.new result }
     ensures short { IfOk result IsShort }
 {
+    let read = ask_line(alloc, line, version, tickers)?;
+    match add_ticker(tickers, &read) {
+        Ok(()) => Ok(read),
+        Err(fault) => Err(fault),
+    }
+}
+
+/// Reads a line of JSON as [`read_line`] does, given the tickers of a table, which it leaves as they are: also the ticker of an
+/// `asset` line isn't added.
+pub fn ask_line(
+    alloc: Global,
+    line: &[u8],
+    version: Version,
+    tickers: &TickerTable,
+) -> Result<LineRead, LineFault>
+    ensures asked { IsAskedAs version tickers.now line.now result }
+    ensures short { IfOk result IsShort }
+{
     if is_blank(line) {
         return Ok(LineRead::Blank);
     }
     let value = value_of(alloc, line)?;
-    let read = asked_by(alloc, version, tickers, &value)?;
-    add_ticker(tickers, &read)?;
-    Ok(read)
+    asked_by(alloc, version, tickers, &value)
 }

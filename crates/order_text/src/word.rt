@@ -2,7 +2,7 @@
 ghost use Rattle.std.specs.Prelude.{◌≡◌, codes, Some, IfSome, IfNone};
 ghost use Rattle.serde_json.specs.View.{view};
 ghost use Rattle.order_text.specs.declared.word.Word.{Word};
-ghost use Rattle.order_text.specs.Private.{text_at, spelled};
+ghost use Rattle.order_text.specs.Private.{text_at, encoded};
 
 use crate::fields::text_at;
 use serde_json::Value;
@@ -23,8 +23,8 @@ pub(crate) enum Word {
 
 // Returns the word that a text is, if it is one.
 fn word_of(text: &str) -> Option<Word>
-    ensures some { IfSome result (λ word. text.now ≡ spelled word) }
-    ensures none { IfNone result ((word : Word) → ¬ (text.now ≡ spelled word)) }
+    ensures some { IfSome result (λ word. text.now ≡ encoded word) }
+    ensures none { IfNone result ((word : Word) → ¬ (text.now ≡ encoded word)) }
 {
     match text {
         "asset" => Some(Word::Asset),
@@ -42,8 +42,8 @@ fn word_of(text: &str) -> Option<Word>
 
 /// Returns the word at `do`, if there is one.
 pub(crate) fn word_at(value: &Value) -> Option<Word>
-    ensures some { IfSome result (λ word. text_at (codes "do") (view value.now) ≡ Some (spelled word)) }
-    ensures none { IfNone result ((word : Word) → ¬ (text_at (codes "do") (view value.now) ≡ Some (spelled word))) }
+    ensures some { IfSome result (λ word. text_at (codes "do") (view value.now) ≡ Some (encoded word)) }
+    ensures none { IfNone result ((word : Word) → ¬ (text_at (codes "do") (view value.now) ≡ Some (encoded word))) }
 {
     word_of(text_at(value, "do")?)
 }

@@ -37,7 +37,7 @@ impl Model for Text {
 
 impl Text {
     /// Takes a list, to append to it, and leaves an empty one in its place. Takes no memory.
-    pub fn behind(out: &mut Vec<u8>) -> Text
+    pub fn following(out: &mut Vec<u8>) -> Text
         ensures items { result.before.items ≡ out.old.items }
         ensures room { result.before.room ≡ vec_capacity out.old }
         ensures empty { result.text ≡ [] }

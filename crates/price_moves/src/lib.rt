@@ -1,9 +1,9 @@
 //! The move of one asset's price, and making the moves of a walk again.
 //!
-//! [`step`] moves the price of one asset that isn't settled, and [`make_move`] makes a move of a walk; [`retrace`]
-//! makes the moves of a walk again, as far as they are valid, in any order of assets. All change the prices of a
-//! [`Workspace`](excess_bounds::Workspace); the terms are those of `flow_orders`. Which asset is moved next, and when, is
-//! decided by the crates above.
+//! [`step`] moves the price of one asset that isn't settled, [`step_towards`] does so in a direction that is known, and
+//! [`make_move`] makes a move of a walk; [`retrace`] makes the moves of a walk again, as far as they are valid, in any
+//! order of assets. All change the prices of a [`Workspace`](excess_bounds::Workspace); the terms are those of
+//! `flow_orders`. Which asset is moved next, and when, is decided by the crates above.
 //!
 //! A price rises while the low excess of its asset is above the slope bound, since then more of it is demanded than
 //! rounding can explain, and it falls while the high excess is below minus the slope bound. A higher price of an asset
@@ -11,16 +11,17 @@
 //!
 //! # Costs
 //!
-//! The column of an asset has the orders that name it. Testing whether an asset is settled costs one pass over its column,
-//! without a division. A move costs such a pass, two that narrow its end down, and one that sets the price, with at most
-//! one division for each order in each of the last three. At most 250 more passes narrow the end down further, over ever
-//! fewer orders of the column. A bisection of what is left then finds the end, with a pass for each price that it tests,
-//! mostly none. No call allocates.
+//! The column of an asset has the orders that name it. Testing whether an asset is settled, and which way its price moves,
+//! costs one pass over its column, without a division. A move then costs one such pass to begin with, a few that narrow its
+//! end down, and one that sets the price, with at most one division for each order in each but the first. At most 250 passes
+//! narrow the end down, over ever fewer orders of the column; from prices that are nearly settled, two or three go over most
+//! of them. A bisection of what is left then finds the end, with a pass for each price that it tests, mostly none. No call
+//! allocates.
 #![tactic(auto)]
 
 mod moves;
 mod probes;
 mod retracing;
 
-pub use moves::{make_move, step};
+pub use moves::{make_move, step, step_towards};
 pub use retracing::{Retraced, retrace};

@@ -6,11 +6,12 @@ ghost use Rattle.flow_orders.specs.Excess.{is_unsettled, steepness};
 ghost use Rattle.flow_orders.specs.WholeUnits.{is_above, is_below};
 ghost use Rattle.flow_orders.specs.Moves.{moved};
 ghost use Rattle.flow_orders.specs.Outcomes.{step_of};
+ghost use Rattle.excess_bounds.specs.Directions.{IsTowards};
 ghost use Rattle.excess_bounds.specs.Workspace.{ArePriced};
 ghost use Rattle.price_moves.specs.Retracing.{IsLowered};
 
 use crate::probes::{Fall, Rise};
-use excess_bounds::Workspace;
+use excess_bounds::{Direction, Workspace};
 use single_bisect::{greatest_true, least_true};
 
 // The reach of a move in a walk, in grains.
@@ -40,31 +41,69 @@ pub fn step(work: &mut Workspace<'_>, parts: u16, asset: u16, reach: i64)
     ensures lowers { IsLowered work.old.orders work.old.prices
         (unsigned_abs (price_of work.new.prices asset -ℤ price_of work.old.prices asset)) work.new.prices }
 {
-    let end = end_of_move(work, parts, asset, reach);
-    work.set_price(asset, end);
+    if let Some(direction) = work.direction(asset) {
+        step_towards(work, parts, asset, direction, reach);
+    }
 }
 
-/// Makes the move of an asset in a walk, of at most 2^45 grains.
+/// Moves the price of an asset that isn't settled as [`step`] does, in the direction that is known of it.
 ///
-/// Its price is within 2^60 + 2^61 grains of 0. It costs what [`step`] costs.
-pub fn make_move(work: &mut Workspace<'_>, parts: u16, asset: u16)
+/// It costs a pass over the orders that name the asset less than `step`, which finds the direction.
+pub fn step_towards(
+    work: &mut Workspace<'_>,
+    parts: u16,
+    asset: u16,
+    direction: Direction,
+    reach: i64,
+)
     requires some_parts { 1 ≤ parts }
     requires few_parts { parts ≤ 256 }
     requires asset { asset < length work.old.prices }
     requires unsettled { is_unsettled work.old.orders work.old.prices asset ≡ true }
+    requires towards { IsTowards work.old.orders work.old.prices asset direction }
+    requires some { pos 1 ≤ℤ reach }
+    requires far { reach ≤ℤ pos (2 ^ 61) }
+    requires room_below { neg_ℤ (pos (2 ^ 62)) ≤ℤ (price_of work.old.prices asset -ℤ reach) }
+    requires room_above { (price_of work.old.prices asset +ℤ reach) ≤ℤ pos (2 ^ 62) }
+    ensures orders { work.new.orders ≡ work.old.orders }
+    ensures moved { work.new.prices ≡ moved parts work.old.orders (unsigned_abs reach) work.old.prices asset }
+
+    // Each grain of the move lowers the exact dual value by at least a grain.
+    ensures lowers { IsLowered work.old.orders work.old.prices
+        (unsigned_abs (price_of work.new.prices asset -ℤ price_of work.old.prices asset)) work.new.prices }
+{
+    let end = end_of_move(work, parts, asset, direction, reach);
+    work.set_price(asset, end);
+}
+
+/// Makes the move of an asset in a walk, of at most 2^45 grains, in the direction that is known of it.
+///
+/// Its price is within 2^60 + 2^61 grains of 0. It costs what [`step_towards`] costs.
+pub fn make_move(work: &mut Workspace<'_>, parts: u16, asset: u16, direction: Direction)
+    requires some_parts { 1 ≤ parts }
+    requires few_parts { parts ≤ 256 }
+    requires asset { asset < length work.old.prices }
+    requires unsettled { is_unsettled work.old.orders work.old.prices asset ≡ true }
+    requires towards { IsTowards work.old.orders work.old.prices asset direction }
     requires near { unsigned_abs (price_of work.old.prices asset) ≤ 2 ^ 60 + 2 ^ 61 }
     ensures orders { work.new.orders ≡ work.old.orders }
     ensures prices { work.new.prices ≡ step_of parts work.old.orders work.old.prices asset }
 {
-    step(work, parts, asset, REACH);
+    step_towards(work, parts, asset, direction, REACH);
 }
 
 // Returns the price at which a move ends.
-fn end_of_move(work: &mut Workspace<'_>, parts: u16, asset: u16, reach: i64) -> i64
+fn end_of_move(
+    work: &mut Workspace<'_>,
+    parts: u16,
+    asset: u16,
+    direction: Direction,
+    reach: i64,
+) -> i64
     requires some_parts { 1 ≤ parts }
     requires few_parts { parts ≤ 256 }
     requires asset { asset < length work.old.prices }
-    requires unsettled { is_unsettled work.old.orders work.old.prices asset ≡ true }
+    requires towards { IsTowards work.old.orders work.old.prices asset direction }
     requires some { pos 1 ≤ℤ reach }
     requires far { reach ≤ℤ pos (2 ^ 61) }
     requires room_below { neg_ℤ (pos (2 ^ 62)) ≤ℤ (price_of work.old.prices asset -ℤ reach) }
@@ -75,12 +114,11 @@ fn end_of_move(work: &mut Workspace<'_>, parts: u16, asset: u16, reach: i64) -> 
     ensures priced { ArePriced work.old.orders work.old.prices }
 {
     let price = price_in(work, asset);
-    let steepness = work.steepness(asset);
     let bound = work.steepness_in(parts, asset);
-    if steepness < work.excess(asset).low {
-        return end_of_rise(work, parts, asset, bound, price, reach);
+    match direction {
+        Direction::Rise => end_of_rise(work, parts, asset, bound, price, reach),
+        Direction::Fall => end_of_fall(work, parts, asset, -bound, price, reach),
     }
-    end_of_fall(work, parts, asset, -bound, price, reach)
 }
 
 // Returns the price of an asset.

@@ -60,9 +60,12 @@ fn move_again(work: &mut Workspace<'_>, parts: u16, asset: u8) -> bool
     ensures stays { (result ≡ false) → work.new.prices ≡ work.old.prices }
 {
     let asset = u16::from(asset);
-    if usize::from(asset) >= work.prices().len() || work.is_settled(asset) {
+    if usize::from(asset) >= work.prices().len() {
         return false;
     }
-    make_move(work, parts, asset);
+    let Some(direction) = work.direction(asset) else {
+        return false;
+    };
+    make_move(work, parts, asset, direction);
     true
 }

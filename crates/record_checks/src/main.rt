@@ -6,7 +6,7 @@
 //!
 //! | case | calls | printed |
 //! |---|---|---|
-//! | `front LIMIT: BYTES` | `next_record` | `whole TAG TAKEN BODY RECORD`, `end`, `too_large LENGTH` or `short` |
+//! | `prefix LIMIT: BYTES` | `next_record` | `whole TAG TAKEN BODY RECORD`, `end`, `too_large LENGTH` or `short` |
 //! | `command: RECORD` | `RecordView::command` | the command, `unknown_tag` or `bad_body` |
 //! | `code NUMBER:` | `Refusal::of_code`, `code` | the refusal and its number, or `none` |
 //! | `magic: BYTES` | `command_version`, `journal_version` | `commands VERSION`, `journal VERSION` or `neither` |
@@ -86,7 +86,7 @@ fn put_appended(alloc: Global, words: (&str, &str), bytes: &[u8], told: &mut Tol
 // Prints the one row of a call, or what a call appends.
 fn put_row(alloc: Global, words: (&str, &str), bytes: &[u8], told: &mut Told) {
     match words.0 {
-        "front" => records::put_front(words.1, bytes, told),
+        "front" => records::put_prefix(words.1, bytes, told),
         "command" => records::put_read(alloc, bytes, told),
         "code" => records::put_code(alloc, words.1, told),
         "magic" => records::put_magic(bytes, told),

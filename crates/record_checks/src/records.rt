@@ -34,7 +34,7 @@ fn put_framed(framed: Framed<'_>, told: &mut Told) {
     }
 }
 
-pub(crate) fn put_front(limit: &str, bytes: &[u8], told: &mut Told) {
+pub(crate) fn put_prefix(limit: &str, bytes: &[u8], told: &mut Told) {
     match limit.parse() {
         Ok(limit) => put_framed(next_record(bytes, limit), told),
         Err(_) => told.give_up(),

@@ -7,30 +7,30 @@ use Rattle.list_sums.proofs.SumLemmas.{int_sum_by_more}
 use Rattle.weight_rows.specs.declared.entries.Entry.{Entry}
 use Rattle.wire_records.specs.Commands.{Request}
 use Rattle.sample_market.specs.Draws.{next_state, drawn, state_after}
-use Rattle.sample_market.specs.Orders.{drawn_weight, drawn_entries, drawn_count, drawn_first, drawn_row, behind_row, usual_price, drawn_middle, drawn_half, drawn_rate, drawn_turns, drawn_order, behind_order}
+use Rattle.sample_market.specs.Orders.{drawn_weight, drawn_entries, drawn_count, drawn_first, drawn_row, after_row, usual_price, drawn_middle, drawn_half, drawn_rate, drawn_turns, drawn_order, after_order}
 
 -- a weight
 pub weight_is : (state next size sold : ℕ) → size ≡ drawn 4 state → next ≡ next_state state → sold ≡ drawn 2 next → (if eqb sold 1 then neg_ℤ (pos (1 + size)) else pos (1 + size)) ≡ drawn_weight state
 unfolding drawn_weight
-weight_is state next size sold first behind second =
+weight_is state next size sold first following second =
     ap (λ n. if eqb sold 1 then neg_ℤ (pos (1 + n)) else pos (1 + n)) first
-    ∙ ap (λ n. if eqb n 1 then neg_ℤ (pos (1 + drawn 4 state)) else pos (1 + drawn 4 state)) (second ∙ ap (drawn 2) behind)
+    ∙ ap (λ n. if eqb n 1 then neg_ℤ (pos (1 + drawn 4 state)) else pos (1 + drawn 4 state)) (second ∙ ap (drawn 2) following)
 
 -- the first legs of a weight vector
 pub row_begins : (start one two count first left : ℕ) (entries : List Entry) → count ≡ drawn 3 start → one ≡ next_state start → first ≡ drawn (9 - (1 + count)) one → two ≡ next_state one → left ≡ 1 + count → entries ≡ []
     → drawn_row start ≡ entries ++ drawn_entries left first two
 unfolding drawn_row drawn_count drawn_first
-row_begins start one two count first left entries counted behind at later all none =
+row_begins start one two count first left entries counted following at later all none =
     let n : 1 + drawn 3 start ≡ left = ap (λ k. 1 + k) (sym counted) ∙ sym all in
-    let f : drawn (9 - (1 + drawn 3 start)) (next_state start) ≡ first = ap (λ k. drawn (9 - (1 + k)) (next_state start)) (sym counted) ∙ ap (drawn (9 - (1 + count))) (sym behind) ∙ sym at in
+    let f : drawn (9 - (1 + drawn 3 start)) (next_state start) ≡ first = ap (λ k. drawn (9 - (1 + k)) (next_state start)) (sym counted) ∙ ap (drawn (9 - (1 + count))) (sym following) ∙ sym at in
     ap (λ k. drawn_entries k (drawn (9 - (1 + drawn 3 start)) (next_state start)) (next_state (next_state start))) n ∙ ap (λ k. drawn_entries left k (next_state (next_state start))) f
-    ∙ ap (drawn_entries left first) (ap next_state (sym behind) ∙ sym later) ∙ ap (λ (xs : List Entry). xs ++ drawn_entries left first two) (sym none)
+    ∙ ap (drawn_entries left first) (ap next_state (sym following) ∙ sym later) ∙ ap (λ (xs : List Entry). xs ++ drawn_entries left first two) (sym none)
 
-pub behind_begins : (start one two count left : ℕ) → count ≡ drawn 3 start → one ≡ next_state start → two ≡ next_state one → left ≡ 1 + count → behind_row start ≡ state_after (2 * left) two
-unfolding behind_row drawn_count
-behind_begins start one two count left counted behind later all =
+pub after_begins : (start one two count left : ℕ) → count ≡ drawn 3 start → one ≡ next_state start → two ≡ next_state one → left ≡ 1 + count → after_row start ≡ state_after (2 * left) two
+unfolding after_row drawn_count
+after_begins start one two count left counted following later all =
     let n : 2 + 2 * (1 + drawn 3 start) ≡ suc (suc (2 * left)) = omega (arith, counted, all) in
-    ap (λ k. state_after k start) n ∙ ap (λ s. state_after (2 * left) (next_state s)) (sym behind) ∙ ap (state_after (2 * left)) (sym later)
+    ap (λ k. state_after k start) n ∙ ap (λ s. state_after (2 * left) (next_state s)) (sym following) ∙ ap (state_after (2 * left)) (sym later)
 
 -- the leg of an asset
 abbrev pub entry_of : ℕ → ℤ → Entry
@@ -45,8 +45,8 @@ entry_more whole now after entry left rest asset state before more one is =
     ∙ ap (λ (e : Entry). (now ++ e ∷ []) ++ tail) (sym is) ∙ ap (λ (xs : List Entry). xs ++ tail) (sym one)
 
 -- the state after the legs that are still to be drawn
-pub state_more : (behind left rest state : ℕ) → behind ≡ state_after (2 * left) state → left ≡ suc rest → behind ≡ state_after (2 * rest) (state_after 2 state)
-state_more behind left rest state before more =
+pub state_more : (following left rest state : ℕ) → following ≡ state_after (2 * left) state → left ≡ suc rest → following ≡ state_after (2 * rest) (state_after 2 state)
+state_more following left rest state before more =
     let twice : 2 * left ≡ suc (suc (2 * rest)) = omega (arith, more) in
     before ∙ ap (λ n. state_after n state) twice
 
@@ -68,23 +68,23 @@ price_more row i sum part d few within part_fits before is small =
     rw (to_z-of_z w64 part part_fits, to_z-of_z w64 (sum +ℤ part) fits) (record { value = value; bound = bound })
 
 -- ---- an order
-pub middle_is : (state : ℕ) (row : List Entry) (middle : ℤ) (behind : ℕ) → row ≡ drawn_row state → behind ≡ behind_row state → middle ≡ (usual_price row +ℤ pos (drawn 41 behind)) -ℤ pos 20 → middle ≡ drawn_middle state
+pub middle_is : (state : ℕ) (row : List Entry) (middle : ℤ) (following : ℕ) → row ≡ drawn_row state → following ≡ after_row state → middle ≡ (usual_price row +ℤ pos (drawn 41 following)) -ℤ pos 20 → middle ≡ drawn_middle state
 unfolding drawn_middle
-middle_is state row middle behind is at value = value ∙ ap (λ (r : List Entry). (usual_price r +ℤ pos (drawn 41 behind)) -ℤ pos 20) is ∙ ap (λ s. (usual_price (drawn_row state) +ℤ pos (drawn 41 s)) -ℤ pos 20) at
+middle_is state row middle following is at value = value ∙ ap (λ (r : List Entry). (usual_price r +ℤ pos (drawn 41 following)) -ℤ pos 20) is ∙ ap (λ s. (usual_price (drawn_row state) +ℤ pos (drawn 41 s)) -ℤ pos 20) at
 
 -- a request of the account at this place
 abbrev request : ℕ → ℤ → ℤ → ℕ → ℕ → List Entry → Request
 request place low high rate cap row = record { account = 1 + place % 64; low = low; high = high; rate = rate; cap = cap; row = row }
 
-pub order_is : (place state : ℕ) (row : List Entry) (middle low high : ℤ) (behind s1 s2 s3 half rate turns : ℕ) → row ≡ drawn_row state → behind ≡ behind_row state → middle ≡ (usual_price row +ℤ pos (drawn 41 behind)) -ℤ pos 20 → s1 ≡ next_state behind
+pub order_is : (place state : ℕ) (row : List Entry) (middle low high : ℤ) (following s1 s2 s3 half rate turns : ℕ) → row ≡ drawn_row state → following ≡ after_row state → middle ≡ (usual_price row +ℤ pos (drawn 41 following)) -ℤ pos 20 → s1 ≡ next_state following
     → half ≡ drawn 50 s1 → s2 ≡ next_state s1 → rate ≡ drawn 1000 s2 → s3 ≡ next_state s2 → turns ≡ drawn 20 s3 → low ≡ middle -ℤ pos (1 + half) → high ≡ middle +ℤ pos (1 + half)
     → request place low high (1 + rate) ((1 + rate) * (1 + turns)) row ≡ drawn_order place state
 unfolding drawn_half drawn_rate drawn_turns
-order_is place state row middle low high behind s1 s2 s3 half rate turns row_is at value one is_half two is_rate three is_turns is_low is_high =
-    let first : s1 ≡ state_after 1 (behind_row state) = one ∙ ap next_state at in
-    let second : s2 ≡ state_after 2 (behind_row state) = two ∙ ap next_state first in
-    let third : s3 ≡ state_after 3 (behind_row state) = three ∙ ap next_state second in
-    let m = middle_is state row middle behind row_is at value in
+order_is place state row middle low high following s1 s2 s3 half rate turns row_is at value one is_half two is_rate three is_turns is_low is_high =
+    let first : s1 ≡ state_after 1 (after_row state) = one ∙ ap next_state at in
+    let second : s2 ≡ state_after 2 (after_row state) = two ∙ ap next_state first in
+    let third : s3 ≡ state_after 3 (after_row state) = three ∙ ap next_state second in
+    let m = middle_is state row middle following row_is at value in
     let h : 1 + half ≡ drawn_half state = ap (λ n. 1 + n) (is_half ∙ ap (drawn 50) first) in
     let r : 1 + rate ≡ drawn_rate state = ap (λ n. 1 + n) (is_rate ∙ ap (drawn 1000) second) in
     let t : 1 + turns ≡ drawn_turns state = ap (λ n. 1 + n) (is_turns ∙ ap (drawn 20) third) in
@@ -95,6 +95,6 @@ order_is place state row middle low high behind s1 s2 s3 half rate turns row_is 
     ∙ ap (λ n. request place (drawn_middle state -ℤ pos (drawn_half state)) (drawn_middle state +ℤ pos (drawn_half state)) (drawn_rate state) (drawn_rate state * n) row) t
     ∙ ap (λ (x : List Entry). request place (drawn_middle state -ℤ pos (drawn_half state)) (drawn_middle state +ℤ pos (drawn_half state)) (drawn_rate state) (drawn_rate state * drawn_turns state) x) row_is
 
-pub behind_is : (state behind s1 s2 s3 s4 : ℕ) → behind ≡ behind_row state → s1 ≡ next_state behind → s2 ≡ next_state s1 → s3 ≡ next_state s2 → s4 ≡ next_state s3 → s4 ≡ behind_order state
-unfolding behind_order
-behind_is state behind s1 s2 s3 s4 at one two three four = four ∙ ap next_state (three ∙ ap next_state (two ∙ ap next_state (one ∙ ap next_state at)))
+pub after_is : (state following s1 s2 s3 s4 : ℕ) → following ≡ after_row state → s1 ≡ next_state following → s2 ≡ next_state s1 → s3 ≡ next_state s2 → s4 ≡ next_state s3 → s4 ≡ after_order state
+unfolding after_order
+after_is state following s1 s2 s3 s4 at one two three four = four ∙ ap next_state (three ∙ ap next_state (two ∙ ap next_state (one ∙ ap next_state at)))

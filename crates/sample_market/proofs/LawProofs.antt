@@ -3,13 +3,13 @@ use Rattle.std.proofs.Common.{◌≡◌, ℕ, List, [], ◌++◌, map, length, g
 use Rattle.std.specs.Prelude.{All}
 use Rattle.std.proofs.lemmas.List.Elements.{All-map}
 use Rattle.std.proofs.lemmas.List.Folds.{flat_map-map}
-use Rattle.wire_records.specs.Records.{IsRecord, spelling, most_body}
+use Rattle.wire_records.specs.Records.{IsRecord, encoding, most_body}
 use Rattle.wire_records.specs.CommandRecords.{record_of}
-use Rattle.wire_records.specs.Grammars.{spell_all}
+use Rattle.wire_records.specs.Grammars.{encode_all}
 use Rattle.wire_records.specs.Reading.{Reads, File, End}
 use Rattle.wire_records.specs.declared.version.Version.TheVariants.{One}
 use Rattle.wire_records.specs.Formats.{commands, command_magic_of}
-use Rattle.wire_records.proofs.Fronts.{states_none-from_few}
+use Rattle.wire_records.proofs.Prefixes.{states_none-from_few}
 use Rattle.wire_records.proofs.Readings.{command_short}
 use Rattle.wire_records.proofs.ReadingLaws.{file_read}
 use Rattle.wire_records.proofs.RecordCode.{commands_readable}
@@ -29,6 +29,6 @@ records_short number orders =
 pub samples_are_read : SamplesAreRead
 unfolding sample_file
 samples_are_read limit number orders fits =
-    let spelled : command_magic_of One ++ spell_all commands.units (map record_of (sample number orders)) ≡ sample_file number orders = ap (λ xs. command_magic_of One ++ xs) (flat_map-map spelling record_of (sample number orders)) in
-    subst (λ (file : List ℕ). Reads commands limit file (File One (map record_of (sample number orders)) End)) spelled
-    (file_read commands commands_readable (λ over. states_none-from_few over.0 [] (omega arith) over.1) limit One (map record_of (sample number orders)) tt (records_short number orders) (rw (ap length spelled) fits))
+    let encoded : command_magic_of One ++ encode_all commands.units (map record_of (sample number orders)) ≡ sample_file number orders = ap (λ xs. command_magic_of One ++ xs) (flat_map-map encoding record_of (sample number orders)) in
+    subst (λ (file : List ℕ). Reads commands limit file (File One (map record_of (sample number orders)) End)) encoded
+    (file_read commands commands_readable (λ over. states_none-from_few over.0 [] (omega arith) over.1) limit One (map record_of (sample number orders)) tt (records_short number orders) (rw (ap length encoded) fits))

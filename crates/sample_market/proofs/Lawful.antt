@@ -9,14 +9,14 @@ use Rattle.std.proofs.lemmas.List.Elements.{All-nil, All-cons, All-append, All-m
 use Rattle.list_sums.proofs.Products.{unsigned_abs-mul_le}
 use Rattle.list_sums.proofs.SumLemmas.{unsigned_abs-int_sum_by}
 use Rattle.wire_fields.specs.Numbers.{IsSigned}
-use Rattle.wire_fields.proofs.Spelling.{IsSigned-from_fits}
+use Rattle.wire_fields.proofs.Encoding.{IsSigned-from_fits}
 use Rattle.weight_rows.specs.declared.entries.Entry.{Entry}
 use Rattle.wire_records.specs.Records.{AreBytes}
 use Rattle.wire_records.specs.Commands.{OpenAccount, DepositMoney, Place, RunBatch}
 use Rattle.wire_records.specs.Bodies.{IsEntry}
 use Rattle.wire_records.proofs.FieldForms.{command_fits}
 use Rattle.sample_market.specs.Draws.{next_state, drawn, state_after}
-use Rattle.sample_market.specs.Orders.{drawn_weight, drawn_entries, drawn_count, drawn_first, drawn_row, behind_row, usual_price, drawn_middle, drawn_half, drawn_rate, drawn_turns, drawn_order, drawn_orders, behind_order}
+use Rattle.sample_market.specs.Orders.{drawn_weight, drawn_entries, drawn_count, drawn_first, drawn_row, after_row, usual_price, drawn_middle, drawn_half, drawn_rate, drawn_turns, drawn_order, drawn_orders, after_order}
 use Rattle.sample_market.specs.Files.{new_asset, new_assets, new_accounts, unit_deposit, unit_deposits, deposits_of, all_deposits, batches, sample}
 use Rattle.sample_market.specs.Laws.{IsLawful}
 
@@ -63,19 +63,19 @@ middle_small : (x : ℕ) → unsigned_abs (drawn_middle x) ≤ 96040
 unfolding drawn_middle
 middle_small x =
     let row = row_small x in
-    omega (arith, ints, usual_small (drawn_row x) row.0 row.1, drawn_below 41 (behind_row x) (omega arith))
+    omega (arith, ints, usual_small (drawn_row x) row.0 row.1, drawn_below 41 (after_row x) (omega arith))
 
 half_small : (x : ℕ) → drawn_half x ≤ 50
 unfolding drawn_half
-half_small x = omega (arith, drawn_below 50 (state_after 1 (behind_row x)) (omega arith))
+half_small x = omega (arith, drawn_below 50 (state_after 1 (after_row x)) (omega arith))
 
 rate_small : (x : ℕ) → drawn_rate x ≤ 1000
 unfolding drawn_rate
-rate_small x = omega (arith, drawn_below 1000 (state_after 2 (behind_row x)) (omega arith))
+rate_small x = omega (arith, drawn_below 1000 (state_after 2 (after_row x)) (omega arith))
 
 turns_small : (x : ℕ) → drawn_turns x ≤ 20
 unfolding drawn_turns
-turns_small x = omega (arith, drawn_below 20 (state_after 3 (behind_row x)) (omega arith))
+turns_small x = omega (arith, drawn_below 20 (state_after 3 (after_row x)) (omega arith))
 
 -- ---- each command is lawful
 signed_small : (z : ℤ) → unsigned_abs z ≤ 100000 → IsSigned 8 z
@@ -107,7 +107,7 @@ order_lawful place x =
 
 orders_lawful : (n place x : ℕ) → All IsLawful (drawn_orders n place x)
 orders_lawful zero place x = All-nil IsLawful
-orders_lawful (suc n) place x = All-cons IsLawful _ _ (order_lawful place x) (orders_lawful n (place + 1) (behind_order x))
+orders_lawful (suc n) place x = All-cons IsLawful _ _ (order_lawful place x) (orders_lawful n (place + 1) (after_order x))
 
 asset_lawful : (asset : ℕ) → asset < 8 → IsLawful (new_asset asset)
 asset_lawful asset few =

@@ -1,7 +1,7 @@
 -- The commands of a sample, and its file.
 use Rattle.std.specs.Prelude.{ℕ, ◌+◌, ◌^◌, List, ◌∷◌, ◌++◌, map, codes, replicate}
 use Rattle.std.specs.List.{flat_map, range_with_len}
-use Rattle.wire_records.specs.Records.{spelling}
+use Rattle.wire_records.specs.Records.{encoding}
 use Rattle.wire_records.specs.Formats.{command_magic_of}
 use Rattle.wire_records.specs.declared.version.Version.TheVariants.{One}
 use Rattle.wire_records.specs.Commands.{Command, AddAsset, OpenAccount, DepositMoney, DepositAsset, RunBatch}
@@ -45,9 +45,9 @@ unfoldable pub sample : ℕ → ℕ → List Command
 sample number orders = new_assets ++ (new_accounts ++ (all_deposits ++ (drawn_orders orders 0 number ++ batches)))
 
 -- the encodings of commands' records, one after the other
-abbrev pub spell_commands : List Command → List ℕ
-spell_commands commands = flat_map (λ command. spelling (record_of command)) commands
+abbrev pub encode_commands : List Command → List ℕ
+encode_commands commands = flat_map (λ command. encoding (record_of command)) commands
 
 -- the command file of a sample, of version One
 unfoldable pub sample_file : ℕ → ℕ → List ℕ
-sample_file number orders = command_magic_of One ++ spell_commands (sample number orders)
+sample_file number orders = command_magic_of One ++ encode_commands (sample number orders)

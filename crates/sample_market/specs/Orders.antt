@@ -27,8 +27,8 @@ unfoldable pub drawn_row : ℕ → List Entry
 drawn_row x = drawn_entries (drawn_count x) (drawn_first x) (state_after 2 x)
 
 -- the state after the draws of the weight vector
-unfoldable pub behind_row : ℕ → ℕ
-behind_row x = state_after (2 + 2 * drawn_count x) x
+unfoldable pub after_row : ℕ → ℕ
+after_row x = state_after (2 + 2 * drawn_count x) x
 
 -- the price of a weight vector in ticks, if asset k costs 1,000 * (k + 1) ticks
 abbrev pub usual_price : List Entry → ℤ
@@ -36,19 +36,19 @@ usual_price row = int_sum_by (λ e. e.weight *ℤ pos (1000 * (e.asset + 1))) ro
 
 -- the middle between an order's limits, in ticks: the usual price of its weight vector, or up to 20 ticks off
 unfoldable pub drawn_middle : ℕ → ℤ
-drawn_middle x = (usual_price (drawn_row x) +ℤ pos (drawn 41 (behind_row x))) -ℤ pos 20
+drawn_middle x = (usual_price (drawn_row x) +ℤ pos (drawn 41 (after_row x))) -ℤ pos 20
 
 -- how far from the middle the limits of an order are, in ticks: 1 to 50
 unfoldable pub drawn_half : ℕ → ℕ
-drawn_half x = 1 + drawn 50 (state_after 1 (behind_row x))
+drawn_half x = 1 + drawn 50 (state_after 1 (after_row x))
 
 -- the rate of an order: 1 to 1,000 units
 unfoldable pub drawn_rate : ℕ → ℕ
-drawn_rate x = 1 + drawn 1000 (state_after 2 (behind_row x))
+drawn_rate x = 1 + drawn 1000 (state_after 2 (after_row x))
 
 -- in how many batches an order may trade its full rate: 1 to 20
 unfoldable pub drawn_turns : ℕ → ℕ
-drawn_turns x = 1 + drawn 20 (state_after 3 (behind_row x))
+drawn_turns x = 1 + drawn 20 (state_after 3 (after_row x))
 
 -- the order at a place, counted from 0, that is drawn at a state
 abbrev pub drawn_order : ℕ → ℕ → Request
@@ -62,10 +62,10 @@ drawn_order place x = record {
 }
 
 -- the state after the draws of an order
-unfoldable pub behind_order : ℕ → ℕ
-behind_order x = state_after 4 (behind_row x)
+unfoldable pub after_order : ℕ → ℕ
+after_order x = state_after 4 (after_row x)
 
 -- the commands that place so many orders, the first at this place
 abbrev pub drawn_orders : ℕ → ℕ → ℕ → List Command
 drawn_orders zero place x = []
-drawn_orders (suc n) place x = Place None (drawn_order place x) ∷ drawn_orders n (place + 1) (behind_order x)
+drawn_orders (suc n) place x = Place None (drawn_order place x) ∷ drawn_orders n (place + 1) (after_order x)

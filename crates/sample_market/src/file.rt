@@ -1,7 +1,7 @@
 //! The command file.
 ghost use Rattle.std.specs.Prelude.{◌≡◌, ◌≤◌, ◌++◌, OnOk, IfOk};
 ghost use Rattle.sample_market.specs.Orders.{drawn_orders};
-ghost use Rattle.sample_market.specs.Files.{new_assets, new_accounts, unit_deposits, all_deposits, batches, spell_commands, sample_file};
+ghost use Rattle.sample_market.specs.Files.{new_assets, new_accounts, unit_deposits, all_deposits, batches, encode_commands, sample_file};
 
 use crate::draws::Draws;
 use crate::orders::order;
@@ -34,7 +34,7 @@ const BUDGET: u32 = 1000;
 
 // Appends the records of the assets A0 to A7.
 fn put_assets(file: &mut Vec<u8>) -> Result<(), Memory>
-    ensures { OnOk result (file.new.items ≡ file.old.items ++ spell_commands new_assets) }
+    ensures { OnOk result (file.new.items ≡ file.old.items ++ encode_commands new_assets) }
 {
     for asset in 0..ASSETS {
         let ticker = [b'A', b'0' + asset, b' ', b' ', b' ', b' ', b' ', b' '];
@@ -45,7 +45,7 @@ fn put_assets(file: &mut Vec<u8>) -> Result<(), Memory>
 
 // Appends the records that open the accounts.
 fn put_accounts(file: &mut Vec<u8>) -> Result<(), Memory>
-    ensures { OnOk result (file.new.items ≡ file.old.items ++ spell_commands new_accounts) }
+    ensures { OnOk result (file.new.items ≡ file.old.items ++ encode_commands new_accounts) }
 {
     for _ in 0..ACCOUNTS {
         write_command(&Command::OpenAccount, file)?;
@@ -55,7 +55,7 @@ fn put_accounts(file: &mut Vec<u8>) -> Result<(), Memory>
 
 // Appends the records of an account's deposits in assets.
 fn put_units(account: u32, file: &mut Vec<u8>) -> Result<(), Memory>
-    ensures { OnOk result (file.new.items ≡ file.old.items ++ spell_commands (unit_deposits account)) }
+    ensures { OnOk result (file.new.items ≡ file.old.items ++ encode_commands (unit_deposits account)) }
 {
     for asset in 0..ASSETS {
         let deposit = Command::DepositAsset {
@@ -70,7 +70,7 @@ fn put_units(account: u32, file: &mut Vec<u8>) -> Result<(), Memory>
 
 // Appends the records of all deposits.
 fn put_deposits(file: &mut Vec<u8>) -> Result<(), Memory>
-    ensures { OnOk result (file.new.items ≡ file.old.items ++ spell_commands all_deposits) }
+    ensures { OnOk result (file.new.items ≡ file.old.items ++ encode_commands all_deposits) }
 {
     for account in 1..ACCOUNTS + 1 {
         let deposit = Command::DepositMoney {
@@ -85,7 +85,7 @@ fn put_deposits(file: &mut Vec<u8>) -> Result<(), Memory>
 
 // Appends the records of so many orders.
 fn put_orders(alloc: Global, number: u64, orders: u32, file: &mut Vec<u8>) -> Result<(), Memory>
-    ensures { OnOk result (file.new.items ≡ file.old.items ++ spell_commands (drawn_orders orders 0 number)) }
+    ensures { OnOk result (file.new.items ≡ file.old.items ++ encode_commands (drawn_orders orders 0 number)) }
 {
     let mut draws = Draws::new(number);
     for place in 0..orders {
@@ -96,7 +96,7 @@ fn put_orders(alloc: Global, number: u64, orders: u32, file: &mut Vec<u8>) -> Re
 
 // Appends the records of the batches.
 fn put_batches(file: &mut Vec<u8>) -> Result<(), Memory>
-    ensures { OnOk result (file.new.items ≡ file.old.items ++ spell_commands batches) }
+    ensures { OnOk result (file.new.items ≡ file.old.items ++ encode_commands batches) }
 {
     for _ in 0..BATCHES {
         write_command(&Command::RunBatch { budget: BUDGET }, file)?;

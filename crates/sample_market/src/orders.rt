@@ -4,7 +4,7 @@ ghost use Rattle.wire_records.specs.Commands.{Place};
 ghost use Rattle.wire_records.specs.Views.{command_in};
 ghost use Rattle.wire_records.specs.CommandRecords.{HasShortRow};
 ghost use Rattle.sample_market.specs.Draws.{next_state, drawn, state_after};
-ghost use Rattle.sample_market.specs.Orders.{drawn_weight, drawn_row, behind_row, usual_price, drawn_order, behind_order};
+ghost use Rattle.sample_market.specs.Orders.{drawn_weight, drawn_row, after_row, usual_price, drawn_order, after_order};
 
 use crate::draws::Draws;
 use std::alloc::Global;
@@ -22,7 +22,7 @@ fn signed(size: u32, sold: bool) -> i32
 // Draws a weight of 1 to 4, bought or sold.
 fn weight(draws: &mut Draws) -> i32
     ensures value { result ≡ drawn_weight draws.old }
-    ensures behind { draws.new ≡ state_after 2 draws.old }
+    ensures following { draws.new ≡ state_after 2 draws.old }
 {
     let size = 1 + draws.below(4);
     let sold = draws.below(2) == 1;
@@ -33,7 +33,7 @@ fn weight(draws: &mut Draws) -> i32
 fn row(alloc: Global, draws: &mut Draws) -> Result<Vec<Entry>, Memory>
     ensures row { IfOk result (λ entries. entries.items ≡ drawn_row draws.old) }
     ensures few { IfOk result (λ entries. length entries.items ≤ 3) }
-    ensures behind { OnOk result (draws.new ≡ behind_row draws.old) }
+    ensures following { OnOk result (draws.new ≡ after_row draws.old) }
 {
     let count = 1 + draws.below(3) as u16;
     let first = draws.below(u32::from(9 - count)) as u16;
@@ -90,7 +90,7 @@ fn limits(middle: i64, half: u32) -> (i64, i64)
 pub(crate) fn order(alloc: Global, draws: &mut Draws, place: u32) -> Result<Command, Memory>
     ensures order { IfOk result (λ command. command_in command ≡ Place None (drawn_order place draws.old)) }
     ensures short { IfOk result (λ command. HasShortRow (command_in command)) }
-    ensures behind { OnOk result (draws.new ≡ behind_order draws.old) }
+    ensures following { OnOk result (draws.new ≡ after_order draws.old) }
 {
     let entries = row(alloc, draws)?;
     let middle = middle(draws, &entries);

@@ -4,14 +4,14 @@ use Rattle.std.specs.Prelude.{All}
 use Rattle.std.specs.List.{sum_by}
 use Rattle.std.proofs.lemmas.List.{get_or-map}
 use Rattle.std.proofs.lemmas.List.Sums.{sum_by_more, sum_by-le}
-use Rattle.wire_records.specs.Records.{Record, spelling}
+use Rattle.wire_records.specs.Records.{Record, encoding}
 use Rattle.wire_records.specs.Commands.{Answer, Plain, Batch, Pair}
-use Rattle.wire_records.proofs.Spelled.{length-spelling}
+use Rattle.wire_records.proofs.Encoded.{length-encoding}
 use Rattle.flow_orders.specs.Outcomes.{Fill, Clearing, Outcome, Cleared, Skipped}
 use Rattle.journal_records.proofs.FieldForms.{clearing_from}
-use Rattle.journal_records.specs.Replies.{answer_record, IsAnswer, SpellsAnswer}
-use Rattle.journal_records.specs.Pairs.{IsPair, pair_spelling}
-use Rattle.journal_records.proofs.Spelled.{answer_unique, cleared_pair_room}
+use Rattle.journal_records.specs.Replies.{answer_record, IsAnswer, EncodesAnswer}
+use Rattle.journal_records.specs.Pairs.{IsPair, pair_encoding}
+use Rattle.journal_records.proofs.Encoded.{answer_unique, cleared_pair_room}
 use Rattle.journal_replay.specs.Audits.{cleared_by, skipped_by}
 use Rattle.sample_summary.specs.declared.counting.Counts.{Counts}
 use Rattle.sample_summary.specs.declared.sampling.Sampling.{Sampling}
@@ -26,8 +26,8 @@ rate_more c place units rate within is before =
     omega (arith, is, before, get_or-map (λ (f : Fill). f.rate) c.fills place none 0 within, sum_by_more (λ (f : Fill). f.rate) c.fills place none within)
 
 -- a record encodes one answer, and so has one count
-pub counted_as : (r : Record) (a b : Answer Outcome) (counts : Counts) → SpellsAnswer r a → SpellsAnswer r b → IsCounted a counts → IsCounted b counts
-counted_as r a b counts first other counted = subst (λ (x : Answer Outcome). IsCounted x counts) (answer_unique a b first.fits other.fits (sym first.spelled ∙ other.spelled)) counted
+pub counted_as : (r : Record) (a b : Answer Outcome) (counts : Counts) → EncodesAnswer r a → EncodesAnswer r b → IsCounted a counts → IsCounted b counts
+counted_as r a b counts first other counted = subst (λ (x : Answer Outcome). IsCounted x counts) (answer_unique a b first.fits other.fits (sym first.encoded ∙ other.encoded)) counted
 
 -- an answer counts once at most
 pub one_at_most : (a : Answer Outcome) → (cleared_by a ≤ 1) × (skipped_by a ≤ 1)
@@ -37,14 +37,14 @@ one_at_most (Batch number (Skipped s)) = (omega arith, omega arith)
 
 -- an answer counts at most as many units as its record has space for rates
 by_answer : (asked : Record) (a : Answer Outcome) → IsPair (record { asked = asked; answer = a }) → units_by a ≤ 5 * most_units
-unfolding pair_spelling
+unfolding pair_encoding
 by_answer asked (Plain reply) fits = omega arith
 by_answer asked (Batch number (Skipped s)) fits = omega arith
 by_answer asked (Batch number (Cleared c)) fits =
     let clearing = (clearing_from number c fits.answer).1 in
     let answered = answer_record (Batch number (Cleared c)) in
     let few : length c.fills ≤ 21845 =
-    omega (arith, cleared_pair_room asked number c clearing.residual_each, length-append (spelling asked) (spelling answered), length-spelling answered, fits.answered.body)
+    omega (arith, cleared_pair_room asked number c clearing.residual_each, length-append (encoding asked) (encoding answered), length-encoding answered, fits.answered.body)
     in
     let small = sum_by-le (λ (f : Fill). f.rate) (2 ^ 32) c.fills (λ k d within. omega (arith, (clearing.fills k d within).1)) in
     omega (arith, small, few)

@@ -30,7 +30,7 @@ use Rattle.word_driver.specs.Word.{Goes}
 use Rattle.exchange_session.specs.Journals.{Journals}
 use Rattle.exchange_session.specs.Running.{run}
 use Rattle.exchange_session.proofs.RunLaws.{run_version, run_is_kept}
-use Rattle.sample_market.specs.Files.{sample, spell_commands, sample_file}
+use Rattle.sample_market.specs.Files.{sample, encode_commands, sample_file}
 use Rattle.sample_market.proofs.LawProofs.{samples_are_read}
 use Rattle.sample_summary.specs.declared.counting.Counts.{Counts}
 use Rattle.sample_summary.specs.Summary.{units_by, units_in, summary_line, Summarizes}
@@ -81,12 +81,12 @@ has_sampled old new before after (r ∷ records) leads =
 records_are : (number orders : ℕ) (file : List ℕ) (units : List Record) (ending : Ending) → file ≡ sample_file number orders → ReadsOn commands 8 (IsTrue false) (drop 8 file) units ending → units ≡ map record_of (sample number orders)
 records_are number orders file units ending is reads =
     let whole = samples_are_read (length (sample_file number orders)) number orders (omega arith) in
-    let front = sym (take_all _ (sample_file number orders) (omega arith)) ∙ whole.1.1 in
-    let behind : drop 8 file ≡ whole.0 = ap (drop 8) (is ∙ front) in
+    let prefix = sym (take_all _ (sample_file number orders) (omega arith)) ∙ whole.1.1 in
+    let following : drop 8 file ≡ whole.0 = ap (drop 8) (is ∙ prefix) in
     let on = whole.2 in
     let here : ReadsOn commands 8 (IsTrue false) (drop 8 file) (map record_of (sample number orders)) End = record {
       rest = on.rest;
-      whole = behind ∙ on.whole;
+      whole = following ∙ on.whole;
       each = on.each;
       none = on.none;
       ends = (on.ends.0, λ e. absurd cc, on.ends.2);
@@ -135,4 +135,4 @@ module _ (number orders : ℕ) where
 -- the file has at least the eight bytes of its magic
 pub sample_long : (number orders : ℕ) → 8 ≤ length (sample_file number orders)
 unfolding sample_file
-sample_long number orders = omega (arith, length-append (command_magic_of One) (spell_commands (sample number orders)))
+sample_long number orders = omega (arith, length-append (command_magic_of One) (encode_commands (sample number orders)))

@@ -5,7 +5,7 @@ use Rattle.wire_records.specs.Records.{Record}
 use Rattle.wire_records.specs.Commands.{Answer, Pair}
 use Rattle.wire_records.specs.Versions.{IsReadAs}
 use Rattle.flow_orders.specs.Outcomes.{Clearing, Outcome, IsAdmissibleOutcome}
-use Rattle.journal_records.specs.Pairs.{IsPair, pair_spelling}
+use Rattle.journal_records.specs.Pairs.{IsPair, pair_encoding}
 use Rattle.market_rules.specs.Market.{Market}
 use Rattle.market_rules.specs.Journal.{Step}
 use Rattle.journal_replay.specs.Audits.{cleared_by, skipped_by}
@@ -47,7 +47,7 @@ pub record IsWritten (old : Market) (bytes : List ℕ) : Type 0 where
   pub new : Market
   pub fits : IsPair pair
   pub step : Step IsReadAs IsAdmissibleOutcome old pair.asked pair.answer new
-  pub spelled : bytes ≡ pair_spelling pair
+  pub encoded : bytes ≡ pair_encoding pair
 
 -- the market, and the counts
 pub record State : Type 0 where

@@ -3,7 +3,7 @@ ghost use Rattle.std.specs.Prelude.{◌≡◌, ◌≤◌, ◌<◌, ◌*◌, ◌^
 ghost use Rattle.wire_records.specs.Commands.{Answer};
 ghost use Rattle.flow_orders.specs.Outcomes.{Outcome};
 ghost use Rattle.batch_outcome.specs.Parts.{rates_in};
-ghost use Rattle.journal_records.specs.Replies.{SpellsAnswer};
+ghost use Rattle.journal_records.specs.Replies.{EncodesAnswer};
 ghost use Rattle.sample_summary.specs.Private.{units_traded, IsCounted, CountsOne, HasRoom};
 
 use batch_outcome::ClearedParts;
@@ -38,7 +38,7 @@ fn units_of(cleared: &ClearedView<'_>) -> u64
 
 /// Returns what the answer of an entry counts.
 pub(crate) fn counts_of(pair: &PairView<'_>) -> Counts
-    ensures { (answer : Answer Outcome) → SpellsAnswer pair.now.1 answer → IsCounted answer result }
+    ensures { (answer : Answer Outcome) → EncodesAnswer pair.now.1 answer → IsCounted answer result }
 {
     let none = Counts {
         cleared: 0,

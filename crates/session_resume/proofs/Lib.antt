@@ -3,6 +3,6 @@ mod Magics
 mod Written
 pub mod OneFirst
 pub mod OneResumption
-mod Behind
+mod After
 mod Taken
 pub mod SomeResumption

@@ -6,7 +6,7 @@ use Rattle.std.proofs.lemmas.List.{drop_at}
 use Rattle.std.proofs.lemmas.List.Elements.{All-append, All-cons, All-map}
 use Rattle.wire_records.specs.Records.{Record}
 use Rattle.wire_records.specs.Commands.{Pair}
-use Rattle.wire_records.specs.Grammars.{BeginsWithNone, spell_all}
+use Rattle.wire_records.specs.Grammars.{BeginsWithNone, encode_all}
 use Rattle.wire_records.specs.Formats.{command_magic_of}
 use Rattle.wire_records.specs.declared.version.Version.{Version}
 use Rattle.wire_records.specs.declared.version.Version.TheVariants.{One}
@@ -28,17 +28,17 @@ use Rattle.session_resume.specs.Rests.{Rest, Cut, Nothing, Commands, Other, IsRe
 -- ---- a journal
 
 -- The entries of a journal and the rest after them, judged.
-record Judged (bytes : List ℕ) (version : Version) (legal : List (Pair Record Outcome)) (behind : List (Record × Record)) (market : Market) (rest : List ℕ) : Type 0 where
+record Judged (bytes : List ℕ) (version : Version) (legal : List (Pair Record Outcome)) (following : List (Record × Record)) (market : Market) (rest : List ℕ) : Type 0 where
   units : List (Record × Record)
-  begins : bytes ≡ journal_magic_of version ++ (spell_all journals.units units ++ rest)
+  begins : bytes ≡ journal_magic_of version ++ (encode_all journals.units units ++ rest)
   each : All journals.units.IsLawful units
   none : BeginsWithNone journals.units rest
-  judged : AreJudged version units legal behind market
+  judged : AreJudged version units legal following market
 
 -- bytes are judged in one way
 one_judged : (bytes : List ℕ) (v w : Version) (p q : List (Pair Record Outcome)) (x y : List (Record × Record)) (m n : Market) (r s : List ℕ) → Judged bytes v p x m r → Judged bytes w q y n s → (v ≡ w) × (p ≡ q) × (x ≡ y) × (m ≡ n) × (r ≡ s)
 one_judged bytes v w p q x y m n r s a b =
-    let magic = journals_readable.magics.one v w (spell_all journals.units a.units ++ r) (spell_all journals.units b.units ++ s) tt tt (sym a.begins ∙ b.begins) in
+    let magic = journals_readable.magics.one v w (encode_all journals.units a.units ++ r) (encode_all journals.units b.units ++ s) tt tt (sym a.begins ∙ b.begins) in
     let parts = values_unique journals.units journals_readable.units a.units b.units r s a.each b.each a.none b.none magic.1 in
     let here = subst (λ (z : Version). AreJudged z a.units p x m) magic.0 a.judged in
     let same = one_judgement w b.units p q x y m n (subst (λ (us : List (Record × Record)). AreJudged w us p x m) parts.0 here) b.judged in
@@ -49,14 +49,14 @@ each_lawful : (version : Version) (pairs : List (Pair Record Outcome)) (market :
 each_lawful version pairs market legal = All-map journals.units.IsLawful records_of pairs (λ k d inside. ((legal.each k d inside).asked, (legal.each k d inside).answered))
 
 -- what follows a valid journal follows its records
-behind_records : (version : Version) (pairs : List (Pair Record Outcome)) (bytes left : List ℕ) → bytes ≡ journal_in version pairs ++ left → bytes ≡ journal_magic_of version ++ (spell_all journals.units (map records_of pairs) ++ left)
-behind_records version pairs bytes left whole =
-    whole ∙ ap (λ xs. xs ++ left) (journal_is_file.file version pairs) ∙ append_assoc (journal_magic_of version) (spell_all journals.units (map records_of pairs)) left
+after_records : (version : Version) (pairs : List (Pair Record Outcome)) (bytes left : List ℕ) → bytes ≡ journal_in version pairs ++ left → bytes ≡ journal_magic_of version ++ (encode_all journals.units (map records_of pairs) ++ left)
+after_records version pairs bytes left whole =
+    whole ∙ ap (λ xs. xs ++ left) (journal_is_file.file version pairs) ∙ append_assoc (journal_magic_of version) (encode_all journals.units (map records_of pairs)) left
 
 of_legal : (bytes : List ℕ) (market : Market) (place : ℕ) (rest : List ℕ) (first : BeginsLegal bytes market place rest) → Judged bytes first.version first.pairs [] market rest
 of_legal bytes market place rest first = record {
   units = map records_of first.pairs;
-  begins = behind_records first.version first.pairs bytes rest first.whole;
+  begins = after_records first.version first.pairs bytes rest first.whole;
   each = each_lawful first.version first.pairs market first.legal;
   none = first.last;
   judged = record { parts = sym (append-nil (map records_of first.pairs)); journal = first.legal; stops = tt };
@@ -72,17 +72,17 @@ of_illegal : (bytes : List ℕ) (number : ℕ) (first : BeginsIllegal bytes numb
 of_illegal bytes number first =
     let tail = parted journals.units journals_readable.units first.rest in
     let units = map records_of first.pairs in
-    let spell = journals.units.spell in
-    let all : spell_all journals.units (units ++ first.bad ∷ tail.values) ≡ spell_all journals.units units ++ (spell first.bad ++ spell_all journals.units tail.values) = flat_map-append spell units (first.bad ∷ tail.values) in
+    let encode = journals.units.encode in
+    let all : encode_all journals.units (units ++ first.bad ∷ tail.values) ≡ encode_all journals.units units ++ (encode first.bad ++ encode_all journals.units tail.values) = flat_map-append encode units (first.bad ∷ tail.values) in
     record {
       more = tail.values;
       rest = tail.rest;
       judged = record {
         units = units ++ first.bad ∷ tail.values;
-        begins = behind_records first.version first.pairs bytes (spell first.bad ++ first.rest) first.whole
-            ∙ ap (λ xs. journal_magic_of first.version ++ xs) (ap (λ xs. spell_all journals.units units ++ (spell first.bad ++ xs)) tail.whole
-            ∙ ap (λ xs. spell_all journals.units units ++ xs) (sym (append_assoc (spell first.bad) (spell_all journals.units tail.values) tail.rest))
-            ∙ sym (append_assoc (spell_all journals.units units) (spell first.bad ++ spell_all journals.units tail.values) tail.rest) ∙ ap (λ xs. xs ++ tail.rest) (sym all));
+        begins = after_records first.version first.pairs bytes (encode first.bad ++ first.rest) first.whole
+            ∙ ap (λ xs. journal_magic_of first.version ++ xs) (ap (λ xs. encode_all journals.units units ++ (encode first.bad ++ xs)) tail.whole
+            ∙ ap (λ xs. encode_all journals.units units ++ xs) (sym (append_assoc (encode first.bad) (encode_all journals.units tail.values) tail.rest))
+            ∙ sym (append_assoc (encode_all journals.units units) (encode first.bad ++ encode_all journals.units tail.values) tail.rest) ∙ ap (λ xs. xs ++ tail.rest) (sym all));
         each = All-append journals.units.IsLawful units (first.bad ∷ tail.values) (each_lawful first.version first.pairs first.market first.legal) (All-cons journals.units.IsLawful first.bad tail.values first.lawful tail.each);
         none = tail.none;
         judged = record { parts = refl; journal = first.legal; stops = first.illegal };
@@ -96,12 +96,12 @@ abbrev HasJournalMagic : List ℕ → Type 0
 HasJournalMagic bytes = (version : Version) × (body : List ℕ) × (bytes ≡ journal_magic_of version ++ body)
 
 legal_magic : (bytes : List ℕ) (market : Market) (place : ℕ) (rest : List ℕ) → BeginsLegal bytes market place rest → HasJournalMagic bytes
-legal_magic bytes market place rest first = (first.version, spell_all journals.units (map records_of first.pairs) ++ rest, behind_records first.version first.pairs bytes rest first.whole)
+legal_magic bytes market place rest first = (first.version, encode_all journals.units (map records_of first.pairs) ++ rest, after_records first.version first.pairs bytes rest first.whole)
 
 illegal_magic : (bytes : List ℕ) (number : ℕ) → BeginsIllegal bytes number → HasJournalMagic bytes
 illegal_magic bytes number first =
-    let left = journals.units.spell first.bad ++ first.rest in
-    (first.version, spell_all journals.units (map records_of first.pairs) ++ left, behind_records first.version first.pairs bytes left first.whole)
+    let left = journals.units.encode first.bad ++ first.rest in
+    (first.version, encode_all journals.units (map records_of first.pairs) ++ left, after_records first.version first.pairs bytes left first.whole)
 
 -- a checkpoint begins with its magic
 made_magic : (market : Market) → (rest : List ℕ) × (checkpoint_bytes market ≡ checkpoint_magic ++ rest)
@@ -111,7 +111,7 @@ made_magic market = (_, refl)
 pub kept_magic : (bytes : List ℕ) (market : Market) (place : ℕ) (rest : List ℕ) → BeginsKept bytes market place rest → HasCheckpointMagic bytes
 kept_magic bytes market place rest first =
     let made = made_magic market in
-    (made.0 ++ rest, first.whole ∙ ap (λ xs. xs ++ rest) (first.is_one.spelled ∙ made.1) ∙ append_assoc checkpoint_magic made.0 rest)
+    (made.0 ++ rest, first.whole ∙ ap (λ xs. xs ++ rest) (first.is_one.encoded ∙ made.1) ∙ append_assoc checkpoint_magic made.0 rest)
 
 -- no journal begins as a checkpoint
 fifth : (version : Version) (body : List ℕ) → get_or (journal_magic_of version ++ body) 4 0 ≡ 74

@@ -7,7 +7,7 @@ use Rattle.std.proofs.lemmas.List.Elements.{All-append}
 use Rattle.wire_records.specs.Records.{Record}
 use Rattle.wire_records.specs.Commands.{Pair}
 use Rattle.wire_records.specs.Versions.{IsReadAs}
-use Rattle.wire_records.specs.Grammars.{spell_all}
+use Rattle.wire_records.specs.Grammars.{encode_all}
 use Rattle.wire_records.specs.Reading.{Ending, End, Torn, TooLong, ReadsOn, EndsAs}
 use Rattle.wire_records.specs.Formats.{commands}
 use Rattle.wire_records.proofs.CodeLaws.{parted, values_unique}
@@ -16,7 +16,7 @@ use Rattle.wire_records.proofs.ReadingLaws.{reads_on_one}
 use Rattle.wire_records.proofs.RecordCode.{commands_readable}
 use Rattle.flow_orders.specs.Outcomes.{Outcome}
 use Rattle.canonical_rule.specs.Canonical.{IsCanonicalOutcome}
-use Rattle.journal_records.specs.Pairs.{pair_spelling}
+use Rattle.journal_records.specs.Pairs.{pair_encoding}
 use Rattle.journal_records.specs.Formats.{journals}
 use Rattle.market_rules.specs.Market.{Market}
 use Rattle.market_rules.specs.Journal.{Follows}
@@ -45,21 +45,21 @@ heads : (a b : Record) (x y : List Record) → a ∷ x ≡ b ∷ y → (a ≡ b)
 heads a b x y e = (cc, cc)
 
 -- the entries that answer the first of some records are the first of those that answer all
-front_of : (old m n : Market) (p q : List (Pair Record Outcome)) (more : List Record) → asked_of q ≡ asked_of p ++ more → Follows IsReadAs IsCanonicalOutcome old p m → Follows IsReadAs IsCanonicalOutcome old q n → (rest : List (Pair Record Outcome)) × (q ≡ p ++ rest)
-front_of old m n [] q more e first all = (q, refl)
-front_of old m n (x ∷ xs) [] more e first all = absurd cc
-front_of old m n (x ∷ xs) (y ∷ ys) more e first all =
+prefix_of : (old m n : Market) (p q : List (Pair Record Outcome)) (more : List Record) → asked_of q ≡ asked_of p ++ more → Follows IsReadAs IsCanonicalOutcome old p m → Follows IsReadAs IsCanonicalOutcome old q n → (rest : List (Pair Record Outcome)) × (q ≡ p ++ rest)
+prefix_of old m n [] q more e first all = (q, refl)
+prefix_of old m n (x ∷ xs) [] more e first all = absurd cc
+prefix_of old m n (x ∷ xs) (y ∷ ys) more e first all =
     let asked = heads y.asked x.asked (asked_of ys) (asked_of xs ++ more) e in
     let step = own_step IsReadAs reading_unique old x.asked x.answer y.answer first.0 all.0 first.1 (rw asked.0 at all.1) in
-    let rest = front_of first.0 m n xs ys more asked.1 first.2 (rw (← step.1) at all.2) in
+    let rest = prefix_of first.0 m n xs ys more asked.1 first.2 (rw (← step.1) at all.2) in
     (rest.0, ap (λ (p : Pair Record Outcome). p ∷ ys) (same_pair y x asked.0 (sym step.0)) ∙ ap (λ (ps : List (Pair Record Outcome)). x ∷ ps) rest.1)
 
 -- the text for the first of some records is a prefix of the text for all
-pub continues_front : (old m n : Market) (records all more : List Record) (x y : List ℕ) → all ≡ records ++ more → Continues old records m x → Continues old all n y → (rest : List ℕ) × (y ≡ x ++ rest)
-continues_front old m n records all more x y e first whole =
+pub continues_prefix : (old m n : Market) (records all more : List Record) (x y : List ℕ) → all ≡ records ++ more → Continues old records m x → Continues old all n y → (rest : List ℕ) × (y ≡ x ++ rest)
+continues_prefix old m n records all more x y e first whole =
     let asked : asked_of whole.pairs ≡ asked_of first.pairs ++ more = whole.answered.asked ∙ e ∙ ap (λ (rs : List Record). rs ++ more) (sym first.answered.asked) in
-    let front = front_of old m n first.pairs whole.pairs more asked first.answered.steps whole.answered.steps in
-    (flat_map pair_spelling front.0, whole.spelled ∙ ap (flat_map pair_spelling) front.1 ∙ flat_map-append pair_spelling first.pairs front.0 ∙ ap (λ xs. xs ++ flat_map pair_spelling front.0) (sym first.spelled))
+    let prefix = prefix_of old m n first.pairs whole.pairs more asked first.answered.steps whole.answered.steps in
+    (flat_map pair_encoding prefix.0, whole.encoded ∙ ap (flat_map pair_encoding) prefix.1 ∙ flat_map-append pair_encoding first.pairs prefix.0 ∙ ap (λ xs. xs ++ flat_map pair_encoding prefix.0) (sym first.encoded))
 
 -- the answers to the same records are the same
 one_from : (old m n : Market) (p q : List (Pair Record Outcome)) → asked_of p ≡ asked_of q → Follows IsReadAs IsCanonicalOutcome old p m → Follows IsReadAs IsCanonicalOutcome old q n → (p ≡ q) × (m ≡ n)
@@ -75,7 +75,7 @@ one_from old m n (x ∷ xs) (y ∷ ys) e first other =
 pub continues_one : (old m n : Market) (records all : List Record) (x y : List ℕ) → records ≡ all → Continues old records m x → Continues old all n y → (m ≡ n) × (x ≡ y)
 continues_one old m n records all x y e a b =
     let one = one_from old m n a.pairs b.pairs (a.answered.asked ∙ e ∙ sym b.answered.asked) a.answered.steps b.answered.steps in
-    (one.1, a.spelled ∙ ap (flat_map pair_spelling) one.0 ∙ sym b.spelled)
+    (one.1, a.encoded ∙ ap (flat_map pair_encoding) one.0 ∙ sym b.encoded)
 
 -- ---- rests
 
@@ -100,7 +100,7 @@ serves_one market More place body e f x y a b =
     let one = reads_on_one commands commands_readable place More body a.records b.records a.ending b.ending a.reads b.reads in
     (a.ends ∙ ap ended_by one.1 ∙ sym b.ends, (continues_one market a.new b.new a.records b.records x y one.0 a.writes b.writes).1)
 
-rest_one : (origin : Origin) (market : Market) (More : Type 0) (place : ℕ) (rest : List ℕ) (behind : Rest) (e f : Ended Unfit) (x y : List ℕ) → RestComesTo origin market More place rest behind e x → RestComesTo origin market More place rest behind f y → (e ≡ f) × (x ≡ y)
+rest_one : (origin : Origin) (market : Market) (More : Type 0) (place : ℕ) (rest : List ℕ) (following : Rest) (e f : Ended Unfit) (x y : List ℕ) → RestComesTo origin market More place rest following e x → RestComesTo origin market More place rest following f y → (e ≡ f) × (x ≡ y)
 rest_one origin market More place rest Cut e f x y a b = (a.0 ∙ sym b.0, a.1 ∙ sym b.1)
 rest_one origin market More place rest Nothing e f x y a b = (a.0 ∙ sym b.0, a.1 ∙ sym b.1)
 rest_one origin market More place rest (Commands body) e f x y a b = serves_one market More (place + 8) body e f x y a b
@@ -130,32 +130,32 @@ one_end_of More bytes e f x y a b =
 -- ---- prefixes
 
 -- the first records of bytes are the first of all that are there
-first_records : (body : List ℕ) (records all : List Record) (left rest : List ℕ) → body ≡ spell_all commands.units records ++ left → All commands.units.IsLawful records → (place : ℕ) (More : Type 0) (ending : Ending) → ReadsOn commands place More body all ending → (more : List Record) × (all ≡ records ++ more)
+first_records : (body : List ℕ) (records all : List Record) (left rest : List ℕ) → body ≡ encode_all commands.units records ++ left → All commands.units.IsLawful records → (place : ℕ) (More : Type 0) (ending : Ending) → ReadsOn commands place More body all ending → (more : List Record) × (all ≡ records ++ more)
 first_records body records all left rest whole each place More ending reads =
     let parts = parted commands.units commands_readable.units left in
-    let spelled : body ≡ spell_all commands.units (records ++ parts.values) ++ parts.rest =
-    whole ∙ ap (λ xs. spell_all commands.units records ++ xs) parts.whole
-    ∙ sym (append_assoc (spell_all commands.units records) (spell_all commands.units parts.values) parts.rest)
-    ∙ ap (λ xs. xs ++ parts.rest) (sym (flat_map-append commands.units.spell records parts.values))
+    let encoded : body ≡ encode_all commands.units (records ++ parts.values) ++ parts.rest =
+    whole ∙ ap (λ xs. encode_all commands.units records ++ xs) parts.whole
+    ∙ sym (append_assoc (encode_all commands.units records) (encode_all commands.units parts.values) parts.rest)
+    ∙ ap (λ xs. xs ++ parts.rest) (sym (flat_map-append commands.units.encode records parts.values))
     in
     let lawful = All-append commands.units.IsLawful records parts.values each parts.each in
-    let same = values_unique commands.units commands_readable.units all (records ++ parts.values) reads.rest parts.rest reads.each lawful reads.none parts.none (sym reads.whole ∙ spelled) in
+    let same = values_unique commands.units commands_readable.units all (records ++ parts.values) reads.rest parts.rest reads.each lawful reads.none parts.none (sym reads.whole ∙ encoded) in
     (parts.values, same.0)
 
 abbrev Begins : List ℕ → List ℕ → Type 0
 Begins text begun = (rest : List ℕ) × (text ≡ begun ++ rest)
 
-pub first_is_front : (More : Type 0) (bytes : List ℕ) (ended : Ended Unfit) (text begun : List ℕ) (records : List Record) (left : List ℕ) (new : Market) → Resumes More bytes ended text → ResumesFirst bytes records left new begun → Begins text begun
-first_is_front More bytes ended text begun records left new all begins =
+pub first_is_prefix : (More : Type 0) (bytes : List ℕ) (ended : Ended Unfit) (text begun : List ℕ) (records : List Record) (left : List ℕ) (new : Market) → Resumes More bytes ended text → ResumesFirst bytes records left new begun → Begins text begun
+first_is_prefix More bytes ended text begun records left new all begins =
     let same = one_first bytes all.first (Whole begins.origin begins.market begins.place begins.rest) all.stands begins.stands in
     let comes : FirstComesTo More (Whole begins.origin begins.market begins.place begins.rest) ended text = subst (λ (first : First). FirstComesTo More first ended text) same all.comes in
-    let behind = one_rest begins.market.version More begins.rest comes.0 (Commands begins.body) comes.1 begins.magic in
-    let serves : ServesAll begins.market More (begins.place + 8) begins.body ended text = subst (λ (r : Rest). RestComesTo begins.origin begins.market More begins.place begins.rest r ended text) behind comes.2 in
-    let front = first_records begins.body records serves.records left serves.reads.rest begins.whole begins.each (begins.place + 8) More serves.ending serves.reads in
-    continues_front begins.market new serves.new records serves.records front.0 begun text front.1 begins.writes serves.writes
+    let following = one_rest begins.market.version More begins.rest comes.0 (Commands begins.body) comes.1 begins.magic in
+    let serves : ServesAll begins.market More (begins.place + 8) begins.body ended text = subst (λ (r : Rest). RestComesTo begins.origin begins.market More begins.place begins.rest r ended text) following comes.2 in
+    let prefix = first_records begins.body records serves.records left serves.reads.rest begins.whole begins.each (begins.place + 8) More serves.ending serves.reads in
+    continues_prefix begins.market new serves.new records serves.records prefix.0 begun text prefix.1 begins.writes serves.writes
 
-pub into_is_front : (More : Type 0) (bytes : List ℕ) (ended : Ended Unfit) (text begun : List ℕ) → Resumes More bytes ended text → ResumesInto bytes begun → Begins text begun
-into_is_front More bytes ended text begun all into = first_is_front More bytes ended text begun into.records into.left into.new all into.first
+pub into_is_prefix : (More : Type 0) (bytes : List ℕ) (ended : Ended Unfit) (text begun : List ℕ) → Resumes More bytes ended text → ResumesInto bytes begun → Begins text begun
+into_is_prefix More bytes ended text begun all into = first_is_prefix More bytes ended text begun into.records into.left into.new all into.first
 
-pub short_is_front : (More : Type 0) (bytes : List ℕ) (ended : Ended Unfit) (text begun : List ℕ) → Resumes More bytes ended text → ResumesShort bytes begun → Begins text begun
-short_is_front More bytes ended text begun all short = first_is_front More bytes ended text begun short.records short.left short.new all short.first
+pub short_is_prefix : (More : Type 0) (bytes : List ℕ) (ended : Ended Unfit) (text begun : List ℕ) → Resumes More bytes ended text → ResumesShort bytes begun → Begins text begun
+short_is_prefix More bytes ended text begun all short = first_is_prefix More bytes ended text begun short.records short.left short.new all short.first

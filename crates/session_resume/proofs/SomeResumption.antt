@@ -5,7 +5,7 @@ use Rattle.std.proofs.lemmas.List.Elements.{All-nil, All-cons, All-head, All-tai
 use Rattle.wire_records.specs.Records.{Record, IsRecord}
 use Rattle.wire_records.specs.Commands.{Pair}
 use Rattle.wire_records.specs.Versions.{IsReadAs}
-use Rattle.wire_records.specs.Grammars.{BeginsWithNone, spell_all}
+use Rattle.wire_records.specs.Grammars.{BeginsWithNone, encode_all}
 use Rattle.wire_records.specs.Reading.{Ending, End, Torn, TooLong, ReadsOn, EndsAs}
 use Rattle.wire_records.specs.Formats.{commands, command_magic_of}
 use Rattle.wire_records.specs.declared.version.Version.{Version}
@@ -23,7 +23,7 @@ use Rattle.canonical_journals.proofs.CanonicalIsLegal.{canonical_follows_are_adm
 use Rattle.market_snapshot.specs.Checkpoints.{IsCheckpoint, HasCheckpointMagic}
 use Rattle.batch_audit.specs.Legal.{IsLegalPair, IsLegalJournal, StopsAt}
 use Rattle.journal_replay.specs.Audits.{AuditsOn}
-use Rattle.journal_replay.proofs.Replayed.{behind_magic}
+use Rattle.journal_replay.proofs.Replayed.{after_magic}
 use Rattle.word_driver.specs.Ended.{Ended}
 use Rattle.word_driver.specs.Laws.{IsNotDenied}
 use Rattle.word_driver.specs.declared.fault.Fault.TheVariants as fault
@@ -45,34 +45,34 @@ use Rattle.session_resume.proofs.Written.{none_continues, continues_more}
 -- entries are some valid ones from a market on, and those after them, of which the first is invalid
 record Judges (old : Market) (all : List (Record × Record)) : Type 0 where
   legal : List (Pair Record Outcome)
-  behind : List (Record × Record)
+  following : List (Record × Record)
   new : Market
-  parts : all ≡ map records_of legal ++ behind
+  parts : all ≡ map records_of legal ++ following
   each : All IsPair legal
   steps : Follows IsReadAs IsAdmissibleOutcome old legal new
-  stops : StopsAt new behind
+  stops : StopsAt new following
 
 judges_more : (old next : Market) (unit : Record × Record) (units : List (Record × Record)) → journals.units.IsLawful unit → IsLegalPair old unit next → Judges next units → Judges old (unit ∷ units)
 judges_more old next unit units lawful one rest =
     let pair : Pair Record Outcome = record { asked = unit.0; answer = one.answer } in
     record {
       legal = pair ∷ rest.legal;
-      behind = rest.behind;
+      following = rest.following;
       new = rest.new;
-      parts = ap (λ xs. unit ∷ xs) rest.parts ∙ ap (λ (r : Record). (unit.0, r) ∷ (map records_of rest.legal ++ rest.behind)) one.spelled.spelled;
-      each = All-cons IsPair pair rest.legal (record { asked = lawful.0; answer = one.spelled.fits; answered = rw (← one.spelled.spelled) lawful.1 }) rest.each;
+      parts = ap (λ xs. unit ∷ xs) rest.parts ∙ ap (λ (r : Record). (unit.0, r) ∷ (map records_of rest.legal ++ rest.following)) one.encoded.encoded;
+      each = All-cons IsPair pair rest.legal (record { asked = lawful.0; answer = one.encoded.fits; answered = rw (← one.encoded.encoded) lawful.1 }) rest.each;
       steps = (next, one.step, rest.steps);
       stops = rest.stops;
     }
 
 judges : (old : Market) (units : List (Record × Record)) → All journals.units.IsLawful units → IsNotDenied (Judges old units)
-judges old [] each = not_denied (record { legal = []; behind = []; new = old; parts = refl; each = All-nil IsPair; steps = refl; stops = tt })
+judges old [] each = not_denied (record { legal = []; following = []; new = old; parts = refl; each = All-nil IsPair; steps = refl; stops = tt })
 judges old (unit ∷ units) each =
     follows
     (λ legal.
     elim legal [
       | inl (next, one) ↦ follows (λ rest. not_denied (judges_more old next unit units (All-head journals.units.IsLawful unit units each) one rest)) (judges next units (All-tail journals.units.IsLawful unit units each))
-      | inr none ↦ not_denied (record { legal = []; behind = unit ∷ units; new = old; parts = refl; each = All-nil IsPair; steps = refl; stops = λ next one. none (next, one) })
+      | inr none ↦ not_denied (record { legal = []; following = unit ∷ units; new = old; parts = refl; each = All-nil IsPair; steps = refl; stops = λ next one. none (next, one) })
     ])
     (one_of ((next : Market) × IsLegalPair old unit next))
 
@@ -82,7 +82,7 @@ module _ (bytes : List ℕ) where
 
   -- a journal begins
   module _ (version : Version) (begins : (body : List ℕ) × (Unit {0} × (bytes ≡ journal_magic_of version ++ body))) where
-    some_parts : (legal : List (Pair Record Outcome)) (behind : List (Record × Record)) (ending : Ending) (market : Market) → AuditsOn version 8 (Unit {0}) (drop 8 bytes) legal behind ending market → Some
+    some_parts : (legal : List (Pair Record Outcome)) (following : List (Record × Record)) (ending : Ending) (market : Market) → AuditsOn version 8 (Unit {0}) (drop 8 bytes) legal following ending market → Some
     some_parts legal [] ending market on =
         let place = length (journal_in version legal) in
         (Whole Journal market place (drop place bytes), legal_first version bytes begins (Unit {0}) legal ending market on place refl)
@@ -91,7 +91,7 @@ module _ (bytes : List ℕ) where
     some_journal : IsNotDenied Some
     some_journal =
         let on = reads_on_some journals journals_readable 8 (Unit {0}) (inl tt) (drop 8 bytes) in
-        follows (λ (j : Judges (empty_market version) on.0). not_denied (some_parts j.legal j.behind on.1 j.new (record { units = on.0; reads = on.2; judged = record { parts = j.parts; journal = record { each = j.each; steps = j.steps }; stops = j.stops } })))
+        follows (λ (j : Judges (empty_market version) on.0). not_denied (some_parts j.legal j.following on.1 j.new (record { units = on.0; reads = on.2; judged = record { parts = j.parts; journal = record { each = j.each; steps = j.steps }; stops = j.stops } })))
         (judges (empty_market version) on.0 on.2.each)
 
   abbrev SomeKept : Type 0
@@ -103,7 +103,7 @@ module _ (bytes : List ℕ) where
       (λ kept.
       elim kept [
         | inl (market, checkpoint, rest, is_one, whole) ↦ not_denied (Whole Checkpoint market (length checkpoint) rest, record { checkpoint = checkpoint; is_one = is_one; whole = whole; ends = refl })
-        | inr none ↦ not_denied (NoCheckpoint, (magic, λ market front rest is_one whole. none (market, front, rest, is_one, whole)))
+        | inr none ↦ not_denied (NoCheckpoint, (magic, λ market prefix rest is_one whole. none (market, prefix, rest, is_one, whole)))
       ])
       (one_of SomeKept)
 
@@ -117,7 +117,7 @@ module _ (bytes : List ℕ) where
 
 -- ---- what follows it
 
-some_rest : (version : Version) (More : Type 0) (rest : List ℕ) → IsNotDenied ((behind : Rest) × IsRest version More rest behind)
+some_rest : (version : Version) (More : Type 0) (rest : List ℕ) → IsNotDenied ((following : Rest) × IsRest version More rest following)
 some_rest version More rest =
     follows
     (λ cut.
@@ -185,11 +185,11 @@ some_file Checkpoint More place rest some more = (Err (fault.Torn place), refl)
 abbrev SomeEnd : (Ended Unfit → List ℕ → Type 0) → Type 0
 SomeEnd Comes = (ended : Ended Unfit) × (text : List ℕ) × Comes ended text
 
-some_behind : (origin : Origin) (market : Market) (More : Type 0) (place : ℕ) (rest : List ℕ) (behind : Rest) → IsConsistent market → IsRest market.version More rest behind → IsNotDenied (SomeEnd (RestComesTo origin market More place rest behind))
-some_behind origin market More place rest Cut consistent is = not_denied (Err fault.TooLong, [], (refl, refl))
-some_behind origin market More place rest Nothing consistent is = not_denied (Ok tt, [], (refl, refl))
-some_behind origin market More place rest (Commands body) consistent is = some_service market More (place + 8) body consistent
-some_behind origin market More place rest Other consistent is = follows (λ more. let file = some_file origin More place rest is.1 more in not_denied (file.0, [], (file.1, refl))) (one_of More)
+some_after : (origin : Origin) (market : Market) (More : Type 0) (place : ℕ) (rest : List ℕ) (following : Rest) → IsConsistent market → IsRest market.version More rest following → IsNotDenied (SomeEnd (RestComesTo origin market More place rest following))
+some_after origin market More place rest Cut consistent is = not_denied (Err fault.TooLong, [], (refl, refl))
+some_after origin market More place rest Nothing consistent is = not_denied (Ok tt, [], (refl, refl))
+some_after origin market More place rest (Commands body) consistent is = some_service market More (place + 8) body consistent
+some_after origin market More place rest Other consistent is = follows (λ more. let file = some_file origin More place rest is.1 more in not_denied (file.0, [], (file.1, refl))) (one_of More)
 
 -- the market of a first part is consistent
 consistent_first : (bytes : List ℕ) (origin : Origin) (market : Market) (place : ℕ) (rest : List ℕ) → IsFirst bytes (Whole origin market place rest) → IsConsistent market
@@ -206,9 +206,9 @@ some_comes More bytes NoCheckpoint stands = follows (λ more. let ends = some_un
 some_comes More bytes (Illegal number) stands = not_denied (Err (fault.Stopped (unfit.Illegal number)), [], (refl, refl))
 some_comes More bytes (Whole origin market place rest) stands =
     follows
-    (λ behind.
-    follows (λ (some : SomeEnd (RestComesTo origin market More place rest behind.0)). not_denied (some.0, some.1, (behind.0, behind.1, some.2)))
-    (some_behind origin market More place rest behind.0 (consistent_first bytes origin market place rest stands) behind.1))
+    (λ following.
+    follows (λ (some : SomeEnd (RestComesTo origin market More place rest following.0)). not_denied (some.0, some.1, (following.0, following.1, some.2)))
+    (some_after origin market More place rest following.0 (consistent_first bytes origin market place rest stands) following.1))
     (some_rest market.version More rest)
 
 pub some_end_of : (More : Type 0) (bytes : List ℕ) → ((ended : Ended Unfit) (text : List ℕ) → ¬ Resumes More bytes ended text) → ⊥

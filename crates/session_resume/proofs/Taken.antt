@@ -30,7 +30,7 @@ use Rattle.session_resume.proofs.OneResumption.{one_end_of}
 -- ---- the result for bytes depends only on whether the input has more
 
 module _ (P Q : Type 0) (same : P ↔ Q) where
-  rest_alike : (version : Version) (rest : List ℕ) (behind : Rest) → IsRest version P rest behind → IsRest version Q rest behind
+  rest_alike : (version : Version) (rest : List ℕ) (following : Rest) → IsRest version P rest following → IsRest version Q rest following
   rest_alike version rest Cut is = (is.0, same.0 is.1)
   rest_alike version rest Nothing is = (is.0, λ q. is.1 (same.1 q))
   rest_alike version rest (Commands body) is = is
@@ -56,11 +56,11 @@ module _ (P Q : Type 0) (same : P ↔ Q) where
     writes = all.writes;
   }
 
-  behind_alike : (origin : Origin) (market : Market) (place : ℕ) (rest : List ℕ) (behind : Rest) (ended : Ended Unfit) (text : List ℕ) → RestComesTo origin market P place rest behind ended text → RestComesTo origin market Q place rest behind ended text
-  behind_alike origin market place rest Cut ended text comes = comes
-  behind_alike origin market place rest Nothing ended text comes = comes
-  behind_alike origin market place rest (Commands body) ended text comes = serves_alike market (place + 8) body ended text comes
-  behind_alike origin market place rest Other ended text comes = (no_file_alike origin place rest ended comes.0, comes.1)
+  after_alike : (origin : Origin) (market : Market) (place : ℕ) (rest : List ℕ) (following : Rest) (ended : Ended Unfit) (text : List ℕ) → RestComesTo origin market P place rest following ended text → RestComesTo origin market Q place rest following ended text
+  after_alike origin market place rest Cut ended text comes = comes
+  after_alike origin market place rest Nothing ended text comes = comes
+  after_alike origin market place rest (Commands body) ended text comes = serves_alike market (place + 8) body ended text comes
+  after_alike origin market place rest Other ended text comes = (no_file_alike origin place rest ended comes.0, comes.1)
 
   unsound_alike : (ended : Ended Unfit) → EndsUnsound P ended → EndsUnsound Q ended
   unsound_alike ended (inl more) = inl (same.0 more.0, more.1)
@@ -70,7 +70,7 @@ module _ (P Q : Type 0) (same : P ↔ Q) where
   first_alike Neither ended text comes = comes
   first_alike NoCheckpoint ended text comes = (unsound_alike ended comes.0, comes.1)
   first_alike (Illegal number) ended text comes = comes
-  first_alike (Whole origin market place rest) ended text comes = (comes.0, rest_alike market.version rest comes.0 comes.1, behind_alike origin market place rest comes.0 ended text comes.2)
+  first_alike (Whole origin market place rest) ended text comes = (comes.0, rest_alike market.version rest comes.0 comes.1, after_alike origin market place rest comes.0 ended text comes.2)
 
   resumes_alike : (bytes : List ℕ) (ended : Ended Unfit) (text : List ℕ) → Resumes P bytes ended text → Resumes Q bytes ended text
   resumes_alike bytes ended text resumes = record { first = resumes.first; stands = resumes.stands; comes = first_alike resumes.first ended text resumes.comes }
@@ -87,11 +87,11 @@ module _ (More : Type 0) where
   no_file_done Journal place rest is = ending_done (EndsAs journals More rest place) (λ ends. ends.1) is.0 is.1 is.2
   no_file_done Checkpoint place rest is = absurd cc
 
-  behind_done : (origin : Origin) (market : Market) (place : ℕ) (rest : List ℕ) (behind : Rest) (text : List ℕ) → IsRest market.version More rest behind → RestComesTo origin market More place rest behind (Ok tt) text → ¬ More
-  behind_done origin market place rest Cut text is comes = absurd (let done = comes.0 in cc)
-  behind_done origin market place rest Nothing text is comes = is.1
-  behind_done origin market place rest (Commands body) text is comes = ending_done (EndsAs commands More comes.reads.rest _) (λ ends. ends.1) comes.ending comes.reads.ends comes.ends
-  behind_done origin market place rest Other text is comes = no_file_done origin place rest comes.0
+  after_done : (origin : Origin) (market : Market) (place : ℕ) (rest : List ℕ) (following : Rest) (text : List ℕ) → IsRest market.version More rest following → RestComesTo origin market More place rest following (Ok tt) text → ¬ More
+  after_done origin market place rest Cut text is comes = absurd (let done = comes.0 in cc)
+  after_done origin market place rest Nothing text is comes = is.1
+  after_done origin market place rest (Commands body) text is comes = ending_done (EndsAs commands More comes.reads.rest _) (λ ends. ends.1) comes.ending comes.reads.ends comes.ends
+  after_done origin market place rest Other text is comes = no_file_done origin place rest comes.0
 
   unsound_done : EndsUnsound More (Ok tt) → ⊥
   unsound_done (inl more) = absurd (let done = more.1 in cc)
@@ -101,7 +101,7 @@ module _ (More : Type 0) where
   first_done Neither text comes = absurd (let done = comes.0 in cc)
   first_done NoCheckpoint text comes = absurd (unsound_done comes.0)
   first_done (Illegal number) text comes = absurd (let done = comes.0 in cc)
-  first_done (Whole origin market place rest) text comes = behind_done origin market place rest comes.0 text comes.1 comes.2
+  first_done (Whole origin market place rest) text comes = after_done origin market place rest comes.0 text comes.1 comes.2
 
 -- ---- over the known content of a source
 

@@ -6,10 +6,10 @@ use Rattle.std.proofs.lemmas.List.Elements.{All-nil, All-cons}
 use Rattle.wire_records.specs.Records.{Record}
 use Rattle.wire_records.specs.Commands.{Pair}
 use Rattle.wire_records.specs.Reading as reading
-use Rattle.wire_records.specs.Grammars.{spell_all}
+use Rattle.wire_records.specs.Grammars.{encode_all}
 use Rattle.wire_records.specs.Formats.{commands}
 use Rattle.flow_orders.specs.Outcomes.{Outcome}
-use Rattle.journal_records.specs.Pairs.{IsPair, pair_spelling}
+use Rattle.journal_records.specs.Pairs.{IsPair, pair_encoding}
 use Rattle.market_rules.specs.Market.{Market}
 use Rattle.canonical_journals.proofs.LawProofs.{steps_number_one}
 use Rattle.word_driver.specs.declared.fault.Fault.TheVariants.{Read, Write, Memory, NotFlow, Torn, TooLong, Stopped}
@@ -25,7 +25,7 @@ use Rattle.session_resume.specs.Private.{WritesInto, WritesShort}
 
 -- entries that answer records from a market on: none, and one more before others
 pub none_continues : (old : Market) → Continues old [] old []
-none_continues old = record { pairs = []; answered = record { asked = refl; steps = refl }; fits = λ few. All-nil IsPair; spelled = refl }
+none_continues old = record { pairs = []; answered = record { asked = refl; steps = refl }; fits = λ few. All-nil IsPair; encoded = refl }
 
 pub continues_more : (old next new : Market) (r : Record) (records : List Record) (text rest : List ℕ) → AnswersOne old r next text → Continues next records new rest → Continues old (r ∷ records) new (text ++ rest)
 continues_more old next new r records text rest one more =
@@ -35,7 +35,7 @@ continues_more old next new r records text rest one more =
       pairs = pair ∷ more.pairs;
       answered = record { asked = ap (λ xs. r ∷ xs) more.answered.asked; steps = (next, one.step, more.answered.steps) };
       fits = λ few. All-cons IsPair pair more.pairs (one.fits (omega (arith, rise, few))) (more.fits (omega (arith, rise, few)));
-      spelled = ap (λ xs. xs ++ rest) one.spelled ∙ ap (λ xs. pair_spelling pair ++ xs) more.spelled;
+      encoded = ap (λ xs. xs ++ rest) one.encoded ∙ ap (λ xs. pair_encoding pair ++ xs) more.encoded;
     }
 
 -- what a run writes after its opening are such entries
@@ -60,12 +60,12 @@ module _ (old : Market) (More : Type 0) (place : ℕ) (body : List ℕ) where
   -- the text of a run is that of the units that it took
   so_far : {P : Type 0} {bytes : List ℕ} (ended : Ended Never) (text : List ℕ) (on : ComesOn run P place bytes old ended text) → text ≡ on.so_far
   so_far {P} ended text on =
-      on.writes ∙ ap (λ xs. on.so_far ++ xs) (nothing_last P (place + length (spell_all commands.units on.units)) on.rest on.state ended on.last on.halts) ∙ append-nil on.so_far
+      on.writes ∙ ap (λ xs. on.so_far ++ xs) (nothing_last P (place + length (encode_all commands.units on.units)) on.rest on.state ended on.last on.halts) ∙ append-nil on.so_far
 
   written : (units : List Record) (rest : List ℕ) (new : Market) (bytes text : List ℕ) → Passes run bytes old units rest new text → Continues old units new text
   written units rest new bytes text passes = continues old new units text passes.goes
 
-  serves : (ending : reading.Ending) (units : List Record) (rest : List ℕ) (new : Market) (text : List ℕ) → Passes run body old units rest new text → AtEnd run More (place + length (spell_all commands.units units)) rest ending → ServesAll old More place body (ended_by ending) text
+  serves : (ending : reading.Ending) (units : List Record) (rest : List ℕ) (new : Market) (text : List ℕ) → Passes run body old units rest new text → AtEnd run More (place + length (encode_all commands.units units)) rest ending → ServesAll old More place body (ended_by ending) text
   serves ending units rest new text passes at = record {
     records = units;
     ending = ending;
@@ -92,7 +92,7 @@ module _ (old : Market) (More : Type 0) (place : ℕ) (body : List ℕ) where
     on.rest ++ drop n body,
     on.state,
     record {
-      whole = sym (take-append-drop n body) ∙ ap (λ xs. xs ++ drop n body) on.passes.whole ∙ append_assoc (spell_all commands.units on.units) on.rest (drop n body);
+      whole = sym (take-append-drop n body) ∙ ap (λ xs. xs ++ drop n body) on.passes.whole ∙ append_assoc (encode_all commands.units on.units) on.rest (drop n body);
       each = on.passes.each;
       writes = written on.units on.rest on.state (take n body) on.so_far on.passes;
     },
@@ -109,7 +109,7 @@ module _ (old : Market) (More : Type 0) (place : ℕ) (body : List ℕ) where
           left = on.rest;
           new = on.state;
           next = at.0;
-          behind = at.1;
+          following = at.1;
           first = record { whole = on.passes.whole; each = on.passes.each; writes = written on.units on.rest on.state body text on.passes };
           stands = at.2;
           allocates = at.3;

@@ -6,7 +6,7 @@ use Rattle.wire_records.specs.Commands.{Pair}
 use Rattle.wire_records.specs.Versions.{IsReadAs}
 use Rattle.flow_orders.specs.Outcomes.{Outcome}
 use Rattle.canonical_rule.specs.Canonical.{IsCanonicalOutcome}
-use Rattle.journal_records.specs.Pairs.{IsPair, pair_spelling}
+use Rattle.journal_records.specs.Pairs.{IsPair, pair_encoding}
 use Rattle.market_rules.specs.Market.{Market}
 use Rattle.market_rules.specs.Journal.{IsAnswered}
 
@@ -16,4 +16,4 @@ pub record Continues (old : Market) (records : List Record) (new : Market) (text
   pub pairs : List (Pair Record Outcome)
   pub answered : IsAnswered IsReadAs IsCanonicalOutcome old records pairs new
   pub fits : old.next_order + length pairs < 2 ^ 64 → All IsPair pairs
-  pub spelled : text ≡ flat_map pair_spelling pairs
+  pub encoded : text ≡ flat_map pair_encoding pairs

@@ -41,7 +41,7 @@ pub record BeginsIllegal (bytes : List ℕ) (number : ℕ) : Type 0 where
   pub bad : Record × Record
   pub rest : List ℕ
   pub legal : IsLegalJournal version pairs market
-  pub whole : bytes ≡ journal_in version pairs ++ (journals.units.spell bad ++ rest)
+  pub whole : bytes ≡ journal_in version pairs ++ (journals.units.encode bad ++ rest)
   pub lawful : journals.units.IsLawful bad
   pub illegal : IsIllegalPair market bad
   pub counted : number ≡ length pairs + 1

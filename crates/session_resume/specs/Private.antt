@@ -2,7 +2,7 @@
 use Rattle.std.specs.Prelude.{◌≡◌, ◌⊎◌, ℕ, List, [], ◌++◌, Option, Ok, Err, All}
 use Rattle.flow_io.specs.Streams.{Grows, GrowsByPrefix}
 use Rattle.wire_records.specs.Records.{Record}
-use Rattle.wire_records.specs.Grammars.{BeginsWith, spell_all}
+use Rattle.wire_records.specs.Grammars.{BeginsWith, encode_all}
 use Rattle.wire_records.specs.Formats.{commands, command_magic_of}
 use Rattle.market_rules.specs.Market.{Market}
 use Rattle.market_rules.specs.Allocating.{RecordMayAllocate}
@@ -23,7 +23,7 @@ IsFirstFault bytes fault.Memory = Unit {0}
 
 -- The bytes begin with these records, and the text is that of their entries.
 pub record WritesFirst (old : Market) (body : List ℕ) (records : List Record) (left : List ℕ) (new : Market) (text : List ℕ) : Type 0 where
-  pub whole : body ≡ spell_all commands.units records ++ left
+  pub whole : body ≡ encode_all commands.units records ++ left
   pub each : All commands.units.IsLawful records
   pub writes : Continues old records new text
 
@@ -37,19 +37,19 @@ pub record WritesShort (old : Market) (body : List ℕ) (text : List ℕ) : Type
   pub left : List ℕ
   pub new : Market
   pub next : Record
-  pub behind : List ℕ
+  pub following : List ℕ
   pub first : WritesFirst old body records left new text
-  pub stands : BeginsWith commands.units left next behind
+  pub stands : BeginsWith commands.units left next following
   pub allocates : RecordMayAllocate new next
 
 -- the text is that of the entries of some first records of a rest that is a command file of the market's version
-abbrev pub IntoBehind : Market → List ℕ → List ℕ → Type 0
-IntoBehind market rest text = (body : List ℕ) × (rest ≡ command_magic_of market.version ++ body) × WritesInto market body text
+abbrev pub IntoAfter : Market → List ℕ → List ℕ → Type 0
+IntoAfter market rest text = (body : List ℕ) × (rest ≡ command_magic_of market.version ++ body) × WritesInto market body text
 
 -- the text is that of the entries of the records before one that may allocate, in a rest that is a command file of the
 -- market's version
-abbrev pub ShortBehind : Market → List ℕ → List ℕ → Type 0
-ShortBehind market rest text = (body : List ℕ) × (rest ≡ command_magic_of market.version ++ body) × WritesShort market body text
+abbrev pub ShortAfter : Market → List ℕ → List ℕ → Type 0
+ShortAfter market rest text = (body : List ℕ) × (rest ≡ command_magic_of market.version ++ body) × WritesShort market body text
 
 -- What was written, by the result: the text of that result; of a failed write a prefix of the text for some first
 -- records; and nothing, or the text before a record that may allocate, if memory ran out.

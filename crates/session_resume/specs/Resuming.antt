@@ -1,7 +1,7 @@
 -- `flow resume`: what it makes of the bytes of its source.
 use Rattle.std.specs.Prelude.{◌≡◌, ◌⊎◌, ◌<◌, ℕ, List, [], ◌++◌, length, take, All, Ok, Err}
 use Rattle.wire_records.specs.Records.{Record}
-use Rattle.wire_records.specs.Grammars.{BeginsWith, spell_all}
+use Rattle.wire_records.specs.Grammars.{BeginsWith, encode_all}
 use Rattle.wire_records.specs.Formats.{commands, command_magic_of}
 use Rattle.market_rules.specs.Market.{Market}
 use Rattle.market_rules.specs.Allocating.{RecordMayAllocate}
@@ -24,7 +24,7 @@ FirstComesTo More Neither ended text = (ended ≡ Err NotFlow) × (text ≡ [])
 FirstComesTo More NoCheckpoint ended text = EndsUnsound More ended × (text ≡ [])
 FirstComesTo More (Illegal number) ended text = (ended ≡ Err (Stopped (unfit.Illegal number))) × (text ≡ [])
 FirstComesTo More (Whole origin market place rest) ended text =
-    (behind : Rest) × IsRest market.version More rest behind × RestComesTo origin market More place rest behind ended text
+    (following : Rest) × IsRest market.version More rest following × RestComesTo origin market More place rest following ended text
 
 -- The considered bytes have this result and this text; the input has more after them or not.
 pub record Resumes (More : Type 0) (bytes : List ℕ) (ended : Ended Unfit) (text : List ℕ) : Type 0 where
@@ -44,7 +44,7 @@ module _ (bytes : List ℕ) where
     pub body : List ℕ
     pub stands : IsFirst bytes (Whole origin market place rest)
     pub magic : rest ≡ command_magic_of market.version ++ body
-    pub whole : body ≡ spell_all commands.units records ++ left
+    pub whole : body ≡ encode_all commands.units records ++ left
     pub each : All commands.units.IsLawful records
     pub writes : Continues market records new text
 
@@ -61,7 +61,7 @@ module _ (bytes : List ℕ) where
     pub left : List ℕ
     pub new : Market
     pub next : Record
-    pub behind : List ℕ
+    pub following : List ℕ
     pub first : ResumesFirst records left new text
-    pub stands : BeginsWith commands.units left next behind
+    pub stands : BeginsWith commands.units left next following
     pub allocates : RecordMayAllocate new next

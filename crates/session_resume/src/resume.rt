@@ -8,7 +8,7 @@ ghost use Rattle.session_resume.specs.Firsts.{Whole};
 ghost use Rattle.session_resume.specs.Rests.{ServesAll, IsNoFile};
 ghost use Rattle.session_resume.specs.Resuming.{FirstComesTo, Resumes, ResumesInto, ResumesShort};
 ghost use Rattle.session_resume.specs.Tasks.{resuming};
-ghost use Rattle.session_resume.specs.Private.{Ends, WritesInto, WritesShort, IntoBehind, ShortBehind};
+ghost use Rattle.session_resume.specs.Private.{Ends, WritesInto, WritesShort, IntoAfter, ShortAfter};
 
 use crate::first::{FirstFault, FirstPart, Origin, Unfit, first_part};
 use exchange_session::{Run, Session};
@@ -101,7 +101,7 @@ fn is_none(rest: &[u8]) -> bool
 }
 
 // Returns the bytes from a place on.
-fn behind(bytes: &[u8], place: usize) -> &[u8]
+fn following(bytes: &[u8], place: usize) -> &[u8]
     requires inside { place ≤ length bytes.now }
     ensures { result.now ≡ drop place bytes.now }
 {
@@ -119,11 +119,11 @@ fn go_on<K: Sink>(
     requires inside { part.place ≤ length bytes.now }
     requires numbers { part.market.next_order < 2 ^ 63 }
     ensures ends { Ends (FirstComesTo (IsTrue more) (Whole part.origin part.market part.place (drop part.place bytes.now)))
-        (IntoBehind part.market (drop part.place bytes.now)) (ShortBehind part.market (drop part.place bytes.now)) result
+        (IntoAfter part.market (drop part.place bytes.now)) (ShortAfter part.market (drop part.place bytes.now)) result
         (K.held out.old) (K.held out.new) }
     ensures cause { Blames (result ≡ Err Fault.Write) (K.faults out.old) (K.faults out.new) }
 {
-    let rest = behind(bytes, part.place);
+    let rest = following(bytes, part.place);
     if is_cut(rest, more) {
         return Err(Fault::TooLong);
     }

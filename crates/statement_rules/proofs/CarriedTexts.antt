@@ -28,9 +28,9 @@ heads : (a b : ℕ) (x y : List ℕ) → a ∷ x ≡ b ∷ y → (a ≡ b) × (x
 heads a b x y e = (cc, cc)
 
 -- what follows equal prefixes of equal texts is equal
-strip : (front x y : List ℕ) → front ++ x ≡ front ++ y → x ≡ y
+strip : (prefix x y : List ℕ) → prefix ++ x ≡ prefix ++ y → x ≡ y
 strip [] x y e = e
-strip (c ∷ front) x y e = strip front x y (heads c c _ _ e).1
+strip (c ∷ prefix) x y e = strip prefix x y (heads c c _ _ e).1
 
 -- a text without a space
 abbrev Clear : List ℕ → Type 0
@@ -91,8 +91,8 @@ numbers : (a b : ℤ) (reserved : ℕ) (x y : List ℕ) → IsSmall a → IsSmal
     → signed_decimal a ++ (codes " reserved " ++ (decimal reserved ++ (codes "\n" ++ x))) ≡ signed_decimal b ++ (codes " reserved " ++ (decimal reserved ++ (codes "\n" ++ y))) → (a ≡ b) × (x ≡ y)
 numbers a b reserved x y small also e =
     let parts = cut (signed_decimal a) (signed_decimal b) (codes "reserved " ++ (decimal reserved ++ (codes "\n" ++ x))) (codes "reserved " ++ (decimal reserved ++ (codes "\n" ++ y))) (signed_clear a small) (signed_clear b also) e in
-    let behind = strip (codes "reserved ") (decimal reserved ++ (codes "\n" ++ x)) (decimal reserved ++ (codes "\n" ++ y)) parts.1 in
-    (signed_one a b small also parts.0, strip (codes "\n") x y (strip (decimal reserved) (codes "\n" ++ x) (codes "\n" ++ y) behind))
+    let following = strip (codes "reserved ") (decimal reserved ++ (codes "\n" ++ x)) (decimal reserved ++ (codes "\n" ++ y)) parts.1 in
+    (signed_one a b small also parts.0, strip (codes "\n") x y (strip (decimal reserved) (codes "\n" ++ x) (codes "\n" ++ y) following))
 
 abbrev line : List ℕ → ℤ → ℕ → List ℕ
 line name units reserved = name ++ (codes " units " ++ (signed_decimal units ++ (codes " reserved " ++ (decimal reserved ++ codes "\n"))))
@@ -115,8 +115,8 @@ lines name f g reserved start (suc n) small e k low high =
     by k low high first.0 (λ later. lines name f g reserved (start + 1) n (λ j inside. small j (omega (arith, inside))) first.1 k later (omega (arith, high))) (eqb_tells k start)
   where
     by : (i : ℕ) → start ≤ i → i < start + suc n → f start ≡ g start → (start + 1 ≤ i → f i ≡ g i) → (((i == start) ≡ true) × (i ≡ start)) ⊎ (((i == start) ≡ false) × (i ≢ start)) → f i ≡ g i
-    by i low high here behind (inl same) = subst (λ j. f j ≡ g j) (sym same.1) here
-    by i low high here behind (inr other) = behind (omega (arith, low, other.1))
+    by i low high here following (inl same) = subst (λ j. f j ≡ g j) (sym same.1) here
+    by i low high here following (inr other) = following (omega (arith, low, other.1))
 
 -- ---- the lines that are carried forward
 

@@ -88,10 +88,10 @@ no_text account old (pair ∷ pairs) view new h consistent held (next, read, res
     let first = seen account old read pair.answer in
     let here = told account old h consistent held read pair.answer next serves in
     let all : (after_all (after_all h first) rest).is_open ≡ false = ap (λ (x : Holding). x.is_open) (sym (ap (after_all h) is ∙ after_both first h rest)) ∙ closed in
-    let behind = no_text account next pairs rest new (after_all h first) (consistent_after old pair.asked pair.answer next read consistent reads serves) here more all in
+    let following = no_text account next pairs rest new (after_all h first) (consistent_after old pair.asked pair.answer next read consistent reads serves) here more all in
     let closed_here = all_stay rest (after_all h first) all in
     let not_there : is_there old account ≡ false = sym held.opened ∙ all_stay first h closed_here in
-    ap (lines_from h) is ∙ lines_both first h rest ∙ ap (λ l. l ++ lines_from (after_all h first) rest) (quiet account old h read pair.answer not_there closed_here) ∙ behind
+    ap (lines_from h) is ∙ lines_both first h rest ∙ ap (λ l. l ++ lines_from (after_all h first) rest) (quiet account old h read pair.answer not_there closed_here) ∙ following
 
 pub absent_accounts_have_no_text : AbsentAccountsHaveNoText
 absent_accounts_have_no_text account version pairs view m sees absent =

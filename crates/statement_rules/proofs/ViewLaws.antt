@@ -30,7 +30,7 @@ use Rattle.statement_rules.proofs.OwnParts.{no_money}
 use Rattle.statement_rules.proofs.Told.{told, there_is, is_account}
 
 step_of : (old : Market) (asked : Record) (a : Answer Outcome) (next : Market) (read : Result Command BodyFault) → IsReadAs old.version asked read → ServesRead IsAdmissibleOutcome old read a next → Step IsReadAs IsAdmissibleOutcome old asked a next
-step_of old asked a next read reads serves = record { read = read; spelled = reads; served = serves }
+step_of old asked a next read reads serves = record { read = read; encoded = reads; served = serves }
 
 leads : (account : ℕ) (old : Market) (pairs : List (Pair Record Outcome)) (view : List Event) (new : Market) → Sees account old pairs view new → Leads old pairs new
 leads account old [] view new sees = sees.1
@@ -41,7 +41,7 @@ some : (account : ℕ) (old : Market) (pairs : List (Pair Record Outcome)) (new 
 some account old [] new follows = ([], (refl, follows))
 some account old (pair ∷ pairs) new (next, step, follows) =
     let rest = some account next pairs new follows in
-    (seen account old step.read pair.answer ++ rest.0, (next, step.read, rest.0, step.spelled, step.served, rest.1, refl))
+    (seen account old step.read pair.answer ++ rest.0, (next, step.read, rest.0, step.encoded, step.served, rest.1, refl))
 
 one : (account : ℕ) (old : Market) (pairs : List (Pair Record Outcome)) (v w : List Event) (m n : Market) → Sees account old pairs v m → Sees account old pairs w n → v ≡ w
 one account old [] v w m n first other = first.0 ∙ sym other.0
@@ -57,13 +57,13 @@ one_view = record { leads = leads; some = some; one = one }
 pub views_compose : ViewsCompose
 views_compose account old mid new [] more v w first second =
     subst (λ l. Sees account old more (l ++ w) new) (sym first.0) (subst (λ x. Sees account x more w new) first.1 second)
-views_compose account old mid new (pair ∷ pairs) more v w (next, read, rest, reads, serves, behind, is) second = (
+views_compose account old mid new (pair ∷ pairs) more v w (next, read, rest, reads, serves, following, is) second = (
   next,
   read,
   rest ++ w,
   reads,
   serves,
-  views_compose account next mid new pairs more rest w behind second,
+  views_compose account next mid new pairs more rest w following second,
   ap (λ l. l ++ w) is ∙ append_assoc (seen account old read pair.answer) rest w,
 )
 

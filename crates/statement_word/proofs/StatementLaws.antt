@@ -9,7 +9,7 @@ use Rattle.wire_records.specs.declared.version.Version.{Version}
 use Rattle.wire_records.proofs.Readings.{reading_unique}
 use Rattle.flow_accounts.specs.Balances.{IsAccount}
 use Rattle.flow_orders.specs.Outcomes.{Outcome, IsAdmissibleOutcome}
-use Rattle.journal_records.proofs.Spelled.{answer_unique}
+use Rattle.journal_records.proofs.Encoded.{answer_unique}
 use Rattle.market_rules.specs.Market.{Market, IsConsistent}
 use Rattle.market_rules.proofs.LawProofs.{steps_keep_consistency}
 use Rattle.market_rules.proofs.Versions.{step_version}
@@ -32,7 +32,7 @@ use Rattle.statement_word.specs.Stating.{Stated, TellsOwn, stating, statement}
 one_text : (account : ℕ) (version : Version) (old : Market) (pair : Record × Record) (x y : List ℕ) → TellsOwn account version old pair x → TellsOwn account version old pair y → x ≡ y
 one_text account version old pair x y a b =
     let read = reading_unique version pair.0 a.read b.read a.reads b.reads in
-    let answer = answer_unique a.answer b.answer a.spelled.fits b.spelled.fits (sym a.spelled.spelled ∙ b.spelled.spelled) in
+    let answer = answer_unique a.answer b.answer a.encoded.fits b.encoded.fits (sym a.encoded.encoded ∙ b.encoded.encoded) in
     a.lines ∙ ap (λ (r : Result Command BodyFault). lines_from (held_in account old) (seen account old r a.answer)) read
     ∙ ap (λ (w : Answer Outcome). lines_from (held_in account old) (seen account old b.read w)) answer ∙ sym b.lines
 
@@ -59,8 +59,8 @@ some_lines old new n pair s legal =
         record {
           read = step.read;
           answer = legal.answer;
-          reads = subst (λ (v : Version). IsReadAs v pair.0 step.read) (sym (step_version IsAdmissibleOutcome IsReadAs old pair.0 legal.answer new step)) step.spelled;
-          spelled = legal.spelled;
+          reads = subst (λ (v : Version). IsReadAs v pair.0 step.read) (sym (step_version IsAdmissibleOutcome IsReadAs old pair.0 legal.answer new step)) step.encoded;
+          encoded = legal.encoded;
           lines = refl;
         },
       ),

@@ -112,8 +112,8 @@ pair_done number other m at next pair kept text pairs named moved has legal =
           record {
             read = step.read;
             answer = legal.answer;
-            reads = subst (λ (v : Version). IsReadAs v pair.0 step.read) (sym (step_version IsAdmissibleOutcome IsReadAs m pair.0 legal.answer next step)) step.spelled;
-            spelled = legal.spelled;
+            reads = subst (λ (v : Version). IsReadAs v pair.0 step.read) (sym (step_version IsAdmissibleOutcome IsReadAs m pair.0 legal.answer next step)) step.encoded;
+            encoded = legal.encoded;
             lines = told.lines;
           },
         );

@@ -7,7 +7,7 @@ use Rattle.wire_records.specs.declared.command.BodyFault.{BodyFault}
 use Rattle.wire_records.specs.declared.version.Version.{Version}
 use Rattle.flow_accounts.specs.Balances.{IsAccount}
 use Rattle.flow_orders.specs.Outcomes.{Outcome}
-use Rattle.journal_records.specs.Replies.{SpellsAnswer}
+use Rattle.journal_records.specs.Replies.{EncodesAnswer}
 use Rattle.market_rules.specs.Market.{Market}
 use Rattle.statement_rules.specs.Views.{seen}
 use Rattle.statement_rules.specs.Holdings.{held_in}
@@ -29,7 +29,7 @@ pub record TellsOwn (account : ℕ) (version : Version) (old : Market) (pair : R
   pub read : Result Command BodyFault
   pub answer : Answer Outcome
   pub reads : IsReadAs version pair.0 read
-  pub spelled : SpellsAnswer pair.1 answer
+  pub encoded : EncodesAnswer pair.1 answer
   pub lines : text ≡ lines_from (held_in account old) (seen account old read answer)
 
 -- it may run out of memory for the lines of an entry, and for the last lines

@@ -17,7 +17,7 @@ pub IsTicker-from_parts : (bytes : List ℕ) (name : ℕ) → length bytes ≡ 8
 IsTicker-from_parts bytes name whole named within characters spaces = record {
   name = take name bytes;
   spaces = length (drop name bytes);
-  spelled = sym (take-append-drop name bytes) ∙ ap (λ rest. take name bytes ++ rest) (all_same (drop name bytes) 32 spaces);
+  encoded = sym (take-append-drop name bytes) ∙ ap (λ rest. take name bytes ++ rest) (all_same (drop name bytes) 32 spaces);
   named = omega (arith, length-take-le name bytes (omega arith));
   characters = characters;
   whole = whole;
@@ -26,16 +26,16 @@ IsTicker-from_parts bytes name whole named within characters spaces = record {
 module _ (bytes : List ℕ) (ticker : IsTicker bytes) where
   parts_fill : length ticker.name + ticker.spaces ≡ 8
   parts_fill =
-      omega (arith, ap length ticker.spelled, length-append ticker.name (replicate ticker.spaces 32), length-replicate {A = ℕ} ticker.spaces 32, ticker.whole)
+      omega (arith, ap length ticker.encoded, length-append ticker.name (replicate ticker.spaces 32), length-replicate {A = ℕ} ticker.spaces 32, ticker.whole)
 
   space_at : (k d : ℕ) → length ticker.name ≤ k → k < 8 → get_or bytes k d ≡ 32
   space_at k d from to =
-      ap (λ list. get_or list k d) ticker.spelled ∙ get_or-append_right ticker.name (replicate ticker.spaces 32) (length ticker.name) k d refl from
+      ap (λ list. get_or list k d) ticker.encoded ∙ get_or-append_right ticker.name (replicate ticker.spaces 32) (length ticker.name) k d refl from
       ∙ get_or-replicate ticker.spaces (k - length ticker.name) 32 d (omega (arith, parts_fill))
 
   character_at : (k : ℕ) → k < length ticker.name → IsNameCharacter (get_or bytes k 0)
   character_at k below =
-      let here = ap (λ list. get_or list k 0) ticker.spelled ∙ get_or_append_left ticker.name (replicate ticker.spaces 32) 0 k below in
+      let here = ap (λ list. get_or list k 0) ticker.encoded ∙ get_or_append_left ticker.name (replicate ticker.spaces 32) 0 k below in
       rw here (ticker.characters k 0 below)
 
   -- if a character is at a place, the name reaches beyond it
@@ -56,7 +56,7 @@ module _ (bytes : List ℕ) (a b : IsTicker bytes) where
 pub one_name : (bytes : List ℕ) (a b : IsTicker bytes) → a.name ≡ b.name
 one_name bytes a b =
     let same : length a.name ≡ length b.name = omega (arith, not_longer bytes a b, not_longer bytes b a) in
-    sym (take_at a.name (replicate a.spaces 32) (length a.name) refl) ∙ ap (take (length a.name)) (sym a.spelled ∙ b.spelled)
+    sym (take_at a.name (replicate a.spaces 32) (length a.name) refl) ∙ ap (take (length a.name)) (sym a.encoded ∙ b.encoded)
     ∙ take_at b.name (replicate b.spaces 32) (length a.name) (sym same)
 
 module _ (bytes : List ℕ) (name : ℕ) (within : name ≤ 8) (characters : All IsNameCharacter (take name bytes)) (end : name < 8 → IsNameCharacter (get_or bytes name 0) → ⊥) (ticker : IsTicker bytes) where

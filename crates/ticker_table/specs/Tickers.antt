@@ -10,7 +10,7 @@ IsNameCharacter c = IsAsciiUppercase c ⊎ IsAsciiDigit c ⊎ (c ≡ 46) ⊎ (c 
 pub record IsTicker (bytes : List ℕ) : Type 0 where
   pub name : List ℕ
   pub spaces : ℕ
-  pub spelled : bytes ≡ name ++ replicate spaces 32
+  pub encoded : bytes ≡ name ++ replicate spaces 32
   pub named : 1 ≤ length name
   pub characters : All IsNameCharacter name
   pub whole : length bytes ≡ 8

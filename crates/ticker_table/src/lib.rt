@@ -5,8 +5,8 @@
 //! there are.
 #![tactic(auto)]
 
+mod encoding;
 pub mod laws;
-mod spelling;
 mod table;
 
 pub use table::{TickerFault, TickerTable};

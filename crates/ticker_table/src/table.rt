@@ -2,7 +2,7 @@
 ghost use Rattle.std.specs.Prelude.{◌≡◌, ℕ, ◌≤◌, ◌↔◌, List, [], ◌∷◌, ◌++◌, length, slice_get, Contains, Some, IsNone, IfSome, IfOk, OnOk, OnErr, IsErrOf};
 
 use crate::MOST_TICKERS;
-use crate::spelling::is_ticker;
+use crate::encoding::is_ticker;
 use indexmap::IndexSet;
 use std::alloc::Global;
 use std::marker::Model;

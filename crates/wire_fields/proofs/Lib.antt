@@ -1,3 +1,3 @@
-pub mod Spelling
+pub mod Encoding
 mod StdBytes
 mod Taken

@@ -17,7 +17,7 @@ unsigned_head : (k n : ℕ) → unsigned (suc k) n ≡ byte_at k n ∷ unsigned 
 unfolding unsigned
 unsigned_head zero n = refl
 unsigned_head (suc k) n =
-    ap (λ front. front ++ n % 256 ∷ []) (unsigned_head k (n / 256)) ∙ ap (λ b. b ∷ (unsigned k (n / 256) ++ n % 256 ∷ [])) (byte_at-high k n)
+    ap (λ prefix. prefix ++ n % 256 ∷ []) (unsigned_head k (n / 256)) ∙ ap (λ b. b ∷ (unsigned k (n / 256) ++ n % 256 ∷ [])) (byte_at-high k n)
 
 -- what `to_be_bytes` writes
 pub bytes_high_first_is : (k n : ℕ) → bytes_high_first k n ≡ unsigned k n
@@ -33,9 +33,9 @@ sum_through-scaled : (f g : ℕ → ℕ) (k : ℕ) → ((i : ℕ) → i ≤ k �
 sum_through-scaled f g zero h = h 0 (omega arith)
 sum_through-scaled f g (suc k) h = omega (arith, sum_through-scaled f g k (λ i l. h i (omega arith)), h (suc k) (omega arith))
 
-spelled_more : (size n b : ℕ) (front : List ℕ) → b < 256 → unsigned size n ≡ front → unsigned (suc size) (n * 256 + b) ≡ front ++ b ∷ []
+encoded_more : (size n b : ℕ) (prefix : List ℕ) → b < 256 → unsigned size n ≡ prefix → unsigned (suc size) (n * 256 + b) ≡ prefix ++ b ∷ []
 unfolding unsigned
-spelled_more size n b front small e =
+encoded_more size n b prefix small e =
     rw (div-mul-add n 256 b small, mod-mul-add n 256 b small, e) refl
 
 -- the first k + 1 bytes as a number
@@ -47,9 +47,9 @@ read_of-suc bytes k =
     let worth = λ (j i : ℕ). byte_worth (j - i) (get_or bytes i 0) in
     let higher = λ (i : ℕ) (l : i ≤ k). let e : suc k - i ≡ suc (k - i) = omega arith in ap (λ j. byte_worth j (get_or bytes i 0)) e ∙ byte_worth-more (k - i) (get_or bytes i 0) in
     let none : suc k - suc k ≡ 0 = omega arith in
-    let front = sum_through-scaled (worth k) (worth (suc k)) k higher in
+    let prefix = sum_through-scaled (worth k) (worth (suc k)) k higher in
     let last = ap (λ j. byte_worth j (get_or bytes (suc k) 0)) none in
-    ap (λ n. n + worth (suc k) (suc k)) front ∙ ap (λ n. read_of bytes k * 256 + n) last
+    ap (λ n. n + worth (suc k) (suc k)) prefix ∙ ap (λ n. read_of bytes k * 256 + n) last
 
 -- the bytes of what `from_be_bytes` reads are the first k + 1 bytes
 pub read_of_is : (bytes : List ℕ) → ((i : ℕ) → get_or bytes i 0 < 256) → (k : ℕ) → k < length bytes → unsigned (suc k) (read_of bytes k) ≡ take (suc k) bytes
@@ -60,10 +60,10 @@ read_of_is bytes small zero l =
     let same : b % 256 ≡ b = omega (arith, small 0) in
     ap (λ n. n ∷ []) same ∙ sym first
 read_of_is bytes small (suc k) l =
-    let front = read_of_is bytes small k (omega arith) in
+    let prefix = read_of_is bytes small k (omega arith) in
     let b = get_or bytes (suc k) 0 in
     let next : take (suc (suc k)) bytes ≡ take (suc k) bytes ++ b ∷ [] = rw (← add-one) (take_more bytes (suc k) 0 l) in
-    ap (unsigned (suc (suc k))) (read_of-suc bytes k) ∙ spelled_more (suc k) (read_of bytes k) b (take (suc k) bytes) (small (suc k)) front ∙ sym next
+    ap (unsigned (suc (suc k))) (read_of-suc bytes k) ∙ encoded_more (suc k) (read_of bytes k) b (take (suc k) bytes) (small (suc k)) prefix ∙ sym next
 
 -- the bytes of what `from_be_bytes` reads from an array of k + 1 bytes are that array
 pub read_whole : (bytes : List ℕ) (k n : ℕ) → ((i : ℕ) → get_or bytes i 0 < 256) → length bytes ≡ suc k → n ≡ read_of bytes k → unsigned (suc k) n ≡ bytes

@@ -52,8 +52,8 @@ impl<'a> Cursor<'a> {
         ensures stays { IfNone result (self.new ≡ self.old) }
 
         // Bytes that were put here are taken again, whatever follows them.
-        ensures again { (front rest : List ℕ) → length front ≡ n → self.old ≡ front ++ rest
-            → IsSomeAnd result (λ taken. taken.now ≡ front) × (self.new ≡ rest) }
+        ensures again { (prefix rest : List ℕ) → length prefix ≡ n → self.old ≡ prefix ++ rest
+            → IsSomeAnd result (λ taken. taken.now ≡ prefix) × (self.new ≡ rest) }
     {
         let (taken, rest) = self.rest.split_at_checked(n)?;
         self.rest = rest;

@@ -3,12 +3,12 @@ use Rattle.std.proofs.Common.{◌≡◌, ◌≢◌, ◌<◌, ◌^◌, ℕ, List,
 use Rattle.std.proofs.lemmas.List.{append-nil}
 use Rattle.std.specs.Prelude.{if◌then◌else◌, ◌==◌}
 use Rattle.wire_fields.specs.Numbers.{unsigned, IsUnsigned}
-use Rattle.wire_fields.proofs.Spelling.{length-unsigned, unsigned_unique}
+use Rattle.wire_fields.proofs.Encoding.{length-unsigned, unsigned_unique}
 use Rattle.wire_records.specs.Records.{Record}
 use Rattle.wire_records.specs.Commands.{Request, Command, AddAsset, OpenAccount, DepositMoney, DepositAsset, WithdrawMoney, WithdrawAsset, Place, CancelOrder, RunBatch, SetMoneyCredit, SetUnitCredit}
-use Rattle.wire_records.specs.CommandRecords.{tag_of, Spells, SpellsNone}
-use Rattle.wire_records.specs.Bodies.{body_spelling, request_spelling, IsRequest, FitsCommand}
-use Rattle.wire_records.specs.Private.{SpellsNoRequest, SpellsNoUntil}
+use Rattle.wire_records.specs.CommandRecords.{tag_of, Encodes, EncodesNone}
+use Rattle.wire_records.specs.Bodies.{body_encoding, request_encoding, IsRequest, FitsCommand}
+use Rattle.wire_records.specs.Private.{EncodesNoRequest, EncodesNoUntil}
 use Rattle.wire_records.proofs.FieldForms.{body_is_plain, command_from}
 use Rattle.wire_records.proofs.Requests.{request_unique}
 
@@ -18,8 +18,8 @@ size_of tag =
     if tag == 1 then 8 else (if tag == 2 then 0 else (if tag == 3 then 12 else (if tag == 4 then 14 else (if tag == 5 then 12 else (if tag == 6 then 14 else (if tag == 8 then 12 else (if tag == 9 then 4 else (if tag == 11 then 12 else 14))))))))
 
 -- a body has the length of its tag
-pub length-body : (c : Command) → FitsCommand c → tag_of c ≢ 7 → tag_of c ≢ 10 → length (body_spelling c) ≡ size_of (tag_of c)
-unfolding body_spelling
+pub length-body : (c : Command) → FitsCommand c → tag_of c ≢ 7 → tag_of c ≢ 10 → length (body_encoding c) ≡ size_of (tag_of c)
+unfolding body_encoding
 length-body (AddAsset ticker) h other until = h.0
 length-body OpenAccount h other until = refl
 length-body (Place None request) h other until = absurd (other refl)
@@ -32,42 +32,42 @@ pub same_record : (r : Record) (tag : ℕ) (body : List ℕ) → r.tag ≡ tag �
 same_record r tag body a b = rw (← a, ← b) refl
 
 -- the tag and the body of a command's record
-pub tag_is : (c : Command) (r : Record) → Spells c r → r.tag ≡ tag_of c
-tag_is c r s = ap (λ (x : Record). x.tag) s.spelled
+pub tag_is : (c : Command) (r : Record) → Encodes c r → r.tag ≡ tag_of c
+tag_is c r s = ap (λ (x : Record). x.tag) s.encoded
 
-pub body_is : (c : Command) (r : Record) → Spells c r → r.body ≡ body_spelling c
-body_is c r s = ap (λ (x : Record). x.body) s.spelled ∙ body_is_plain c
+pub body_is : (c : Command) (r : Record) → Encodes c r → r.body ≡ body_encoding c
+body_is c r s = ap (λ (x : Record). x.body) s.encoded ∙ body_is_plain c
 
 -- a body of another length than its tag's is no command's
-pub spells_none : (r : Record) → r.tag ≢ 7 → r.tag ≢ 10 → length r.body ≢ size_of r.tag → SpellsNone r
-spells_none r order until other c s =
+pub encodes_none : (r : Record) → r.tag ≢ 7 → r.tag ≢ 10 → length r.body ≢ size_of r.tag → EncodesNone r
+encodes_none r order until other c s =
     let tags = tag_is c r s in
     other (ap length (body_is c r s) ∙ length-body c (command_from c s.fits) (λ e. order (tags ∙ e)) (λ e. until (tags ∙ e)) ∙ ap size_of (sym tags))
 
 -- a command of the tag 7 has the body of a request
-is_request : (c : Command) → FitsCommand c → tag_of c ≡ 7 → SpellsNoRequest (body_spelling c) → ⊥
-unfolding body_spelling
-is_request (Place None request) h e none = none request (record { fits = h; spelled = refl })
+is_request : (c : Command) → FitsCommand c → tag_of c ≡ 7 → EncodesNoRequest (body_encoding c) → ⊥
+unfolding body_encoding
+is_request (Place None request) h e none = none request (record { fits = h; encoded = refl })
 is_request command h e none = absurd (omega (arith, e))
 
 -- a body that encodes no request is no order's
-pub spells_none-from_request : (r : Record) → r.tag ≡ 7 → SpellsNoRequest r.body → SpellsNone r
-spells_none-from_request r order none c s =
+pub encodes_none-from_request : (r : Record) → r.tag ≡ 7 → EncodesNoRequest r.body → EncodesNone r
+encodes_none-from_request r order none c s =
     is_request c (command_from c s.fits) (sym (tag_is c r s) ∙ order) (rw (body_is c r s) at none)
 
 -- a command of the tag 10 has the body of a last batch and a request
-is_until : (c : Command) → FitsCommand c → tag_of c ≡ 10 → SpellsNoUntil (body_spelling c) → ⊥
-unfolding body_spelling
-is_until (Place (Some last) request) h e none = none last request (record { fits = h; spelled = refl })
+is_until : (c : Command) → FitsCommand c → tag_of c ≡ 10 → EncodesNoUntil (body_encoding c) → ⊥
+unfolding body_encoding
+is_until (Place (Some last) request) h e none = none last request (record { fits = h; encoded = refl })
 is_until command h e none = absurd (omega (arith, e))
 
 -- a body that encodes no last batch with a request is no such order's
-pub spells_none-from_until : (r : Record) → r.tag ≡ 10 → SpellsNoUntil r.body → SpellsNone r
-spells_none-from_until r until none c s =
+pub encodes_none-from_until : (r : Record) → r.tag ≡ 10 → EncodesNoUntil r.body → EncodesNone r
+encodes_none-from_until r until none c s =
     is_until c (command_from c s.fits) (sym (tag_is c r s) ∙ until) (rw (body_is c r s) at none)
 
 -- two last batches with requests after them, of one encoding
-until_unique : (m n : ℕ) (r s : Request) → IsUnsigned 4 m × IsRequest r → IsUnsigned 4 n × IsRequest s → unsigned 4 m ++ request_spelling r ≡ unsigned 4 n ++ request_spelling s → (m ≡ n) × (r ≡ s)
+until_unique : (m n : ℕ) (r s : Request) → IsUnsigned 4 m × IsRequest r → IsUnsigned 4 n × IsRequest s → unsigned 4 m ++ request_encoding r ≡ unsigned 4 n ++ request_encoding s → (m ≡ n) × (r ≡ s)
 until_unique m n r s h k e =
     let lasts = unsigned_unique 4 m n _ _ h.0 k.0 e in
     (lasts.0, request_unique r s h.1 k.1 lasts.1)
@@ -94,8 +94,8 @@ number_unique size m n a b e =
     found.0
 
 -- two commands of one tag and one body are one
-same_command : (c d : Command) → FitsCommand c → FitsCommand d → tag_of c ≡ tag_of d → body_spelling c ≡ body_spelling d → c ≡ d
-unfolding body_spelling
+same_command : (c d : Command) → FitsCommand c → FitsCommand d → tag_of c ≡ tag_of d → body_encoding c ≡ body_encoding d → c ≡ d
+unfolding body_encoding
 same_command (AddAsset t) (AddAsset u) h k tags bodies = ap AddAsset bodies
 same_command OpenAccount OpenAccount h k tags bodies = refl
 same_command (DepositMoney a t) (DepositMoney b u) h k tags bodies = let e = money_unique a t b u h k bodies in rw (e.0, e.1) refl
@@ -112,6 +112,6 @@ same_command command (Place None s) h k tags bodies = absurd (omega (arith, tags
 same_command command d h k tags bodies = absurd (omega (arith, tags))
 
 -- a record encodes at most one command
-pub command_unique : (c d : Command) (r : Record) → Spells c r → Spells d r → c ≡ d
+pub command_unique : (c d : Command) (r : Record) → Encodes c r → Encodes d r → c ≡ d
 command_unique c d r p q =
     same_command c d (command_from c p.fits) (command_from d q.fits) (sym (tag_is c r p) ∙ tag_is d r q) (sym (body_is c r p) ∙ body_is d r q)

@@ -9,14 +9,14 @@ use Rattle.weight_rows.specs.declared.entries.Entry.{Entry}
 use Rattle.wire_records.specs.Fields.{Field, field_bytes, FitsField}
 use Rattle.wire_records.specs.Commands.{Request, Command, AddAsset, OpenAccount, DepositMoney, DepositAsset, WithdrawMoney, WithdrawAsset, Place, CancelOrder, RunBatch, SetMoneyCredit, SetUnitCredit}
 use Rattle.wire_records.specs.CommandRecords.{entry_fields, request_fields, fields_of, body_of, IsCommand}
-use Rattle.wire_records.specs.Bodies.{entry_spelling, request_spelling, body_spelling, IsEntry, IsRequest, FitsCommand}
+use Rattle.wire_records.specs.Bodies.{entry_encoding, request_encoding, body_encoding, IsEntry, IsRequest, FitsCommand}
 
 -- the fields of legs
-entries_bytes : (row : List Entry) → flat_map field_bytes (flat_map entry_fields row) ≡ flat_map entry_spelling row
-unfolding entry_spelling
+entries_bytes : (row : List Entry) → flat_map field_bytes (flat_map entry_fields row) ≡ flat_map entry_encoding row
+unfolding entry_encoding
 entries_bytes [] = refl
 entries_bytes (e ∷ row) =
-    ap (λ xs. unsigned 2 e.asset ++ (signed 4 e.weight ++ xs)) (entries_bytes row) ∙ sym (append_assoc (unsigned 2 e.asset) (signed 4 e.weight) (flat_map entry_spelling row))
+    ap (λ xs. unsigned 2 e.asset ++ (signed 4 e.weight ++ xs)) (entries_bytes row) ∙ sym (append_assoc (unsigned 2 e.asset) (signed 4 e.weight) (flat_map entry_encoding row))
 
 entries_fit : (row : List Entry) → AllByRecursion IsEntry row → AllByRecursion FitsField (flat_map entry_fields row)
 entries_fit [] h = tt
@@ -27,8 +27,8 @@ entries_from [] h = tt
 entries_from (e ∷ row) h = ((h.0, h.1.0), entries_from row h.1.1)
 
 -- the fields of a request
-request_bytes : (r : Request) → flat_map field_bytes (request_fields r) ≡ request_spelling r
-unfolding request_spelling
+request_bytes : (r : Request) → flat_map field_bytes (request_fields r) ≡ request_encoding r
+unfolding request_encoding
 request_bytes r =
     ap (λ xs. unsigned 4 r.account ++ (signed 8 r.low ++ (signed 8 r.high ++ (unsigned 4 r.rate ++ (unsigned 8 r.cap ++ (unsigned 1 (length r.row) ++ xs)))))) (entries_bytes r.row)
 
@@ -54,8 +54,8 @@ three : (a b c : List ℕ) → a ++ (b ++ (c ++ [])) ≡ a ++ (b ++ c)
 three a b c = ap (λ xs. a ++ (b ++ xs)) (append-nil c)
 
 -- the body of a command
-pub body_is_plain : (c : Command) → body_of c ≡ body_spelling c
-unfolding body_of body_spelling
+pub body_is_plain : (c : Command) → body_of c ≡ body_encoding c
+unfolding body_of body_encoding
 body_is_plain (AddAsset ticker) = append-nil ticker
 body_is_plain OpenAccount = refl
 body_is_plain (DepositMoney account ticks) = two (unsigned 4 account) (unsigned 8 ticks)

@@ -1,6 +1,6 @@
 pub mod Numbered
-pub mod Spelled
-pub mod Fronts
+pub mod Encoded
+pub mod Prefixes
 pub mod CodeLaws
 pub mod Fields
 pub mod Requests

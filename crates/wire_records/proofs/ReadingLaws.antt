@@ -4,7 +4,7 @@ use Rattle.std.proofs.lemmas.Bool.{cases_lt}
 use Rattle.std.proofs.lemmas.List.{take_all, append-nil}
 use Rattle.std.proofs.lemmas.Grind.{flat_map-append}
 use Rattle.std.proofs.lemmas.List.Elements.{All-append}
-use Rattle.wire_records.specs.Grammars.{Grammar, BeginsWithNone, spell_all}
+use Rattle.wire_records.specs.Grammars.{Grammar, BeginsWithNone, encode_all}
 use Rattle.wire_records.specs.Reading.{Format, Ending, End, Torn, TooLong, EndsAs, ReadsOn, Reading, NotFlow, File, Reads, StartsWith}
 use Rattle.wire_records.proofs.CodeLaws.{IsCode, values_unique, parted}
 
@@ -30,7 +30,7 @@ ends_one format More rest place (Torn n) (Torn m) a b = ap Torn (a.0 ∙ sym b.0
 pub reads_on_one : {V U : Type 0} (format : Format V U) → IsReadable format → (place : ℕ) (More : Type 0) (bytes : List ℕ) (p q : List U) (e f : Ending) → ReadsOn format place More bytes p e → ReadsOn format place More bytes q f → (p ≡ q) × (e ≡ f)
 reads_on_one format readable place More bytes p q e f a b =
     let parts = values_unique format.units readable.units p q a.rest b.rest a.each b.each a.none b.none (sym a.whole ∙ b.whole) in
-    (parts.0, ends_one format More b.rest (place + length (spell_all format.units q)) e f (rw (← parts.0, ← parts.1) a.ends) b.ends)
+    (parts.0, ends_one format More b.rest (place + length (encode_all format.units q)) e f (rw (← parts.0, ← parts.1) a.ends) b.ends)
 
 -- there is only one reading
 pub reads_one : {V U : Type 0} (format : Format V U) → IsReadable format → (limit : ℕ) (bytes : List ℕ) (r s : Reading V U) → Reads format limit bytes r → Reads format limit bytes s → r ≡ s
@@ -39,8 +39,8 @@ reads_one format readable limit bytes NotFlow (File w q f) a b = absurd (a w b.0
 reads_one format readable limit bytes (File v p e) NotFlow a b = absurd (b v a.0 a.1.0 a.1.1)
 reads_one format readable limit bytes (File v p e) (File w q f) a b =
     let magic = readable.magics.one v w a.0 b.0 a.1.0 b.1.0 (sym a.1.1 ∙ b.1.1) in
-    let here : ReadsOn format (length (format.magics.spell w)) (limit < length bytes) b.0 p e = rw (← magic.0, ← magic.1) a.2 in
-    let on = reads_on_one format readable (length (format.magics.spell w)) (limit < length bytes) b.0 p q e f here b.2 in
+    let here : ReadsOn format (length (format.magics.encode w)) (limit < length bytes) b.0 p e = rw (← magic.0, ← magic.1) a.2 in
+    let on = reads_on_one format readable (length (format.magics.encode w)) (limit < length bytes) b.0 p q e f here b.2 in
     rw (magic.0, on.0, on.1) refl
 
 -- a list has elements, or none
@@ -64,7 +64,7 @@ ends_some format readable More more rest place =
 pub reads_on_some : {V U : Type 0} (format : Format V U) → IsReadable format → (place : ℕ) (More : Type 0) → More ⊎ (¬ More) → (bytes : List ℕ) → (units : List U) × (ending : Ending) × ReadsOn format place More bytes units ending
 reads_on_some format readable place More more bytes =
     let parts = parted format.units readable.units bytes in
-    let ends = ends_some format readable More more parts.rest (place + length (spell_all format.units parts.values)) in
+    let ends = ends_some format readable More more parts.rest (place + length (encode_all format.units parts.values)) in
     (parts.values, ends.0, record { rest = parts.rest; whole = parts.whole; each = parts.each; none = parts.none; ends = ends.1 })
 
 -- there is more than the limit, or not
@@ -76,7 +76,7 @@ pub reads_some : {V U : Type 0} (format : Format V U) → IsReadable format → 
 reads_some {V} {U} format readable limit bytes =
     elim (readable.magics.told (take limit bytes)) [
       | inl magic ↦
-          let on = reads_on_some format readable (length (format.magics.spell magic.0)) (limit < length bytes) (more_or_not limit (length bytes)) magic.1 in
+          let on = reads_on_some format readable (length (format.magics.encode magic.0)) (limit < length bytes) (more_or_not limit (length bytes)) magic.1 in
           (File magic.0 on.0 on.1, (magic.1, magic.2, on.2))
       | inr none ↦ (NotFlow, none)
     ]
@@ -86,10 +86,10 @@ pub starts_first : {V U : Type 0} (format : Format V U) → IsReadable format �
 starts_first format readable limit bytes v w units all ending starts reads =
     let magic = readable.magics.one v w starts.body reads.0 starts.magic.0 reads.1.0 (sym starts.magic.1 ∙ reads.1.1) in
     let parts = parted format.units readable.units starts.rest in
-    let whole : reads.0 ≡ spell_all format.units (units ++ parts.values) ++ parts.rest =
-    sym magic.1 ∙ starts.whole ∙ ap (λ xs. spell_all format.units units ++ xs) parts.whole
-    ∙ sym (append_assoc (spell_all format.units units) (spell_all format.units parts.values) parts.rest)
-    ∙ ap (λ xs. xs ++ parts.rest) (sym (flat_map-append format.units.spell units parts.values))
+    let whole : reads.0 ≡ encode_all format.units (units ++ parts.values) ++ parts.rest =
+    sym magic.1 ∙ starts.whole ∙ ap (λ xs. encode_all format.units units ++ xs) parts.whole
+    ∙ sym (append_assoc (encode_all format.units units) (encode_all format.units parts.values) parts.rest)
+    ∙ ap (λ xs. xs ++ parts.rest) (sym (flat_map-append format.units.encode units parts.values))
     in
     let each = All-append format.units.IsLawful units parts.values starts.each parts.each in
     let same = values_unique format.units readable.units all (units ++ parts.values) reads.2.rest parts.rest reads.2.each each reads.2.none parts.none (sym reads.2.whole ∙ whole) in
@@ -97,16 +97,16 @@ starts_first format readable limit bytes v w units all ending starts reads =
 
 -- no bytes begin with no value
 pub none_in_none : {A : Type 0} (g : Grammar A) → IsCode g → BeginsWithNone g []
-none_in_none g code a rest lawful e = omega (arith, code.some a lawful, ap length e, length-append (g.spell a) rest)
+none_in_none g code a rest lawful e = omega (arith, code.some a lawful, ap length e, length-append (g.encode a) rest)
 
 -- a file within the limit is read as its units, to its end
-pub file_read : {V U : Type 0} (format : Format V U) → IsReadable format → (¬ format.IsOverlong []) → (limit : ℕ) (v : V) (units : List U) → format.magics.IsLawful v → All format.units.IsLawful units → length (format.magics.spell v ++ spell_all format.units units) ≤ limit → Reads format limit (format.magics.spell v ++ spell_all format.units units) (File v units End)
+pub file_read : {V U : Type 0} (format : Format V U) → IsReadable format → (¬ format.IsOverlong []) → (limit : ℕ) (v : V) (units : List U) → format.magics.IsLawful v → All format.units.IsLawful units → length (format.magics.encode v ++ encode_all format.units units) ≤ limit → Reads format limit (format.magics.encode v ++ encode_all format.units units) (File v units End)
 file_read format readable short limit v units lawful each fits = (
-  spell_all format.units units,
-  (lawful, take_all limit (format.magics.spell v ++ spell_all format.units units) fits),
+  encode_all format.units units,
+  (lawful, take_all limit (format.magics.encode v ++ encode_all format.units units) fits),
   record {
     rest = [];
-    whole = sym (append-nil (spell_all format.units units));
+    whole = sym (append-nil (encode_all format.units units));
     each = each;
     none = none_in_none format.units readable.units;
     ends = (short, λ more. omega (arith, more, fits), refl);

@@ -4,22 +4,22 @@ use Rattle.std.specs.Prelude.{Result, Ok, Err}
 use Rattle.std.proofs.lemmas.Bool.{cases_lt, cases_eq}
 use Rattle.std.proofs.lemmas.List.{nil_from_length}
 use Rattle.wire_fields.specs.Numbers.{unsigned, IsUnsigned}
-use Rattle.wire_fields.proofs.Spelling.{length-unsigned}
+use Rattle.wire_fields.proofs.Encoding.{length-unsigned}
 use Rattle.wire_records.specs.declared.command.BodyFault.{BodyFault}
 use Rattle.wire_records.specs.declared.command.BodyFault.TheVariants.{UnknownTag, BadBody}
 use Rattle.wire_records.specs.Records.{Record, AreBytes, IsRecord, most_body}
 use Rattle.wire_records.specs.Commands.{Request, Command, AddAsset, OpenAccount, DepositMoney, DepositAsset, WithdrawMoney, WithdrawAsset, Place, CancelOrder, RunBatch, SetMoneyCredit, SetUnitCredit}
-use Rattle.wire_records.specs.CommandRecords.{tag_of, body_of, record_of, IsCommand, SpellsNone, HasShortRow, Spells, IsTag, IsRead}
-use Rattle.wire_records.specs.Bodies.{request_spelling, body_spelling, FitsCommand}
+use Rattle.wire_records.specs.CommandRecords.{tag_of, body_of, record_of, IsCommand, EncodesNone, HasShortRow, Encodes, IsTag, IsRead}
+use Rattle.wire_records.specs.Bodies.{request_encoding, body_encoding, FitsCommand}
 use Rattle.wire_records.proofs.FieldForms.{body_is_plain, command_fits, command_from}
 use Rattle.wire_records.specs.declared.version.Version.{Version}
 use Rattle.wire_records.specs.declared.version.Version.TheVariants.{One}
 use Rattle.wire_records.specs.Versions.{most_tag, IsTagOf, IsOfVersion, IsReadAs}
-use Rattle.wire_records.specs.Private.{SpellsRequest, SpellsUntil}
-use Rattle.wire_records.proofs.Fields.{whole_number, front_number}
+use Rattle.wire_records.specs.Private.{EncodesRequest, EncodesUntil}
+use Rattle.wire_records.proofs.Fields.{whole_number, prefix_number}
 use Rattle.wire_records.proofs.Requests.{request_size}
 use Rattle.wire_records.proofs.RequestsTold.{request_told, until_told}
-use Rattle.wire_records.proofs.Bodies.{size_of, same_record, tag_is, spells_none, spells_none-from_request, spells_none-from_until, command_unique}
+use Rattle.wire_records.proofs.Bodies.{size_of, same_record, tag_is, encodes_none, encodes_none-from_request, encodes_none-from_until, command_unique}
 
 -- the tag of each command is 1 to 12
 tag_of-range : (c : Command) → IsTag (tag_of c)
@@ -28,7 +28,7 @@ tag_of-range (Place None request) = (omega arith, omega arith)
 tag_of-range command = (omega arith, omega arith)
 
 -- the record of a command is read as no fault
-no_fault : (c : Command) (r : Record) (why : BodyFault) → Spells c r → IsRead r (Err why) → ⊥
+no_fault : (c : Command) (r : Record) (why : BodyFault) → Encodes c r → IsRead r (Err why) → ⊥
 no_fault c r UnknownTag s unknown =
     let tag = tag_is c r s in
     let range = tag_of-range c in
@@ -43,7 +43,7 @@ fault_unique BadBody UnknownTag r p q = absurd (q p.0)
 fault_unique BadBody BadBody r p q = refl
 
 -- the record of a command is read as that command, whatever the version
-pub command_seen : (c : Command) (r : Record) (read : Result Command BodyFault) → Spells c r → IsRead r read → read ≡ Ok c
+pub command_seen : (c : Command) (r : Record) (read : Result Command BodyFault) → Encodes c r → IsRead r read → read ≡ Ok c
 command_seen c r (Ok d) s found = ap Ok (command_unique d c r found s)
 command_seen c r (Err why) s found = absurd (no_fault c r why s found)
 
@@ -54,7 +54,7 @@ seen_unique r a (Ok c) p q = command_seen c r a q p
 seen_unique r (Err e) (Err f) p q = ap Err (fault_unique e f r p q)
 
 -- a version's command is read as no fault in it
-no_fault_in : (version : Version) (c : Command) (r : Record) (why : BodyFault) → IsTagOf version r.tag → Spells c r → IsReadAs version r (Err why) → ⊥
+no_fault_in : (version : Version) (c : Command) (r : Record) (why : BodyFault) → IsTagOf version r.tag → Encodes c r → IsReadAs version r (Err why) → ⊥
 no_fault_in version c r UnknownTag tag s unknown = unknown tag
 no_fault_in version c r BadBody tag s bad = bad.1 c s
 
@@ -66,11 +66,11 @@ fault_unique_in version BadBody UnknownTag r p q = absurd (q p.0)
 fault_unique_in version BadBody BadBody r p q = refl
 
 -- the record of a version's command is read as that command in it
-read_here : (version : Version) (c : Command) (r : Record) (read : Result Command BodyFault) → IsTagOf version r.tag → Spells c r → IsReadAs version r read → read ≡ Ok c
+read_here : (version : Version) (c : Command) (r : Record) (read : Result Command BodyFault) → IsTagOf version r.tag → Encodes c r → IsReadAs version r read → read ≡ Ok c
 read_here version c r (Ok d) tag s found = ap Ok (command_unique d c r found.1 s)
 read_here version c r (Err why) tag s found = absurd (no_fault_in version c r why tag s found)
 
-pub command_read : (version : Version) (c : Command) (r : Record) (read : Result Command BodyFault) → IsOfVersion version c → Spells c r → IsReadAs version r read → read ≡ Ok c
+pub command_read : (version : Version) (c : Command) (r : Record) (read : Result Command BodyFault) → IsOfVersion version c → Encodes c r → IsReadAs version r read → read ≡ Ok c
 command_read version c r read of s found = read_here version c r read (rw (tag_is c r s) of) s found
 
 -- a record has at most one reading in a version
@@ -86,26 +86,26 @@ read_own version r c read = rw (← tag_is c r read.1) read.0
 -- 12 bytes are a number of four and one of eight
 twelve : (bytes : List ℕ) → length bytes ≡ 12 → AreBytes bytes → (a t : ℕ) × (IsUnsigned 4 a × IsUnsigned 8 t) × (bytes ≡ unsigned 4 a ++ unsigned 8 t)
 twelve bytes len small =
-    let a = front_number 4 8 bytes len small in
+    let a = prefix_number 4 8 bytes len small in
     let t = whole_number 8 a.1 a.3 a.4 in
     (a.0, t.0, (a.2, t.1), a.5 ∙ ap (λ xs. unsigned 4 a.0 ++ xs) t.2)
 
 -- 14 bytes are a number of four, one of two and one of eight
 fourteen : (bytes : List ℕ) → length bytes ≡ 14 → AreBytes bytes → (a i t : ℕ) × (IsUnsigned 4 a × IsUnsigned 2 i × IsUnsigned 8 t) × (bytes ≡ unsigned 4 a ++ (unsigned 2 i ++ unsigned 8 t))
 fourteen bytes len small =
-    let a = front_number 4 10 bytes len small in
-    let i = front_number 2 8 a.1 a.3 a.4 in
+    let a = prefix_number 4 10 bytes len small in
+    let i = prefix_number 2 8 a.1 a.3 a.4 in
     let t = whole_number 8 i.1 i.3 i.4 in
     (a.0, i.0, t.0, (a.2, i.2, t.1), a.5 ∙ ap (λ xs. unsigned 4 a.0 ++ xs) (i.5 ∙ ap (λ xs. unsigned 2 i.0 ++ xs) t.2))
 
 -- a record whose body is a command's
-pub from_body : (c : Command) (r : Record) → FitsCommand c → r.tag ≡ tag_of c → r.body ≡ body_spelling c → Spells c r
-from_body c r fits tag body = record { fits = command_fits c fits; spelled = same_record r (tag_of c) (body_of c) tag (body ∙ sym (body_is_plain c)) }
+pub from_body : (c : Command) (r : Record) → FitsCommand c → r.tag ≡ tag_of c → r.body ≡ body_encoding c → Encodes c r
+from_body c r fits tag body = record { fits = command_fits c fits; encoded = same_record r (tag_of c) (body_of c) tag (body ∙ sym (body_is_plain c)) }
 
 -- the command of each tag but 7 and 10, if the body has the length of the tag
-spelled : (r : Record) → AreBytes r.body → IsTag r.tag → r.tag ≢ 7 → r.tag ≢ 10 → length r.body ≡ size_of r.tag → (c : Command) × Spells c r
-unfolding body_spelling
-spelled r small tag order until len =
+encoded : (r : Record) → AreBytes r.body → IsTag r.tag → r.tag ≢ 7 → r.tag ≢ 10 → length r.body ≡ size_of r.tag → (c : Command) × Encodes c r
+unfolding body_encoding
+encoded r small tag order until len =
     elim (cases_eq r.tag 1) [
       | inl is ↦ (AddAsset r.body, from_body (AddAsset r.body) r (len ∙ ap size_of is, small) is refl)
       | inr no_1 ↦
@@ -147,14 +147,14 @@ spelled r small tag order until len =
     ]
 
 -- the order of the tag 7, if the body encodes a request
-pub order_spelled : (r : Record) (request : Request) → r.tag ≡ 7 → SpellsRequest r.body request → Spells (Place None request) r
-unfolding body_spelling
-order_spelled r request is found = from_body (Place None request) r found.fits is found.spelled
+pub order_encoded : (r : Record) (request : Request) → r.tag ≡ 7 → EncodesRequest r.body request → Encodes (Place None request) r
+unfolding body_encoding
+order_encoded r request is found = from_body (Place None request) r found.fits is found.encoded
 
 -- the order of the tag 10, if the body encodes a last batch and a request
-pub until_spelled : (r : Record) (last : ℕ) (request : Request) → r.tag ≡ 10 → SpellsUntil r.body last request → Spells (Place (Some last) request) r
-unfolding body_spelling
-until_spelled r last request is found = from_body (Place (Some last) request) r found.fits is found.spelled
+pub until_encoded : (r : Record) (last : ℕ) (request : Request) → r.tag ≡ 10 → EncodesUntil r.body last request → Encodes (Place (Some last) request) r
+unfolding body_encoding
+until_encoded r last request is found = from_body (Place (Some last) request) r found.fits is found.encoded
 
 -- whether a tag is up to a bound
 up_to_or_not : (most tag : ℕ) → ((1 ≤ tag) × (tag ≤ most)) ⊎ ((1 ≤ tag) × (tag ≤ most) → ⊥)
@@ -165,25 +165,25 @@ up_to_or_not most tag =
     ]
 
 -- the tag is a command's: the record encodes some command, or none
-told : (r : Record) → AreBytes r.body → IsTag r.tag → ((c : Command) × Spells c r) ⊎ SpellsNone r
+told : (r : Record) → AreBytes r.body → IsTag r.tag → ((c : Command) × Encodes c r) ⊎ EncodesNone r
 told r small tag =
     elim (cases_eq r.tag 7) [
       | inl is ↦
           elim (request_told r.body small) [
-            | inl found ↦ inl (Place None found.0, order_spelled r found.0 is found.1)
-            | inr none ↦ inr (spells_none-from_request r is none)
+            | inl found ↦ inl (Place None found.0, order_encoded r found.0 is found.1)
+            | inr none ↦ inr (encodes_none-from_request r is none)
           ]
       | inr order ↦
           elim (cases_eq r.tag 10) [
             | inl is ↦
                 elim (until_told r.body small) [
-                  | inl found ↦ inl (Place (Some found.0) found.1, until_spelled r found.0 found.1 is found.2)
-                  | inr none ↦ inr (spells_none-from_until r is none)
+                  | inl found ↦ inl (Place (Some found.0) found.1, until_encoded r found.0 found.1 is found.2)
+                  | inr none ↦ inr (encodes_none-from_until r is none)
                 ]
             | inr until ↦
                 elim (cases_eq (length r.body) (size_of r.tag)) [
-                  | inl len ↦ inl (spelled r small tag order until len)
-                  | inr other ↦ inr (spells_none r order until other)
+                  | inl len ↦ inl (encoded r small tag order until len)
+                  | inr other ↦ inr (encodes_none r order until other)
                 ]
           ]
     ]
@@ -237,8 +237,8 @@ units_size : (account asset units : ℕ) → length (unsigned 4 account ++ (unsi
 units_size account asset units = simp (length-append, length-unsigned)
 
 -- the tag of a command with few enough legs is a byte, and its body is within the limit
-short_where : (c : Command) → FitsCommand c → HasShortRow c → (tag_of c < 256) × (length (body_spelling c) ≤ 1024)
-unfolding body_spelling
+short_where : (c : Command) → FitsCommand c → HasShortRow c → (tag_of c < 256) × (length (body_encoding c) ≤ 1024)
+unfolding body_encoding
 short_where (AddAsset ticker) h few = (omega arith, omega (arith, h.0))
 short_where OpenAccount h few = (omega arith, omega arith)
 short_where (DepositMoney account ticks) h few = (omega arith, omega (arith, money_size account ticks))
@@ -248,7 +248,7 @@ short_where (WithdrawAsset account asset units) h few = (omega arith, omega (ari
 short_where (Place None request) h few = (omega arith, omega (arith, request_size request, few))
 short_where (CancelOrder account number) h few = (omega arith, omega (arith, money_size account number))
 short_where (RunBatch budget) h few = (omega arith, omega (arith, length-unsigned 4 budget))
-short_where (Place (Some last) request) h few = (omega arith, omega (arith, length-append (unsigned 4 last) (request_spelling request), length-unsigned 4 last, request_size request, few))
+short_where (Place (Some last) request) h few = (omega arith, omega (arith, length-append (unsigned 4 last) (request_encoding request), length-unsigned 4 last, request_size request, few))
 short_where (SetMoneyCredit account ticks) h few = (omega arith, omega (arith, money_size account ticks))
 short_where (SetUnitCredit account asset units) h few = (omega arith, omega (arith, units_size account asset units))
 

@@ -5,7 +5,7 @@ use Rattle.std.specs.Str.{bytes_eq}
 use Rattle.std.proofs.lemmas.Slice.Eq.{bytes_eq-Decides}
 use Rattle.std.proofs.lemmas.Bool.{cases_lt}
 use Rattle.std.proofs.lemmas.List.{take-append-drop, take_at, drop_at, length-take-le, append_cancel_left}
-use Rattle.wire_records.specs.Records.{Record, IsRecord, head, spelling}
+use Rattle.wire_records.specs.Records.{Record, IsRecord, head, encoding}
 use Rattle.wire_records.specs.Grammars.{BeginsWith, BeginsWithNone}
 use Rattle.wire_records.specs.declared.version.Version.{Version}
 use Rattle.wire_records.specs.declared.version.Version.TheVariants.{One}
@@ -14,7 +14,7 @@ use Rattle.wire_records.specs.Formats.{magics, records, StatesOver, EitherStates
 use Rattle.wire_records.proofs.CodeLaws.{IsCode}
 use Rattle.wire_records.proofs.ReadingLaws.{IsReadable}
 use Rattle.wire_records.proofs.Numbered.{version_at, at_number, all_numbers, number_small, same_number}
-use Rattle.wire_records.proofs.Spelled.{length-head, length-spelling, read_whole, spelling_unique}
+use Rattle.wire_records.proofs.Encoded.{length-head, length-encoding, read_whole, encoding_unique}
 
 -- what a test decides
 told_by : (b : Bool) (P : Type 0) → Decides b P → P ⊎ (¬ P)
@@ -62,8 +62,8 @@ at_or_not bytes n tag =
     (elim (cases_lt (length (drop 5 bytes)) n) [ inl few ↦ inr (λ enough. omega (arith, few, enough)) | inr enough ↦ inl enough ])
 
 -- the bytes after a head
-behind_head : (bytes rest : List ℕ) (n tag : ℕ) → bytes ≡ head tag n ++ rest → drop 5 bytes ≡ rest
-behind_head bytes rest n tag e = ap (drop 5) e ∙ drop_at (head tag n) rest 5 (length-head tag n)
+after_head : (bytes rest : List ℕ) (n tag : ℕ) → bytes ≡ head tag n ++ rest → drop 5 bytes ≡ rest
+after_head bytes rest n tag e = ap (drop 5) e ∙ drop_at (head tag n) rest 5 (length-head tag n)
 
 -- a record whose head and body are there
 whole_at : (limit : ℕ) (bytes : List ℕ) (n tag : ℕ) → n < limit + 1 → tag < 256 → IsAt bytes n tag → (r : Record) × (rest : List ℕ) × BeginsWith (records limit) bytes r rest
@@ -75,12 +75,12 @@ whole_at limit bytes n tag small byte there =
     (r, drop n first, (record { tag = byte; body = omega (arith, size, small) }, read_whole bytes first (take n first) (drop n first) tag n there.0 (sym (take-append-drop n first)) size))
 
 -- head and body of a record are there
-at_whole : (limit : ℕ) (bytes : List ℕ) (r : Record) (rest : List ℕ) → IsRecord limit r → bytes ≡ spelling r ++ rest → IsAt bytes (length r.body) r.tag
-unfolding IsAt spelling
+at_whole : (limit : ℕ) (bytes : List ℕ) (r : Record) (rest : List ℕ) → IsRecord limit r → bytes ≡ encoding r ++ rest → IsAt bytes (length r.body) r.tag
+unfolding IsAt encoding
 at_whole limit bytes r rest lawful e =
     let regrouped : bytes ≡ head r.tag (length r.body) ++ (r.body ++ rest) = e ∙ append_assoc (head r.tag (length r.body)) r.body rest in
-    let behind = behind_head bytes (r.body ++ rest) (length r.body) r.tag regrouped in
-    (regrouped ∙ ap (λ xs. head r.tag (length r.body) ++ xs) (sym behind), omega (arith, ap length behind, length-append r.body rest))
+    let following = after_head bytes (r.body ++ rest) (length r.body) r.tag regrouped in
+    (regrouped ∙ ap (λ xs. head r.tag (length r.body) ++ xs) (sym following), omega (arith, ap length following, length-append r.body rest))
 
 -- whether bytes begin with a record
 record_told : (limit : ℕ) (bytes : List ℕ) → ((r : Record) × (rest : List ℕ) × BeginsWith (records limit) bytes r rest) ⊎ BeginsWithNone (records limit) bytes
@@ -98,8 +98,8 @@ record_told limit bytes =
 -- records are a code
 pub record_code : (limit : ℕ) → limit < 2 ^ 32 → IsCode (records limit)
 record_code limit small = record {
-  some = λ r lawful. omega (arith, length-spelling r);
-  one = λ r s x y a b e. spelling_unique limit r s x y small a b e;
+  some = λ r lawful. omega (arith, length-encoding r);
+  one = λ r s x y a b e. encoding_unique limit r s x y small a b e;
   told = record_told limit;
 }
 
@@ -118,7 +118,7 @@ over_told limit bytes =
       | inr none ↦
           inr (λ over.
           let states = over.1 in
-          none over.0 states.0 (over.2, (states.1, states.2, states.4 ∙ ap (λ xs. head states.1 over.0 ++ xs) (sym (behind_head bytes states.3 over.0 states.1 states.4)))))
+          none over.0 states.0 (over.2, (states.1, states.2, states.4 ∙ ap (λ xs. head states.1 over.0 ++ xs) (sym (after_head bytes states.3 over.0 states.1 states.4)))))
     ]
 
 -- whether the first of two records in a row that isn't complete states a body above its limit
@@ -135,7 +135,7 @@ either_over_told limit next small bytes =
                       inr (λ either. elim either [
                         | inl over ↦ not over
                         | inr later ↦
-                            let one = spelling_unique limit first.0 later.0 first.1 later.1 small first.2.0 later.2.0 (sym first.2.1 ∙ later.2.1) in
+                            let one = encoding_unique limit first.0 later.0 first.1 later.1 small first.2.0 later.2.0 (sym first.2.1 ∙ later.2.1) in
                             short (rw (← one.1) at later.3)
                       ])
                 ]
@@ -149,14 +149,14 @@ pub record AreMagics (magic_of : Version → List ℕ) : Type 0 where
   pub last : (version : Version) → get_or (magic_of version) 7 0 ≡ 48 + number_of version
 
 -- as many bytes at the beginning of the same bytes are the same
-same_front : (a b x y : List ℕ) → length b ≡ length a → a ++ x ≡ b ++ y → a ≡ b
-same_front a b x y alike e = sym (take_at a x (length a) refl) ∙ ap (take (length a)) e ∙ take_at b y (length a) alike
+same_prefix : (a b x y : List ℕ) → length b ≡ length a → a ++ x ≡ b ++ y → a ≡ b
+same_prefix a b x y alike e = sym (take_at a x (length a) refl) ∙ ap (take (length a)) e ∙ take_at b y (length a) alike
 
 module _ (magic_of : Version → List ℕ) (are : AreMagics magic_of) where
   -- bytes begin with one magic
   pub one_magic : (v w : Version) (x y : List ℕ) → magic_of v ++ x ≡ magic_of w ++ y → (v ≡ w) × (x ≡ y)
   one_magic v w x y e =
-      let magic = same_front (magic_of v) (magic_of w) x y (are.eight w ∙ sym (are.eight v)) e in
+      let magic = same_prefix (magic_of v) (magic_of w) x y (are.eight w ∙ sym (are.eight v)) e in
       let last = sym (are.last v) ∙ ap (λ (l : List ℕ). get_or l 7 0) magic ∙ are.last w in
       (same_number v w (omega (arith, last)), append_cancel_left (magic_of v) x y (e ∙ ap (λ (l : List ℕ). l ++ y) (sym magic)))
 
@@ -167,12 +167,12 @@ module _ (magic_of : Version → List ℕ) (are : AreMagics magic_of) where
   -- whether bytes begin with a magic
   pub magic_told : (bytes : List ℕ) → ((v : Version) × (rest : List ℕ) × BeginsWith (magics magic_of) bytes v rest) ⊎ BeginsWithNone (magics magic_of) bytes
   magic_told bytes =
-      let behind : Version → List ℕ = λ v. magic_of v ++ drop (length (magic_of v)) bytes in
-      elim (found_below (λ n. bytes ≡ behind (version_at n)) (λ n. same_or_not bytes (behind (version_at n))) all_numbers) [
+      let following : Version → List ℕ = λ v. magic_of v ++ drop (length (magic_of v)) bytes in
+      elim (found_below (λ n. bytes ≡ following (version_at n)) (λ n. same_or_not bytes (following (version_at n))) all_numbers) [
         | inl found ↦ inl (version_at found.0, drop (length (magic_of (version_at found.0))) bytes, (tt, found.2))
         | inr none ↦
             inr (λ v rest lawful e.
-            none (number_of v) (number_small v) (begins_with (magic_of v) bytes rest e ∙ ap behind (sym (at_number v))))
+            none (number_of v) (number_small v) (begins_with (magic_of v) bytes rest e ∙ ap following (sym (at_number v))))
       ]
 
 -- the magics of the versions are a code

@@ -2,11 +2,11 @@
 use Rattle.std.proofs.Common.{◌≡◌, ◌+◌, ◌*◌, ℕ, ℤ, List, [], ◌++◌, length, length-append, append_assoc, sym, ap, ◌∙◌, arith}
 use Rattle.std.proofs.lemmas.List.{append-nil}
 use Rattle.wire_fields.specs.Numbers.{unsigned, signed}
-use Rattle.wire_fields.proofs.Spelling.{length-unsigned, length-signed, unsigned_unique, signed_unique}
+use Rattle.wire_fields.proofs.Encoding.{length-unsigned, length-signed, unsigned_unique, signed_unique}
 use Rattle.weight_rows.specs.declared.entries.Entry.{Entry}
 use Rattle.wire_records.specs.declared.place.Numbers.{Numbers}
 use Rattle.wire_records.specs.Commands.{Request}
-use Rattle.wire_records.specs.Bodies.{entry_spelling, request_spelling, IsEntry, IsRequest}
+use Rattle.wire_records.specs.Bodies.{entry_encoding, request_encoding, IsEntry, IsRequest}
 use Rattle.wire_records.specs.Private.{FitNumbers, numbers_and}
 use Rattle.wire_records.proofs.CodeLaws.{counted_unique, counted_size}
 
@@ -17,8 +17,8 @@ same_entry e f a b =
     ap (λ asset. made asset e.weight) a ∙ ap (λ weight. made f.asset weight) b
 
 -- bytes that begin with two legs begin with one
-entry_unique : (e f : Entry) (x y : List ℕ) → IsEntry e → IsEntry f → entry_spelling e ++ x ≡ entry_spelling f ++ y → (e ≡ f) × (x ≡ y)
-unfolding entry_spelling
+entry_unique : (e f : Entry) (x y : List ℕ) → IsEntry e → IsEntry f → entry_encoding e ++ x ≡ entry_encoding f ++ y → (e ≡ f) × (x ≡ y)
+unfolding entry_encoding
 entry_unique e f x y h k same =
     let regrouped = sym (append_assoc (unsigned 2 e.asset) (signed 4 e.weight) x) ∙ same ∙ append_assoc (unsigned 2 f.asset) (signed 4 f.weight) y in
     let assets = unsigned_unique 2 e.asset f.asset _ _ h.0 k.0 regrouped in
@@ -62,20 +62,20 @@ numbers_unique m n x y h k same =
     (record { account = accounts.0; low = lows.0; high = highs.0; rate = rates.0; cap = caps.0; count = counts.0 }, counts.1)
 
 -- two requests of one encoding are one
-pub request_unique : (r s : Request) → IsRequest r → IsRequest s → request_spelling r ≡ request_spelling s → r ≡ s
-unfolding request_spelling
+pub request_unique : (r s : Request) → IsRequest r → IsRequest s → request_encoding r ≡ request_encoding s → r ≡ s
+unfolding request_encoding
 request_unique r s h k same =
     let found = numbers_unique (numbers_of r) (numbers_of s) _ _ (fit_numbers r h) (fit_numbers s k) same in
     let numbers = found.0 in
-    let rows = counted_unique IsEntry entry_spelling entry_unique r.row s.row [] [] h.row k.row numbers.count (append-nil _ ∙ found.1 ∙ sym (append-nil _)) in
+    let rows = counted_unique IsEntry entry_encoding entry_unique r.row s.row [] [] h.row k.row numbers.count (append-nil _ ∙ found.1 ∙ sym (append-nil _)) in
     same_request r s numbers.account numbers.low numbers.high numbers.rate numbers.cap rows.0
 
 -- a leg takes six bytes
-pub entry_size : (e : Entry) → length (entry_spelling e) ≡ 6
-unfolding entry_spelling
+pub entry_size : (e : Entry) → length (entry_encoding e) ≡ 6
+unfolding entry_encoding
 entry_size e = simp (length-append, length-unsigned, length-signed)
 
 -- a request takes 33 bytes, and six for each leg
-pub request_size : (r : Request) → length (request_spelling r) ≡ 33 + 6 * length r.row
-unfolding request_spelling
-request_size r = simp (length-append, length-unsigned, length-signed) (omega (arith, counted_size entry_spelling 6 entry_size r.row))
+pub request_size : (r : Request) → length (request_encoding r) ≡ 33 + 6 * length r.row
+unfolding request_encoding
+request_size r = simp (length-append, length-unsigned, length-signed) (omega (arith, counted_size entry_encoding 6 entry_size r.row))

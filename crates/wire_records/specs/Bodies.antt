@@ -8,29 +8,29 @@ use Rattle.wire_records.specs.Commands.{Request, Command, AddAsset, OpenAccount,
 use Rattle.wire_records.specs.CommandRecords.{tag_of}
 
 -- the encoding of a leg: its asset in 2 bytes, and its weight in 4
-unfoldable pub entry_spelling : Entry → List ℕ
-entry_spelling e = unsigned 2 e.asset ++ signed 4 e.weight
+unfoldable pub entry_encoding : Entry → List ℕ
+entry_encoding e = unsigned 2 e.asset ++ signed 4 e.weight
 
 -- the encoding of a request: its numbers, how many legs it has, and the legs
-unfoldable pub request_spelling : Request → List ℕ
-request_spelling r =
+unfoldable pub request_encoding : Request → List ℕ
+request_encoding r =
     unsigned 4 r.account ++ (signed 8 r.low ++ (signed 8 r.high ++ (unsigned 4 r.rate ++ (unsigned 8 r.cap
-    ++ (unsigned 1 (length r.row) ++ flat_map entry_spelling r.row)))))
+    ++ (unsigned 1 (length r.row) ++ flat_map entry_encoding r.row)))))
 
 -- the body of each command's record, part by part
-unfoldable pub body_spelling : Command → List ℕ
-body_spelling (AddAsset ticker) = ticker
-body_spelling OpenAccount = []
-body_spelling (DepositMoney account ticks) = unsigned 4 account ++ unsigned 8 ticks
-body_spelling (DepositAsset account asset units) = unsigned 4 account ++ (unsigned 2 asset ++ unsigned 8 units)
-body_spelling (WithdrawMoney account ticks) = unsigned 4 account ++ unsigned 8 ticks
-body_spelling (WithdrawAsset account asset units) = unsigned 4 account ++ (unsigned 2 asset ++ unsigned 8 units)
-body_spelling (Place None request) = request_spelling request
-body_spelling (CancelOrder account number) = unsigned 4 account ++ unsigned 8 number
-body_spelling (RunBatch budget) = unsigned 4 budget
-body_spelling (Place (Some last) request) = unsigned 4 last ++ request_spelling request
-body_spelling (SetMoneyCredit account ticks) = unsigned 4 account ++ unsigned 8 ticks
-body_spelling (SetUnitCredit account asset units) = unsigned 4 account ++ (unsigned 2 asset ++ unsigned 8 units)
+unfoldable pub body_encoding : Command → List ℕ
+body_encoding (AddAsset ticker) = ticker
+body_encoding OpenAccount = []
+body_encoding (DepositMoney account ticks) = unsigned 4 account ++ unsigned 8 ticks
+body_encoding (DepositAsset account asset units) = unsigned 4 account ++ (unsigned 2 asset ++ unsigned 8 units)
+body_encoding (WithdrawMoney account ticks) = unsigned 4 account ++ unsigned 8 ticks
+body_encoding (WithdrawAsset account asset units) = unsigned 4 account ++ (unsigned 2 asset ++ unsigned 8 units)
+body_encoding (Place None request) = request_encoding request
+body_encoding (CancelOrder account number) = unsigned 4 account ++ unsigned 8 number
+body_encoding (RunBatch budget) = unsigned 4 budget
+body_encoding (Place (Some last) request) = unsigned 4 last ++ request_encoding request
+body_encoding (SetMoneyCredit account ticks) = unsigned 4 account ++ unsigned 8 ticks
+body_encoding (SetUnitCredit account asset units) = unsigned 4 account ++ (unsigned 2 asset ++ unsigned 8 units)
 
 -- a leg whose asset and weight are in the ranges of their fields
 abbrev pub IsEntry : Entry → Type 0
@@ -62,5 +62,5 @@ FitsCommand (SetMoneyCredit account ticks) = IsUnsigned 4 account × IsUnsigned 
 FitsCommand (SetUnitCredit account asset units) = IsUnsigned 4 account × IsUnsigned 2 asset × IsUnsigned 8 units
 
 -- the record of each command, with its body part by part
-abbrev pub record_spelling : Command → Record
-record_spelling command = record { tag = tag_of command; body = body_spelling command }
+abbrev pub record_encoding : Command → Record
+record_encoding command = record { tag = tag_of command; body = body_encoding command }

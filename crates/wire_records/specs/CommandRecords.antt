@@ -72,21 +72,21 @@ HasShortRow (SetMoneyCredit account ticks) = Unit {0}
 HasShortRow (SetUnitCredit account asset units) = Unit {0}
 
 -- the record encodes this command
-pub record Spells (command : Command) (r : Record) : Type 0 where
+pub record Encodes (command : Command) (r : Record) : Type 0 where
   pub fits : IsCommand command
-  pub spelled : r ≡ record_of command
+  pub encoded : r ≡ record_of command
 
 -- the tag of some command, 1 to 12
 abbrev pub IsTag : ℕ → Type 0
 IsTag tag = (1 ≤ tag) × (tag ≤ 12)
 
 -- the record encodes no command
-abbrev pub SpellsNone : Record → Type 0
-SpellsNone r = (command : Command) → ¬ Spells command r
+abbrev pub EncodesNone : Record → Type 0
+EncodesNone r = (command : Command) → ¬ Encodes command r
 
 -- What a record is read as, whatever the version: the command that it encodes, or why there is none. Each record of bytes has
 -- exactly one such reading, by the laws.
 abbrev pub IsRead : Record → Result Command BodyFault → Type 0
-IsRead r (Ok command) = Spells command r
+IsRead r (Ok command) = Encodes command r
 IsRead r (Err UnknownTag) = ¬ IsTag r.tag
-IsRead r (Err BadBody) = IsTag r.tag × SpellsNone r
+IsRead r (Err BadBody) = IsTag r.tag × EncodesNone r

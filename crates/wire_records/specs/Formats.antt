@@ -1,6 +1,6 @@
 -- Records as the units of a file, and command files.
 use Rattle.std.specs.Prelude.{◌<◌, ℕ, List, ◌⊎◌, codes}
-use Rattle.wire_records.specs.Records.{Record, IsRecord, StatesLength, spelling, most_body}
+use Rattle.wire_records.specs.Records.{Record, IsRecord, StatesLength, encoding, most_body}
 use Rattle.wire_records.specs.Grammars.{Grammar, BeginsWith}
 use Rattle.wire_records.specs.Reading.{Format}
 use Rattle.wire_records.specs.declared.version.Version.{Version}
@@ -8,11 +8,11 @@ use Rattle.wire_records.specs.declared.version.Version.TheVariants.{One, Two, Th
 
 -- the encoding of versions: a magic for each
 abbrev pub magics : (Version → List ℕ) → Grammar Version
-magics magic_of = record { IsLawful = λ version. Unit {0}; spell = magic_of }
+magics magic_of = record { IsLawful = λ version. Unit {0}; encode = magic_of }
 
 -- the encoding of records whose bodies have at most so many bytes
 abbrev pub records : ℕ → Grammar Record
-records limit = record { IsLawful = IsRecord limit; spell = spelling }
+records limit = record { IsLawful = IsRecord limit; encode = encoding }
 
 -- the first record states a body above the limit
 abbrev pub StatesOver : ℕ → List ℕ → Type 0

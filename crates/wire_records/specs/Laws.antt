@@ -1,9 +1,9 @@
 -- Laws of the grammar, whatever reads or writes it.
 use Rattle.std.specs.Prelude.{◌≡◌, ◌≢◌, ◌<◌, ◌≤◌, ◌^◌, ℕ, List, ◌++◌, ◌↔◌, length, All, Result, Ok}
-use Rattle.wire_records.specs.Records.{Record, AreBytes, IsRecord, spelling, most_body}
-use Rattle.wire_records.specs.Framing.{IsFront}
+use Rattle.wire_records.specs.Records.{Record, AreBytes, IsRecord, encoding, most_body}
+use Rattle.wire_records.specs.Framing.{IsPrefix}
 use Rattle.wire_records.specs.Commands.{Command}
-use Rattle.wire_records.specs.CommandRecords.{record_of, IsCommand, HasShortRow, Spells, IsRead}
+use Rattle.wire_records.specs.CommandRecords.{record_of, IsCommand, HasShortRow, Encodes, IsRead}
 use Rattle.wire_records.specs.declared.version.Version.{Version}
 use Rattle.wire_records.specs.declared.version.Version.TheVariants.{One}
 use Rattle.wire_records.specs.Versions.{IsOfVersion, IsReadAs}
@@ -12,31 +12,31 @@ use Rattle.wire_records.specs.Refusals.{code_of}
 use Rattle.wire_records.specs.declared.command.BodyFault.{BodyFault}
 use Rattle.wire_records.specs.declared.record.Framed.{Framed}
 use Rattle.wire_records.specs.declared.record.Framed.TheVariants.{Whole}
-use Rattle.wire_records.specs.Grammars.{spell_all}
+use Rattle.wire_records.specs.Grammars.{encode_all}
 use Rattle.wire_records.specs.Reading.{Reading, File, Ending, End, Reads, StartsWith}
 use Rattle.wire_records.specs.Formats.{commands}
 
 -- No record's encoding is a proper prefix of another's: bytes begin with the encoding of at most one record.
 abbrev pub OneRecord : Type 0
 OneRecord =
-    (limit : ℕ) (r s : Record) (x y : List ℕ) → limit < 2 ^ 32 → IsRecord limit r → IsRecord limit s → spelling r ++ x ≡ spelling s ++ y → (r ≡ s) × (x ≡ y)
+    (limit : ℕ) (r s : Record) (x y : List ℕ) → limit < 2 ^ 32 → IsRecord limit r → IsRecord limit s → encoding r ++ x ≡ encoding s ++ y → (r ≡ s) × (x ≡ y)
 
 -- a record encodes at most one command
 abbrev pub OneCommand : Type 0
-OneCommand = (c d : Command) (r : Record) → Spells c r → Spells d r → c ≡ d
+OneCommand = (c d : Command) (r : Record) → Encodes c r → Encodes d r → c ≡ d
 
 -- no two refusals have the same code
 abbrev pub OneRefusal : Type 0
 OneRefusal = (a b : Refusal) → code_of a ≡ code_of b → a ≡ b
 
 -- under a limit below 2^32, it is unique what bytes begin with
-abbrev pub OneFront : Type 0
-OneFront = (a b : Framed) (limit : ℕ) (bytes : List ℕ) → limit < 2 ^ 32 → IsFront a limit bytes → IsFront b limit bytes → a ≡ b
+abbrev pub OnePrefix : Type 0
+OnePrefix = (a b : Framed) (limit : ℕ) (bytes : List ℕ) → limit < 2 ^ 32 → IsPrefix a limit bytes → IsPrefix b limit bytes → a ≡ b
 
 -- bytes that begin with a record's encoding are framed as that record, whatever follows it
 abbrev pub WrittenIsFramed : Type 0
 WrittenIsFramed =
-    (limit : ℕ) (r : Record) (rest : List ℕ) (front : Framed) → limit < 2 ^ 32 → IsRecord limit r → IsFront front limit (spelling r ++ rest) → front ≡ Whole r (length (spelling r))
+    (limit : ℕ) (r : Record) (rest : List ℕ) (prefix : Framed) → limit < 2 ^ 32 → IsRecord limit r → IsPrefix prefix limit (encoding r ++ rest) → prefix ≡ Whole r (length (encoding r))
 
 -- in a version a record is read as at most one command or fault
 abbrev pub OneReading : Type 0
@@ -49,7 +49,7 @@ EachIsRead = (version : Version) (r : Record) → AreBytes r.body → (read : Re
 -- in a version that has it, the record of a command is read as that command
 abbrev pub CommandIsRead : Type 0
 CommandIsRead = (version : Version) (c : Command) (r : Record) (read : Result Command BodyFault)
-    → IsOfVersion version c → Spells c r → IsReadAs version r read → read ≡ Ok c
+    → IsOfVersion version c → Encodes c r → IsReadAs version r read → read ≡ Ok c
 
 -- what a record is read as whatever the version is its reading in each version after the first, as these have all commands
 abbrev pub ReadInLater : Type 0
@@ -77,5 +77,5 @@ FirstOfFile =
 abbrev pub FileIsRead : Type 0
 FileIsRead =
     (limit : ℕ) (version : Version) (records : List Record) → All (IsRecord most_body) records
-    → length (commands.magics.spell version ++ spell_all commands.units records) ≤ limit
-    → Reads commands limit (commands.magics.spell version ++ spell_all commands.units records) (File version records End)
+    → length (commands.magics.encode version ++ encode_all commands.units records) ≤ limit
+    → Reads commands limit (commands.magics.encode version ++ encode_all commands.units records) (File version records End)

@@ -6,7 +6,7 @@ use Rattle.wire_fields.specs.Numbers.{unsigned, signed, IsUnsigned, IsSigned}
 use Rattle.weight_rows.specs.declared.entries.Entry.{Entry}
 use Rattle.wire_records.specs.declared.place.Numbers.{Numbers}
 use Rattle.wire_records.specs.Commands.{Request, Command, Place}
-use Rattle.wire_records.specs.Bodies.{entry_spelling, request_spelling, IsEntry, IsRequest}
+use Rattle.wire_records.specs.Bodies.{entry_encoding, request_encoding, IsEntry, IsRequest}
 
 -- the leg that these six bytes encode
 abbrev pub entry_in : ℕ → ℕ → ℕ → ℕ → ℕ → ℕ → Entry
@@ -18,9 +18,9 @@ entries_in (a ∷ b ∷ c ∷ d ∷ e ∷ f ∷ rest) = entry_in a b c d e f ∷
 entries_in _ = []
 
 -- these bytes are the encodings of these legs
-pub record SpellEntries (bytes : List ℕ) (row : List Entry) : Type 0 where
+pub record EncodeEntries (bytes : List ℕ) (row : List Entry) : Type 0 where
   pub fit : All IsEntry row
-  pub spelled : bytes ≡ flat_map entry_spelling row
+  pub encoded : bytes ≡ flat_map entry_encoding row
 
 -- the numbers of a request, and how many legs it has, are in the ranges of their fields
 pub record FitNumbers (n : Numbers) : Type 0 where
@@ -37,22 +37,22 @@ numbers_and n rest =
     unsigned 4 n.account ++ (signed 8 n.low ++ (signed 8 n.high ++ (unsigned 4 n.rate ++ (unsigned 8 n.cap ++ (unsigned 1 n.count ++ rest)))))
 
 -- this body encodes this request
-pub record SpellsRequest (body : List ℕ) (request : Request) : Type 0 where
+pub record EncodesRequest (body : List ℕ) (request : Request) : Type 0 where
   pub fits : IsRequest request
-  pub spelled : body ≡ request_spelling request
+  pub encoded : body ≡ request_encoding request
 
 -- this body encodes no request
-abbrev pub SpellsNoRequest : List ℕ → Type 0
-SpellsNoRequest body = (request : Request) → ¬ SpellsRequest body request
+abbrev pub EncodesNoRequest : List ℕ → Type 0
+EncodesNoRequest body = (request : Request) → ¬ EncodesRequest body request
 
 -- this body encodes this last batch and, after it, this request
-pub record SpellsUntil (body : List ℕ) (last : ℕ) (request : Request) : Type 0 where
+pub record EncodesUntil (body : List ℕ) (last : ℕ) (request : Request) : Type 0 where
   pub fits : IsUnsigned 4 last × IsRequest request
-  pub spelled : body ≡ unsigned 4 last ++ request_spelling request
+  pub encoded : body ≡ unsigned 4 last ++ request_encoding request
 
 -- this body encodes no last batch with a request after it
-abbrev pub SpellsNoUntil : List ℕ → Type 0
-SpellsNoUntil body = (last : ℕ) (request : Request) → ¬ SpellsUntil body last request
+abbrev pub EncodesNoUntil : List ℕ → Type 0
+EncodesNoUntil body = (last : ℕ) (request : Request) → ¬ EncodesUntil body last request
 
 -- the most bytes of the record of a command: exact for an order with this many legs, and 19 for any other command
 abbrev pub room_of : Command → ℕ

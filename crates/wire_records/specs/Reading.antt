@@ -1,6 +1,6 @@
 -- How a file is read: its magic, its complete units, and what follows the last of them.
 use Rattle.std.specs.Prelude.{◌≡◌, ◌≢◌, ◌<◌, ◌+◌, ℕ, List, [], ◌++◌, length, take, ◌⊎◌, All}
-use Rattle.wire_records.specs.Grammars.{Grammar, BeginsWith, BeginsWithNone, spell_all}
+use Rattle.wire_records.specs.Grammars.{Grammar, BeginsWith, BeginsWithNone, encode_all}
 
 -- A kind of file: the magic of each version, the units that follow it, and which bytes begin
 -- with a unit whose stated length is above its limit.
@@ -25,10 +25,10 @@ EndsAs format More rest place (Torn n) = (n ≡ place) × (format.IsOverlong res
 -- The bytes from this place on are these units, one after the other, and a rest that begins with none.
 pub record ReadsOn {V U : Type 0} (format : Format V U) (place : ℕ) (More : Type 0) (bytes : List ℕ) (units : List U) (ending : Ending) : Type 0 where
   pub rest : List ℕ
-  pub whole : bytes ≡ spell_all format.units units ++ rest
+  pub whole : bytes ≡ encode_all format.units units ++ rest
   pub each : All format.units.IsLawful units
   pub none : BeginsWithNone format.units rest
-  pub ends : EndsAs format More rest (place + length (spell_all format.units units)) ending
+  pub ends : EndsAs format More rest (place + length (encode_all format.units units)) ending
 
 -- what an input holds: no file of this kind, or a version's magic, complete units, and an ending
 pub data Reading (V U : Type 0) : Type 0 where
@@ -41,12 +41,12 @@ Reads format limit bytes NotFlow = BeginsWithNone format.magics (take limit byte
 Reads format limit bytes (File version units ending) =
     (body : List ℕ)
     × BeginsWith format.magics (take limit bytes) version body
-    × ReadsOn format (length (format.magics.spell version)) (limit < length bytes) body units ending
+    × ReadsOn format (length (format.magics.encode version)) (limit < length bytes) body units ending
 
 -- These units are the first of those in the first limit bytes.
 pub record StartsWith {V U : Type 0} (format : Format V U) (limit : ℕ) (bytes : List ℕ) (version : V) (units : List U) : Type 0 where
   pub body : List ℕ
   pub rest : List ℕ
   pub magic : BeginsWith format.magics (take limit bytes) version body
-  pub whole : body ≡ spell_all format.units units ++ rest
+  pub whole : body ≡ encode_all format.units units ++ rest
   pub each : All format.units.IsLawful units

@@ -21,16 +21,16 @@ unfoldable pub head : ℕ → ℕ → List ℕ
 head tag n = unsigned 1 tag ++ unsigned 4 n
 
 -- the encoding of a record: the tag and the length of the body, and then the body
-unfoldable pub spelling : Record → List ℕ
-spelling r = head r.tag (length r.body) ++ r.body
+unfoldable pub encoding : Record → List ℕ
+encoding r = head r.tag (length r.body) ++ r.body
 
 -- the bytes begin with a head that states this length of a body, whether or not the body follows
 abbrev pub StatesLength : ℕ → List ℕ → Type 0
 StatesLength n bytes = (n < 2 ^ 32) × (tag : ℕ) × (tag < 256) × (rest : List ℕ) × (bytes ≡ head tag n ++ rest)
 
 -- the bytes don't begin with a complete record
-abbrev pub HasNoFront : ℕ → List ℕ → Type 0
-HasNoFront limit bytes = (r : Record) (rest : List ℕ) → IsRecord limit r → bytes ≢ spelling r ++ rest
+abbrev pub HasNoPrefix : ℕ → List ℕ → Type 0
+HasNoPrefix limit bytes = (r : Record) (rest : List ℕ) → IsRecord limit r → bytes ≢ encoding r ++ rest
 
 -- the longest body of a command record, in bytes
 abbrev pub most_body : ℕ

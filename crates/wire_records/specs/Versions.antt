@@ -2,7 +2,7 @@
 use Rattle.std.specs.Prelude.{◌≤◌, ℕ, Result, Ok, Err}
 use Rattle.wire_records.specs.Records.{Record}
 use Rattle.wire_records.specs.Commands.{Command}
-use Rattle.wire_records.specs.CommandRecords.{tag_of, Spells, SpellsNone}
+use Rattle.wire_records.specs.CommandRecords.{tag_of, Encodes, EncodesNone}
 use Rattle.wire_records.specs.declared.command.BodyFault.{BodyFault}
 use Rattle.wire_records.specs.declared.command.BodyFault.TheVariants.{UnknownTag, BadBody}
 use Rattle.wire_records.specs.declared.version.Version.{Version}
@@ -41,6 +41,6 @@ HasCredit version = 11 ≤ most_tag version
 -- What a record is read as in a version: the command that it encodes, or why there is none; a tag that the version doesn't
 -- have is unknown, whatever the body is. Each record of bytes has exactly one reading in each version, by the laws.
 abbrev pub IsReadAs : Version → Record → Result Command BodyFault → Type 0
-IsReadAs version r (Ok command) = IsTagOf version r.tag × Spells command r
+IsReadAs version r (Ok command) = IsTagOf version r.tag × Encodes command r
 IsReadAs version r (Err UnknownTag) = ¬ IsTagOf version r.tag
-IsReadAs version r (Err BadBody) = IsTagOf version r.tag × SpellsNone r
+IsReadAs version r (Err BadBody) = IsTagOf version r.tag × EncodesNone r

@@ -152,7 +152,7 @@ pub enum BodyFault {
 
 // An account and an amount, or an account and an order, if the body has exactly their 12 bytes.
 fn money_fields(body: &[u8]) -> Option<(u32, u64)>
-    ensures spelled { IfSome result (λ fields. body.now ≡ unsigned 4 fields.0 ++ unsigned 8 fields.1) }
+    ensures encoded { IfSome result (λ fields. body.now ≡ unsigned 4 fields.0 ++ unsigned 8 fields.1) }
     ensures fits { IfSome result (λ fields. (fields.0 < 2 ^ 32) × (fields.1 < 2 ^ 64)) }
     ensures other { IfNone result (length body.now ≢ 12) }
 {
@@ -167,7 +167,7 @@ fn money_fields(body: &[u8]) -> Option<(u32, u64)>
 
 // An account, an asset and an amount, if the body has exactly their 14 bytes.
 fn asset_fields(body: &[u8]) -> Option<(u32, u16, u64)>
-    ensures spelled { IfSome result (λ fields. body.now
+    ensures encoded { IfSome result (λ fields. body.now
         ≡ unsigned 4 fields.0 ++ (unsigned 2 fields.1 ++ unsigned 8 fields.2)) }
     ensures fits { IfSome result (λ fields. (fields.0 < 2 ^ 32) × (fields.1 < 2 ^ 16) × (fields.2 < 2 ^ 64)) }
     ensures other { IfNone result (length body.now ≢ 14) }
@@ -184,7 +184,7 @@ fn asset_fields(body: &[u8]) -> Option<(u32, u16, u64)>
 
 // A budget, if the body has exactly its 4 bytes.
 fn batch_field(body: &[u8]) -> Option<u32>
-    ensures spelled { IfSome result (λ budget. body.now ≡ unsigned 4 budget) }
+    ensures encoded { IfSome result (λ budget. body.now ≡ unsigned 4 budget) }
     ensures fits { IfSome result (λ budget. budget < 2 ^ 32) }
     ensures other { IfNone result (length body.now ≢ 4) }
 {

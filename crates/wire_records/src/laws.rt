@@ -1,6 +1,6 @@
 //! Laws of the grammar, whatever reads or writes it. Each law is the contract of a function that
 //! does nothing.
-ghost use Rattle.wire_records.specs.Laws.{OneRecord, OneCommand, OneRefusal, OneFront, WrittenIsFramed, OneReading, EachIsRead, CommandIsRead, ReadInLater, ReadsItsOwn, CommandIsShort, OneFile, FirstOfFile, FileIsRead};
+ghost use Rattle.wire_records.specs.Laws.{OneRecord, OneCommand, OneRefusal, OnePrefix, WrittenIsFramed, OneReading, EachIsRead, CommandIsRead, ReadInLater, ReadsItsOwn, CommandIsShort, OneFile, FirstOfFile, FileIsRead};
 ghost use Rattle.std.specs.Prelude.{◌≡◌, ◌↔◌, IsTrue};
 ghost use Rattle.wire_records.specs.Records.{most_body};
 ghost use Rattle.wire_records.specs.declared.version.Version.TheVariants.{One};
@@ -28,8 +28,8 @@ pub fn one_refusal()
 {}
 
 /// What bytes begin with is unique: what `next_record` returns is the only result that its contract allows.
-pub fn one_front()
-    ensures { OneFront }
+pub fn one_prefix()
+    ensures { OnePrefix }
 {}
 
 /// A record that was written is framed again, whatever follows it.

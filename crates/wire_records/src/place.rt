@@ -4,8 +4,8 @@ ghost use Rattle.weight_rows.specs.declared.entries.Entry.{Entry};
 ghost use Rattle.weight_rows.specs.declared.faults.RowFault.{RowFault};
 ghost use Rattle.weight_rows.specs.Rows.{IsWeightVector, most_entries};
 ghost use Rattle.weight_rows.specs.Faults.{IsFaultOf};
-ghost use Rattle.wire_records.specs.Bodies.{entry_spelling, IsEntry};
-ghost use Rattle.wire_records.specs.Private.{FitNumbers, numbers_and, SpellsRequest, SpellsNoRequest, SpellsUntil, SpellsNoUntil};
+ghost use Rattle.wire_records.specs.Bodies.{entry_encoding, IsEntry};
+ghost use Rattle.wire_records.specs.Private.{FitNumbers, numbers_and, EncodesRequest, EncodesNoRequest, EncodesUntil, EncodesNoUntil};
 
 use crate::Memory;
 use crate::record::as_bytes;
@@ -27,18 +27,18 @@ pub struct RowView<'a> {
 impl<'a> Model for RowView<'a> {
     ghost use Rattle.std.specs.Prelude.{List};
     ghost use Rattle.weight_rows.specs.declared.entries.Entry.{Entry};
-    ghost use Rattle.wire_records.specs.Private.{entries_in, SpellEntries};
+    ghost use Rattle.wire_records.specs.Private.{entries_in, EncodeEntries};
 
     ghost Value = { List Entry };
 
     ghost view = { λ row. entries_in row.bytes.now };
 
-    ghost invariant = { λ row. SpellEntries row.bytes.now (entries_in row.bytes.now) };
+    ghost invariant = { λ row. EncodeEntries row.bytes.now (entries_in row.bytes.now) };
 }
 
 // The leg at the beginning of the bytes.
 fn entry_of(bytes: &[u8]) -> Option<Entry>
-    ensures { (e : Entry) (rest : List ℕ) → IsEntry e → bytes.now ≡ entry_spelling e ++ rest → result ≡ Some e }
+    ensures { (e : Entry) (rest : List ℕ) → IsEntry e → bytes.now ≡ entry_encoding e ++ rest → result ≡ Some e }
 {
     let mut cursor = Cursor::new(bytes);
     let asset = cursor.take_u16()?;
@@ -212,8 +212,8 @@ fn take_numbers(cursor: &mut Cursor<'_>) -> Option<Numbers>
 // The request that a body encodes, or `None` if it encodes none. Its legs aren't looked at, except for how many bytes
 // they take.
 pub(crate) fn place_in(body: &[u8]) -> Option<PlaceView<'_>>
-    ensures found { IfSome result (λ place. SpellsRequest body.now place) }
-    ensures none { IfNone result (SpellsNoRequest body.now) }
+    ensures found { IfSome result (λ place. EncodesRequest body.now place) }
+    ensures none { IfNone result (EncodesNoRequest body.now) }
 {
     let mut cursor = Cursor::new(body);
     let numbers = take_numbers(&mut cursor)?;
@@ -233,8 +233,8 @@ pub(crate) fn place_in(body: &[u8]) -> Option<PlaceView<'_>>
 
 // The last batch, and the request after it, that a body encodes, or `None` if it encodes none.
 pub(crate) fn until_in(body: &[u8]) -> Option<(u32, PlaceView<'_>)>
-    ensures found { IfSome result (λ until. SpellsUntil body.now until.0 until.1) }
-    ensures none { IfNone result (SpellsNoUntil body.now) }
+    ensures found { IfSome result (λ until. EncodesUntil body.now until.0 until.1) }
+    ensures none { IfNone result (EncodesNoUntil body.now) }
 {
     let mut cursor = Cursor::new(body);
     let last = cursor.take_u32()?;

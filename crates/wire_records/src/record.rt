@@ -1,7 +1,7 @@
 //! Records at the beginning of bytes.
 ghost use Rattle.std.specs.Prelude.{◌≡◌, ◌<◌, ◌^◌, ◌++◌, length, IfSome, IfNone};
-ghost use Rattle.wire_records.specs.Records.{AreBytes, head, spelling};
-ghost use Rattle.wire_records.specs.Framing.{IsFront};
+ghost use Rattle.wire_records.specs.Records.{AreBytes, head, encoding};
+ghost use Rattle.wire_records.specs.Framing.{IsPrefix};
 
 use std::marker::Model;
 use wire_fields::Cursor;
@@ -25,13 +25,13 @@ pub struct RecordView<'a> {
 
 impl<'a> Model for RecordView<'a> {
     ghost use Rattle.std.specs.Prelude.{◌≡◌};
-    ghost use Rattle.wire_records.specs.Records.{Record, spelling};
+    ghost use Rattle.wire_records.specs.Records.{Record, encoding};
 
     ghost Value = { Record };
 
     ghost view = { λ r. record { tag = r.tag; body = r.body.now } };
 
-    ghost invariant = { λ r. r.bytes.now ≡ spelling (record { tag = r.tag; body = r.body.now }) };
+    ghost invariant = { λ r. r.bytes.now ≡ encoding (record { tag = r.tag; body = r.body.now }) };
 }
 
 impl<'a> RecordView<'a> {
@@ -52,7 +52,7 @@ impl<'a> RecordView<'a> {
 
     /// Returns the bytes of the record, as they are in the borrowed bytes: tag, length and body.
     pub fn bytes(&self) -> &'a [u8]
-        ensures { result.now ≡ spelling self.now }
+        ensures { result.now ≡ encoding self.now }
     {
         self.bytes
     }
@@ -87,7 +87,7 @@ fn take_head(cursor: &mut Cursor<'_>) -> Option<(u8, u32)>
 /// Returns what `bytes` begin with, if a body may have at most `limit` bytes. The bytes after that
 /// aren't looked at. Constant cost, and nothing is allocated.
 pub fn next_record<'a>(bytes: &'a [u8], limit: u32) -> Framed<'a>
-    ensures { IsFront result limit bytes.now }
+    ensures { IsPrefix result limit bytes.now }
 {
     if bytes.is_empty() {
         return Framed::End;

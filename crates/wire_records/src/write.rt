@@ -2,9 +2,9 @@
 ghost use Rattle.std.specs.Prelude.{◌≡◌, ◌+◌, ◌*◌, ◌++◌, ◌≤◌, [], length, All, OnOk, OnErr, vec_len, vec_capacity};
 ghost use Rattle.std.specs.List.{flat_map};
 ghost use Rattle.wire_fields.specs.Numbers.{unsigned};
-ghost use Rattle.wire_records.specs.Records.{AreBytes, head, spelling};
+ghost use Rattle.wire_records.specs.Records.{AreBytes, head, encoding};
 ghost use Rattle.wire_records.specs.CommandRecords.{record_of, IsCommand, HasShortRow, most_row, most_row_until};
-ghost use Rattle.wire_records.specs.Bodies.{entry_spelling, request_spelling, record_spelling, IsEntry, IsRequest, FitsCommand};
+ghost use Rattle.wire_records.specs.Bodies.{entry_encoding, request_encoding, record_encoding, IsEntry, IsRequest, FitsCommand};
 ghost use Rattle.wire_records.specs.Private.{room_of};
 ghost use Rattle.wire_records.specs.Views.{command_in};
 
@@ -31,7 +31,7 @@ pub fn put_head(out: &mut Vec<u8>, tag: u8, length: u32)
 // Appends a record of a ticker.
 fn put_ticker(out: &mut Vec<u8>, tag: u8, ticker: [u8; 8])
     requires { vec_len out.old + 13 ≤ vec_capacity out.old }
-    ensures written { out.new.items ≡ out.old.items ++ spelling (record { tag = tag; body = ticker }) }
+    ensures written { out.new.items ≡ out.old.items ++ encoding (record { tag = tag; body = ticker }) }
     ensures fits { (length ticker ≡ 8) × AreBytes ticker }
 {
     put_head(out, tag, 8);
@@ -41,7 +41,7 @@ fn put_ticker(out: &mut Vec<u8>, tag: u8, ticker: [u8; 8])
 // Appends a record without a body.
 fn put_bare(out: &mut Vec<u8>, tag: u8)
     requires { vec_len out.old + 5 ≤ vec_capacity out.old }
-    ensures { out.new.items ≡ out.old.items ++ spelling (record { tag = tag; body = [] }) }
+    ensures { out.new.items ≡ out.old.items ++ encoding (record { tag = tag; body = [] }) }
 {
     put_head(out, tag, 0);
 }
@@ -50,7 +50,7 @@ fn put_bare(out: &mut Vec<u8>, tag: u8)
 fn put_money(out: &mut Vec<u8>, tag: u8, account: u32, ticks: u64)
     requires { vec_len out.old + 17 ≤ vec_capacity out.old }
     ensures { out.new.items ≡ out.old.items
-        ++ spelling (record { tag = tag; body = unsigned 4 account ++ unsigned 8 ticks }) }
+        ++ encoding (record { tag = tag; body = unsigned 4 account ++ unsigned 8 ticks }) }
 {
     put_head(out, tag, 12);
     put_u32(out, account);
@@ -61,7 +61,7 @@ fn put_money(out: &mut Vec<u8>, tag: u8, account: u32, ticks: u64)
 fn put_units(out: &mut Vec<u8>, tag: u8, account: u32, asset: u16, units: u64)
     requires { vec_len out.old + 19 ≤ vec_capacity out.old }
     ensures { out.new.items ≡ out.old.items
-        ++ spelling (record { tag = tag; body = unsigned 4 account ++ (unsigned 2 asset ++ unsigned 8 units) }) }
+        ++ encoding (record { tag = tag; body = unsigned 4 account ++ (unsigned 2 asset ++ unsigned 8 units) }) }
 {
     put_head(out, tag, 14);
     put_u32(out, account);
@@ -72,7 +72,7 @@ fn put_units(out: &mut Vec<u8>, tag: u8, account: u32, asset: u16, units: u64)
 // Appends the legs of an order.
 fn put_entries(out: &mut Vec<u8>, entries: &[Entry])
     requires { vec_len out.old + 6 * length entries.now ≤ vec_capacity out.old }
-    ensures written { out.new.items ≡ out.old.items ++ flat_map entry_spelling entries.now }
+    ensures written { out.new.items ≡ out.old.items ++ flat_map entry_encoding entries.now }
     ensures fit { All IsEntry entries.now }
 {
     for entry in entries {
@@ -93,7 +93,7 @@ fn put_request(
 )
     requires short { length row.now ≤ most_row }
     requires room { vec_len out.old + (33 + 6 * length row.now) ≤ vec_capacity out.old }
-    ensures written { out.new.items ≡ out.old.items ++ request_spelling
+    ensures written { out.new.items ≡ out.old.items ++ request_encoding
         (record { account = account; low = low; high = high; rate = rate; cap = cap; row = row.now }) }
     ensures fits { IsRequest
         (record { account = account; low = low; high = high; rate = rate; cap = cap; row = row.now }) }
@@ -119,9 +119,9 @@ fn put_order(
 )
     requires short { length row.now ≤ most_row }
     requires room { vec_len out.old + (38 + 6 * length row.now) ≤ vec_capacity out.old }
-    ensures written { out.new.items ≡ out.old.items ++ spelling (record {
+    ensures written { out.new.items ≡ out.old.items ++ encoding (record {
       tag = 7;
-      body = request_spelling
+      body = request_encoding
           (record { account = account; low = low; high = high; rate = rate; cap = cap; row = row.now });
     }) }
     ensures fits { IsRequest
@@ -144,9 +144,9 @@ fn put_until(
 )
     requires short { length row.now ≤ most_row_until }
     requires room { vec_len out.old + (42 + 6 * length row.now) ≤ vec_capacity out.old }
-    ensures written { out.new.items ≡ out.old.items ++ spelling (record {
+    ensures written { out.new.items ≡ out.old.items ++ encoding (record {
       tag = 10;
-      body = unsigned 4 last ++ request_spelling
+      body = unsigned 4 last ++ request_encoding
           (record { account = account; low = low; high = high; rate = rate; cap = cap; row = row.now });
     }) }
     ensures fits { IsRequest
@@ -160,7 +160,7 @@ fn put_until(
 // Appends a record of a batch.
 fn put_batch(out: &mut Vec<u8>, budget: u32)
     requires { vec_len out.old + 9 ≤ vec_capacity out.old }
-    ensures { out.new.items ≡ out.old.items ++ spelling (record { tag = 9; body = unsigned 4 budget }) }
+    ensures { out.new.items ≡ out.old.items ++ encoding (record { tag = 9; body = unsigned 4 budget }) }
 {
     put_head(out, 9, 4);
     put_u32(out, budget);
@@ -179,11 +179,11 @@ fn room_for(command: &Command) -> usize
 }
 
 // Appends the record of a command.
-#[tactic(auto, unfolding(crate::specs::Bodies::body_spelling))]
+#[tactic(auto, unfolding(crate::specs::Bodies::body_encoding))]
 fn put_command(command: &Command, out: &mut Vec<u8>)
     requires short { HasShortRow (command_in command.now) }
     requires room { vec_len out.old + room_of (command_in command.now) ≤ vec_capacity out.old }
-    ensures written { out.new.items ≡ out.old.items ++ spelling (record_spelling (command_in command.now)) }
+    ensures written { out.new.items ≡ out.old.items ++ encoding (record_encoding (command_in command.now)) }
     ensures fits { FitsCommand (command_in command.now) }
 {
     match command {
@@ -244,7 +244,7 @@ fn put_command(command: &Command, out: &mut Vec<u8>)
 /// and of a move of `out` if it has to grow.
 pub fn write_command(command: &Command, out: &mut Vec<u8>) -> Result<(), Memory>
     requires { HasShortRow (command_in command.now) }
-    ensures written { OnOk result (out.new.items ≡ out.old.items ++ spelling (record_of (command_in command.now))) }
+    ensures written { OnOk result (out.new.items ≡ out.old.items ++ encoding (record_of (command_in command.now))) }
     ensures stays { OnErr result (out.new.items ≡ out.old.items) }
 
     // So the record encodes this command, and by the laws it is framed and read as it, whatever follows it.

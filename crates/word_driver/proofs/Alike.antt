@@ -1,6 +1,6 @@
 -- Whether the input has more bytes may be said in another way.
 use Rattle.std.proofs.Common.{◌+◌, ◌↔◌, ℕ, List, Ok, Err, length, inl, inr}
-use Rattle.wire_records.specs.Grammars.{spell_all}
+use Rattle.wire_records.specs.Grammars.{encode_all}
 use Rattle.wire_records.specs.Reading.{Ending, End, EndsAs}
 use Rattle.wire_records.specs.Reading as reading
 use Rattle.word_driver.specs.declared.fault.Fault.TheVariants.{Read, Write, Memory, NotFlow, Torn, TooLong, Stopped}
@@ -36,7 +36,7 @@ module _ {U S B : Type 0} (w : Word U S B) (P Q : Type 0) (same : P ↔ Q) where
     so_far = on.so_far;
     last = on.last;
     passes = on.passes;
-    halts = halts_alike (place + length (spell_all w.format.units on.units)) on.rest on.state ended on.last on.halts;
+    halts = halts_alike (place + length (encode_all w.format.units on.units)) on.rest on.state ended on.last on.halts;
     writes = on.writes;
   }
 
@@ -46,5 +46,5 @@ module _ {U S B : Type 0} (w : Word U S B) (P Q : Type 0) (same : P ↔ Q) where
     rest = on.rest;
     state = on.state;
     passes = on.passes;
-    allocates = elim on.allocates [ inl at ↦ inl at | inr (at, allocates) ↦ inr (at_end_alike (place + length (spell_all w.format.units on.units)) on.rest End at, allocates) ];
+    allocates = elim on.allocates [ inl at ↦ inl at | inr (at, allocates) ↦ inr (at_end_alike (place + length (encode_all w.format.units on.units)) on.rest End at, allocates) ];
   }

@@ -5,7 +5,7 @@ use Rattle.std.proofs.lemmas.List.Elements.{All-push}
 use Rattle.flow_io.specs.Faults.{Blames}
 use Rattle.flow_io.specs.Streams.{Grows}
 use Rattle.flow_io.proofs.Growth.{Grows-nothing, Grows-more, GrowsByPrefix-more}
-use Rattle.wire_records.specs.Grammars.{spell_all}
+use Rattle.wire_records.specs.Grammars.{encode_all}
 use Rattle.wire_records.specs.Reading as reading
 use Rattle.wire_records.proofs.ReadingLaws.{none_in_none}
 use Rattle.file_units.specs.Units.{Leads, GoesToEnd, GoesToBreak}
@@ -94,20 +94,20 @@ module _ {U S B O : Type 0} (w : Word U S B) (held : O → Option (List ℕ)) (f
       }
 
   -- at the end of the input, no more was seen than the units
-  pub near_where_ended : (limit place : ℕ) (front taken : List ℕ) (after : Option (List ℕ)) (start new : S) (before middle : O)
-      (goes : GoesToEnd w.format (Writes w held faults) place (limit < length (front ++ known taken after)) (take limit (front ++ known taken after)) reading.End start new before middle) (most : ℕ)
-      → length (front ++ taken) ≤ length (spell_all w.format.units goes.units) + most
-  near_where_ended limit place front taken after start new before middle goes most =
+  pub near_where_ended : (limit place : ℕ) (prefix taken : List ℕ) (after : Option (List ℕ)) (start new : S) (before middle : O)
+      (goes : GoesToEnd w.format (Writes w held faults) place (limit < length (prefix ++ known taken after)) (take limit (prefix ++ known taken after)) reading.End start new before middle) (most : ℕ)
+      → length (prefix ++ taken) ≤ length (encode_all w.format.units goes.units) + most
+  near_where_ended limit place prefix taken after start new before middle goes most =
       let reads = goes.reads in
       omega (
         arith,
         reads.ends.1,
         ap length reads.whole,
         ap length reads.ends.2,
-        length-append (spell_all w.format.units goes.units) reads.rest,
-        length-take limit (front ++ known taken after),
-        length-append front (known taken after),
-        length-append front taken,
+        length-append (encode_all w.format.units goes.units) reads.rest,
+        length-take limit (prefix ++ known taken after),
+        length-append prefix (known taken after),
+        length-append prefix taken,
         no_fewer taken after,
       )
 
@@ -153,7 +153,7 @@ module _ {U S B O : Type 0} (w : Word U S B) (held : O → Option (List ℕ)) (f
         )
 
     -- the whole text of all units is in the output
-    near_end : (goes : ToEnd reading.End) (so : HasWritten start goes.units new before middle) (more : List ℕ) → Grows (held middle) (held after) more → length seen ≤ length (spell_all w.format.units goes.units) + most → IsNear w most bytes start seen (held before) (held after)
+    near_end : (goes : ToEnd reading.End) (so : HasWritten start goes.units new before middle) (more : List ℕ) → Grows (held middle) (held after) more → length seen ≤ length (encode_all w.format.units goes.units) + most → IsNear w most bytes start seen (held before) (held after)
     near_end goes so more written few =
         let reads = goes.reads in
         record {
@@ -197,7 +197,7 @@ module _ {U S B O : Type 0} (w : Word U S B) (held : O → Option (List ℕ)) (f
           writes = refl;
         }
 
-    pub to_end : (result : Ended B) (goes : ToEnd reading.End) → IfSome left (λ rest. rest ≡ []) → length seen ≤ length (spell_all w.format.units goes.units) + most → Closed w new result (held middle) (held after) → Ends w More place bytes start most seen left result (held before) (held after)
+    pub to_end : (result : Ended B) (goes : ToEnd reading.End) → IfSome left (λ rest. rest ≡ []) → length seen ≤ length (encode_all w.format.units goes.units) + most → Closed w new result (held middle) (held after) → Ends w More place bytes start most seen left result (held before) (held after)
     to_end (Ok done) goes none few closes =
         let so = has_written start new before middle goes.units goes.leads in
         (none, so.text ++ closes.0, closed goes so closes.0 closes.1, Grows-more (held before) (held middle) (held after) so.text closes.0 so.written closes.2)
@@ -249,11 +249,11 @@ module _ {U S B O : Type 0} (w : Word U S B) (held : O → Option (List ℕ)) (f
     one_more goes so new text step =
         let off = goes.breaks in
         let units = goes.units ++ off.unit ∷ [] in
-        let whole : bytes ≡ spell_all w.format.units units ++ off.rest =
-        goes.begins ∙ ap (λ xs. spell_all w.format.units goes.units ++ xs) off.front ∙ sym (append_assoc (spell_all w.format.units goes.units) (w.format.units.spell off.unit) off.rest)
-        ∙ ap (λ xs. xs ++ off.rest) (flat_map_more w.format.units.spell [] goes.units off.unit)
+        let whole : bytes ≡ encode_all w.format.units units ++ off.rest =
+        goes.begins ∙ ap (λ xs. encode_all w.format.units goes.units ++ xs) off.prefix ∙ sym (append_assoc (encode_all w.format.units goes.units) (w.format.units.encode off.unit) off.rest)
+        ∙ ap (λ xs. xs ++ off.rest) (flat_map_more w.format.units.encode [] goes.units off.unit)
         in (
-          length (spell_all w.format.units units),
+          length (encode_all w.format.units units),
           Err TooLong,
           record {
             units = units;
@@ -262,8 +262,8 @@ module _ {U S B O : Type 0} (w : Word U S B) (held : O → Option (List ℕ)) (f
             so_far = so.text ++ text;
             last = [];
             passes = record {
-              whole = ap (take (length (spell_all w.format.units units))) whole ∙ take_at (spell_all w.format.units units) off.rest (length (spell_all w.format.units units)) refl
-                  ∙ sym (append-nil (spell_all w.format.units units));
+              whole = ap (take (length (encode_all w.format.units units))) whole ∙ take_at (encode_all w.format.units units) off.rest (length (encode_all w.format.units units)) refl
+                  ∙ sym (append-nil (encode_all w.format.units units));
               each = All-push w.format.units.IsLawful goes.units off.unit goes.each off.lawful;
               goes = goes_more w start goes.middle new goes.units off.unit so.text text so.goes step;
             };
@@ -284,12 +284,12 @@ module _ {U S B O : Type 0} (w : Word U S B) (held : O → Option (List ℕ)) (f
           so_far = so.text;
           last = last;
           passes = record { whole = goes.begins; each = goes.each; goes = so.goes };
-          halts = inl (off.unit, off.rest, (off.lawful, off.front), stops);
+          halts = inl (off.unit, off.rest, (off.lawful, off.prefix), stops);
           writes = refl;
         }
 
     -- the whole text of the units before is in the output
-    near_break : {fault : Fault B} (goes : ToBreak fault) (so : HasWritten start goes.units goes.middle before goes.between) (more : List ℕ) → Grows (held goes.between) (held after) more → length seen ≤ length (spell_all w.format.units goes.units) + most
+    near_break : {fault : Fault B} (goes : ToBreak fault) (so : HasWritten start goes.units goes.middle before goes.between) (more : List ℕ) → Grows (held goes.between) (held after) more → length seen ≤ length (encode_all w.format.units goes.units) + most
         → IsNear w most bytes start seen (held before) (held after)
     near_break goes so more written few = record {
       units = goes.units;
@@ -302,7 +302,7 @@ module _ {U S B O : Type 0} (w : Word U S B) (held : O → Option (List ℕ)) (f
       near = few;
     }
 
-    pub to_break : (fault : Fault B) (goes : ToBreak fault) → length seen ≤ length (spell_all w.format.units goes.units) + most → Ends w More place bytes start most seen left (Err fault) (held before) (held after)
+    pub to_break : (fault : Fault B) (goes : ToBreak fault) → length seen ≤ length (encode_all w.format.units goes.units) + most → Ends w More place bytes start most seen left (Err fault) (held before) (held after)
     to_break Write goes few =
         let so = has_written start goes.middle before goes.between goes.units goes.leads in
         let broke = goes.breaks.broken.faults in (
@@ -324,7 +324,7 @@ module _ {U S B O : Type 0} (w : Word U S B) (held : O → Option (List ℕ)) (f
             rest = goes.left;
             state = goes.middle;
             passes = record { whole = goes.begins; each = goes.each; goes = so.goes };
-            allocates = inl (off.unit, off.rest, (off.lawful, off.front), off.broken.faults.0);
+            allocates = inl (off.unit, off.rest, (off.lawful, off.prefix), off.broken.faults.0);
           },
           rw off.broken.faults.1 so.written,
         )

@@ -2,7 +2,7 @@
 use Rattle.std.proofs.Common.{◌≡◌, ◌+◌, ◌<◌, ℕ, List, [], ◌∷◌, ◌++◌, Some, None, Ok, Err, inl, inr, length, take, drop, append-nil, append_assoc, refl, sym, ap, ◌∙◌, subst, arith}
 use Rattle.std.proofs.lemmas.List.{take-append-drop}
 use Rattle.std.proofs.lemmas.List.Elements.{All-head, All-nil}
-use Rattle.wire_records.specs.Grammars.{spell_all}
+use Rattle.wire_records.specs.Grammars.{encode_all}
 use Rattle.wire_records.specs.Reading.{Ending, End, EndsAs, ReadsOn}
 use Rattle.wire_records.specs.Reading as reading
 use Rattle.wire_records.specs.declared.version.Version.{Version}
@@ -45,30 +45,30 @@ module _ {U S B : Type 0} (w : Word U S B) (start : Version → S) (exact : IsEx
   halts_one More place rest state (Ok c) (Ok d) x y a b = (refl, exact.one_close state x y a.1 b.1)
   halts_one More place rest state (Ok d) (Err (Torn n)) x y a b = absurd (end_torn n (one_ending More place rest reading.End (reading.Torn n) a.0 b.0))
   halts_one More place rest state (Ok d) (Err TooLong) x y a b = absurd (end_long (one_ending More place rest reading.End reading.TooLong a.0 b.0))
-  halts_one More place rest state (Ok d) (Err (Stopped why)) x y a (inl (u, more, front, stops)) = absurd (a.0.0 u more front.0 front.1)
+  halts_one More place rest state (Ok d) (Err (Stopped why)) x y a (inl (u, more, prefix, stops)) = absurd (a.0.0 u more prefix.0 prefix.1)
   halts_one More place rest state (Ok d) (Err (Stopped why)) x y a (inr b) = absurd (exact.closes_or_stops state why x y a.1 b.1)
   halts_one More place rest state (Err (Torn n)) (Ok d) x y a b = absurd (end_torn n (sym (one_ending More place rest (reading.Torn n) reading.End a.0 b.0)))
   halts_one More place rest state (Err (Torn n)) (Err (Torn m)) x y a b = (ap (λ (k : ℕ). Err (Torn k)) (same_place n m (one_ending More place rest (reading.Torn n) (reading.Torn m) a.0 b.0)), a.1 ∙ sym b.1)
   halts_one More place rest state (Err (Torn n)) (Err TooLong) x y a b = absurd (torn_long n (one_ending More place rest (reading.Torn n) reading.TooLong a.0 b.0))
-  halts_one More place rest state (Err (Torn n)) (Err (Stopped why)) x y a (inl (u, more, front, stops)) = absurd (a.0.0 u more front.0 front.1)
+  halts_one More place rest state (Err (Torn n)) (Err (Stopped why)) x y a (inl (u, more, prefix, stops)) = absurd (a.0.0 u more prefix.0 prefix.1)
   halts_one More place rest state (Err (Torn n)) (Err (Stopped why)) x y a (inr b) = absurd (end_torn n (sym (one_ending More place rest (reading.Torn n) reading.End a.0 b.0)))
   halts_one More place rest state (Err TooLong) (Ok d) x y a b = absurd (end_long (sym (one_ending More place rest reading.TooLong reading.End a.0 b.0)))
   halts_one More place rest state (Err TooLong) (Err (Torn m)) x y a b = absurd (torn_long m (sym (one_ending More place rest reading.TooLong (reading.Torn m) a.0 b.0)))
   halts_one More place rest state (Err TooLong) (Err TooLong) x y a b = (refl, a.1 ∙ sym b.1)
-  halts_one More place rest state (Err TooLong) (Err (Stopped why)) x y a (inl (u, more, front, stops)) = absurd (a.0.0 u more front.0 front.1)
+  halts_one More place rest state (Err TooLong) (Err (Stopped why)) x y a (inl (u, more, prefix, stops)) = absurd (a.0.0 u more prefix.0 prefix.1)
   halts_one More place rest state (Err TooLong) (Err (Stopped why)) x y a (inr b) = absurd (end_long (sym (one_ending More place rest reading.TooLong reading.End a.0 b.0)))
-  halts_one More place rest state (Err (Stopped why)) (Ok d) x y (inl (u, more, front, stops)) b = absurd (b.0.0 u more front.0 front.1)
+  halts_one More place rest state (Err (Stopped why)) (Ok d) x y (inl (u, more, prefix, stops)) b = absurd (b.0.0 u more prefix.0 prefix.1)
   halts_one More place rest state (Err (Stopped why)) (Ok d) x y (inr a) b = absurd (exact.closes_or_stops state why y x b.1 a.1)
-  halts_one More place rest state (Err (Stopped why)) (Err (Torn m)) x y (inl (u, more, front, stops)) b = absurd (b.0.0 u more front.0 front.1)
+  halts_one More place rest state (Err (Stopped why)) (Err (Torn m)) x y (inl (u, more, prefix, stops)) b = absurd (b.0.0 u more prefix.0 prefix.1)
   halts_one More place rest state (Err (Stopped why)) (Err (Torn m)) x y (inr a) b = absurd (end_torn m (one_ending More place rest reading.End (reading.Torn m) a.0 b.0))
-  halts_one More place rest state (Err (Stopped why)) (Err TooLong) x y (inl (u, more, front, stops)) b = absurd (b.0.0 u more front.0 front.1)
+  halts_one More place rest state (Err (Stopped why)) (Err TooLong) x y (inl (u, more, prefix, stops)) b = absurd (b.0.0 u more prefix.0 prefix.1)
   halts_one More place rest state (Err (Stopped why)) (Err TooLong) x y (inr a) b = absurd (end_long (one_ending More place rest reading.End reading.TooLong a.0 b.0))
-  halts_one More place rest state (Err (Stopped why)) (Err (Stopped other)) x y (inl (u, more, front, stops)) (inl (v, behind, begins, halts)) =
-      let one = exact.readable.units.one u v more behind front.0 begins.0 (sym front.1 ∙ begins.1) in
+  halts_one More place rest state (Err (Stopped why)) (Err (Stopped other)) x y (inl (u, more, prefix, stops)) (inl (v, following, begins, halts)) =
+      let one = exact.readable.units.one u v more following prefix.0 begins.0 (sym prefix.1 ∙ begins.1) in
       let same = exact.one_stop state (Some v) why other x y (subst (λ (z : U). w.Stops state (Some z) why x) one.0 stops) halts in
       (ap (λ (b : B). Err (Stopped b)) same.0, same.1)
-  halts_one More place rest state (Err (Stopped why)) (Err (Stopped other)) x y (inl (u, more, front, stops)) (inr b) = absurd (b.0.0 u more front.0 front.1)
-  halts_one More place rest state (Err (Stopped why)) (Err (Stopped other)) x y (inr a) (inl (v, behind, begins, halts)) = absurd (a.0.0 v behind begins.0 begins.1)
+  halts_one More place rest state (Err (Stopped why)) (Err (Stopped other)) x y (inl (u, more, prefix, stops)) (inr b) = absurd (b.0.0 u more prefix.0 prefix.1)
+  halts_one More place rest state (Err (Stopped why)) (Err (Stopped other)) x y (inr a) (inl (v, following, begins, halts)) = absurd (a.0.0 v following begins.0 begins.1)
   halts_one More place rest state (Err (Stopped why)) (Err (Stopped other)) x y (inr a) (inr b) =
       let same = exact.one_stop state None why other x y a.1 b.1 in
       (ap (λ (b : B). Err (Stopped b)) same.0, same.1)
@@ -97,7 +97,7 @@ module _ {U S B : Type 0} (w : Word U S B) (start : Version → S) (exact : IsEx
   nowhere : (rest : List ℕ) (state : S) (more : List U) (left : List ℕ) (end : S) (text : List ℕ) → IsStill w exact rest state → Passes w rest state more left end text → (more ≡ []) × (left ≡ rest) × (end ≡ state) × (text ≡ [])
   nowhere rest state [] left end text still passes = (refl, sym passes.whole, passes.goes.0, passes.goes.1)
   nowhere rest state (u ∷ more) left end text still passes =
-      absurd (still u (spell_all w.format.units more ++ left) passes.goes.0 passes.goes.1 (All-head w.format.units.IsLawful u more passes.each, passes.whole ∙ append_assoc (w.format.units.spell u) (spell_all w.format.units more) left) passes.goes.3)
+      absurd (still u (encode_all w.format.units more ++ left) passes.goes.0 passes.goes.1 (All-head w.format.units.IsLawful u more passes.each, passes.whole ∙ append_assoc (w.format.units.encode u) (encode_all w.format.units more) left) passes.goes.3)
 
   pub comes_on_one : (More : Type 0) (place : ℕ) (bytes : List ℕ) (s : S) (e f : Ended B) (x y : List ℕ) → ComesOn w More place bytes s e x → ComesOn w More place bytes s f y → (e ≡ f) × (x ≡ y)
   comes_on_one More place bytes s e f x y a b =
@@ -106,22 +106,22 @@ module _ {U S B : Type 0} (w : Word U S B) (start : Version → S) (exact : IsEx
       let on = ahead w exact a.units b.units bytes s a.rest b.rest a.state b.state a.so_far b.so_far a.passes b.passes second in
       let none = nowhere a.rest a.state on.more b.rest b.state on.between first on.onward in
       let units : b.units ≡ a.units = on.parts ∙ ap (λ us. a.units ++ us) none.0 ∙ append-nil a.units in
-      let same = halts_one More (place + length (spell_all w.format.units a.units)) a.rest a.state e f a.last b.last a.halts (rw (units, none.1, none.2) at b.halts) in
+      let same = halts_one More (place + length (encode_all w.format.units a.units)) a.rest a.state e f a.last b.last a.halts (rw (units, none.1, none.2) at b.halts) in
       (same.0, a.writes ∙ ap (λ xs. xs ++ a.last) (sym (on.text ∙ ap (λ xs. a.so_far ++ xs) none.3 ∙ append-nil a.so_far)) ∙ ap (λ xs. b.so_far ++ xs) same.1 ∙ sym b.writes)
 
   -- all bytes, the magic included, result in one end and one text
   comes_one : (bytes : List ℕ) (More : Type 0) (e f : Ended B) (x y : List ℕ) → Comes w start bytes More e x → Comes w start bytes More f y → (e ≡ f) × (x ≡ y)
   comes_one bytes More e f x y (inl a) (inl b) = (a.0 ∙ sym b.0, a.2 ∙ sym b.2)
-  comes_one bytes More e f x y (inl a) (inr (version, body, behind, magic, is, on)) = absurd (a.1 version body magic.0 magic.1)
-  comes_one bytes More e f x y (inr (version, body, behind, magic, is, on)) (inl b) = absurd (b.1 version body magic.0 magic.1)
-  comes_one bytes More e f x y (inr (v, body, behind, magic, is, on)) (inr (u, other, later, begins, also, goes)) =
+  comes_one bytes More e f x y (inl a) (inr (version, body, following, magic, is, on)) = absurd (a.1 version body magic.0 magic.1)
+  comes_one bytes More e f x y (inr (version, body, following, magic, is, on)) (inl b) = absurd (b.1 version body magic.0 magic.1)
+  comes_one bytes More e f x y (inr (v, body, following, magic, is, on)) (inr (u, other, later, begins, also, goes)) =
       let one = exact.readable.magics.one v u body other magic.0 begins.0 (sym magic.1 ∙ begins.1) in
-      let moved : ComesOn w More (length (w.format.magics.spell v)) body (start v) f later =
-      subst (λ (xs : List ℕ). ComesOn w More (length (w.format.magics.spell v)) xs (start v) f later) (sym one.1)
-      (subst (λ (z : Version). ComesOn w More (length (w.format.magics.spell z)) other (start z) f later) (sym one.0) goes.0)
+      let moved : ComesOn w More (length (w.format.magics.encode v)) body (start v) f later =
+      subst (λ (xs : List ℕ). ComesOn w More (length (w.format.magics.encode v)) xs (start v) f later) (sym one.1)
+      (subst (λ (z : Version). ComesOn w More (length (w.format.magics.encode z)) other (start z) f later) (sym one.0) goes.0)
       in
-      let same = comes_on_one More (length (w.format.magics.spell v)) body (start v) e f behind later on.0 moved in
-      (same.0, is ∙ ap (λ (z : Version). w.opens z ++ behind) one.0 ∙ ap (λ xs. w.opens u ++ xs) same.1 ∙ sym also)
+      let same = comes_on_one More (length (w.format.magics.encode v)) body (start v) e f following later on.0 moved in
+      (same.0, is ∙ ap (λ (z : Version). w.opens z ++ following) one.0 ∙ ap (λ xs. w.opens u ++ xs) same.1 ∙ sym also)
 
   pub one_end : OneEnd w start
   one_end limit bytes e f x y a b = comes_one (take limit bytes) (limit < length bytes) e f x y a b
@@ -134,7 +134,7 @@ module _ {U S B : Type 0} (w : Word U S B) (start : Version → S) (exact : IsEx
   -- units that are passed before bytes are cut off are passed with these bytes too
   passes_on : (bytes more : List ℕ) (s : S) (units : List U) (r : List ℕ) (m : S) (x : List ℕ) → Passes w bytes s units r m x → Passes w (bytes ++ more) s units (r ++ more) m x
   passes_on bytes more s units r m x a = record {
-    whole = ap (λ xs. xs ++ more) a.whole ∙ append_assoc (spell_all w.format.units units) r more;
+    whole = ap (λ xs. xs ++ more) a.whole ∙ append_assoc (encode_all w.format.units units) r more;
     each = a.each;
     goes = a.goes;
   }
@@ -152,8 +152,8 @@ module _ {U S B : Type 0} (w : Word U S B) (start : Version → S) (exact : IsEx
 
   -- if the subcommand stopped at a unit of the first bytes, all bytes result in that stop
   stopped_begins : (More : Type 0) (place : ℕ) (bytes more : List ℕ) (s : S) (why : B) (f : Ended B) (begun text : List ℕ) (a : ComesOn w (Unit {0}) place bytes s (Err (Stopped why)) begun) → ComesOn w More place (bytes ++ more) s f text
-      → Halts w (Unit {0}) (place + length (spell_all w.format.units a.units)) a.rest a.state (Err (Stopped why)) a.last → Begins text begun
-  stopped_begins More place bytes more s why f begun text a b (inl (u, behind, front, stops)) =
+      → Halts w (Unit {0}) (place + length (encode_all w.format.units a.units)) a.rest a.state (Err (Stopped why)) a.last → Begins text begun
+  stopped_begins More place bytes more s why f begun text a b (inl (u, following, prefix, stops)) =
       let here : ComesOn w More place (bytes ++ more) s (Err (Stopped why)) begun = record {
         units = a.units;
         rest = a.rest ++ more;
@@ -161,7 +161,7 @@ module _ {U S B : Type 0} (w : Word U S B) (start : Version → S) (exact : IsEx
         so_far = a.so_far;
         last = a.last;
         passes = passes_on bytes more s a.units a.rest a.state a.so_far a.passes;
-        halts = inl (u, behind ++ more, (front.0, ap (λ xs. xs ++ more) front.1 ∙ append_assoc (w.format.units.spell u) behind more), stops);
+        halts = inl (u, following ++ more, (prefix.0, ap (λ xs. xs ++ more) prefix.1 ∙ append_assoc (w.format.units.encode u) following more), stops);
         writes = a.writes;
       } in
       let same = comes_on_one w start exact More place (bytes ++ more) s (Err (Stopped why)) f begun text here b in
@@ -182,34 +182,34 @@ module _ {U S B : Type 0} (w : Word U S B) (start : Version → S) (exact : IsEx
   begins_on More place bytes more s (Err Memory) f begun text a b = absurd a.halts
 
   -- with the opening before it, a prefix is a prefix
-  text_begins : (version other : Version) (begun text behind later : List ℕ) → version ≡ other → begun ≡ w.opens version ++ behind → text ≡ w.opens other ++ later → Begins later behind → Begins text begun
-  text_begins version other begun text behind later same is also begins = (
+  text_begins : (version other : Version) (begun text following later : List ℕ) → version ≡ other → begun ≡ w.opens version ++ following → text ≡ w.opens other ++ later → Begins later following → Begins text begun
+  text_begins version other begun text following later same is also begins = (
     begins.0,
-    also ∙ ap (λ (z : Version). w.opens z ++ later) (sym same) ∙ ap (λ xs. w.opens version ++ xs) begins.1 ∙ sym (append_assoc (w.opens version) behind begins.0) ∙ ap (λ xs. xs ++ begins.0) (sym is),
+    also ∙ ap (λ (z : Version). w.opens z ++ later) (sym same) ∙ ap (λ xs. w.opens version ++ xs) begins.1 ∙ sym (append_assoc (w.opens version) following begins.0) ∙ ap (λ xs. xs ++ begins.0) (sym is),
   )
 
   front_begins : (bytes : List ℕ) (n : ℕ) (More : Type 0) (e f : Ended B) (begun text : List ℕ) → Comes w start (take n bytes) (Unit {0}) e begun → Comes w start bytes More f text → Begins text begun
   front_begins bytes n More e f begun text (inl a) b = (text, ap (λ xs. xs ++ text) (sym a.2))
-  front_begins bytes n More e f begun text (inr (version, body, behind, magic, is, on)) (inl b) =
-      absurd (b.1 version (body ++ drop n bytes) magic.0 (sym (take-append-drop n bytes) ∙ ap (λ xs. xs ++ drop n bytes) magic.1 ∙ append_assoc (w.format.magics.spell version) body (drop n bytes)))
-  front_begins bytes n More e f begun text (inr (v, body, behind, magic, is, on)) (inr (u, other, later, begins, also, goes)) =
-      let whole : bytes ≡ w.format.magics.spell v ++ (body ++ drop n bytes) = sym (take-append-drop n bytes) ∙ ap (λ xs. xs ++ drop n bytes) magic.1 ∙ append_assoc (w.format.magics.spell v) body (drop n bytes) in
+  front_begins bytes n More e f begun text (inr (version, body, following, magic, is, on)) (inl b) =
+      absurd (b.1 version (body ++ drop n bytes) magic.0 (sym (take-append-drop n bytes) ∙ ap (λ xs. xs ++ drop n bytes) magic.1 ∙ append_assoc (w.format.magics.encode version) body (drop n bytes)))
+  front_begins bytes n More e f begun text (inr (v, body, following, magic, is, on)) (inr (u, other, later, begins, also, goes)) =
+      let whole : bytes ≡ w.format.magics.encode v ++ (body ++ drop n bytes) = sym (take-append-drop n bytes) ∙ ap (λ xs. xs ++ drop n bytes) magic.1 ∙ append_assoc (w.format.magics.encode v) body (drop n bytes) in
       let one = exact.readable.magics.one v u (body ++ drop n bytes) other magic.0 begins.0 (sym whole ∙ begins.1) in
-      let moved : ComesOn w More (length (w.format.magics.spell v)) (body ++ drop n bytes) (start v) f later =
-      subst (λ (xs : List ℕ). ComesOn w More (length (w.format.magics.spell v)) xs (start v) f later) (sym one.1)
-      (subst (λ (z : Version). ComesOn w More (length (w.format.magics.spell z)) other (start z) f later) (sym one.0) goes.0)
+      let moved : ComesOn w More (length (w.format.magics.encode v)) (body ++ drop n bytes) (start v) f later =
+      subst (λ (xs : List ℕ). ComesOn w More (length (w.format.magics.encode v)) xs (start v) f later) (sym one.1)
+      (subst (λ (z : Version). ComesOn w More (length (w.format.magics.encode z)) other (start z) f later) (sym one.0) goes.0)
       in
-      text_begins v u begun text behind later one.0 is also (begins_on More (length (w.format.magics.spell v)) body (drop n bytes) (start v) e f behind later on.0 moved)
+      text_begins v u begun text following later one.0 is also (begins_on More (length (w.format.magics.encode v)) body (drop n bytes) (start v) e f following later on.0 moved)
 
   lack_begins : (bytes : List ℕ) (More : Type 0) (f : Ended B) (begun text : List ℕ) → Lacks w start bytes More begun → Comes w start bytes More f text → Begins text begun
-  lack_begins bytes More f begun text (version, body, behind, magic, is, on) (inl b) = absurd (b.1 version body magic.0 magic.1)
-  lack_begins bytes More f begun text (v, body, behind, magic, is, on) (inr (u, other, later, begins, also, goes)) =
+  lack_begins bytes More f begun text (version, body, following, magic, is, on) (inl b) = absurd (b.1 version body magic.0 magic.1)
+  lack_begins bytes More f begun text (v, body, following, magic, is, on) (inr (u, other, later, begins, also, goes)) =
       let one = exact.readable.magics.one v u body other magic.0 begins.0 (sym magic.1 ∙ begins.1) in
-      let moved : ComesOn w More (length (w.format.magics.spell v)) body (start v) f later =
-      subst (λ (xs : List ℕ). ComesOn w More (length (w.format.magics.spell v)) xs (start v) f later) (sym one.1)
-      (subst (λ (z : Version). ComesOn w More (length (w.format.magics.spell z)) other (start z) f later) (sym one.0) goes.0)
+      let moved : ComesOn w More (length (w.format.magics.encode v)) body (start v) f later =
+      subst (λ (xs : List ℕ). ComesOn w More (length (w.format.magics.encode v)) xs (start v) f later) (sym one.1)
+      (subst (λ (z : Version). ComesOn w More (length (w.format.magics.encode z)) other (start z) f later) (sym one.0) goes.0)
       in
-      text_begins v u begun text behind later one.0 is also (passed_begins More (length (w.format.magics.spell v)) body (start v) on.0.units on.0.rest on.0.state behind f later on.0.passes moved)
+      text_begins v u begun text following later one.0 is also (passed_begins More (length (w.format.magics.encode v)) body (start v) on.0.units on.0.rest on.0.state following f later on.0.passes moved)
 
   pub begun_is_a_prefix : BegunIsAPrefix w start
   begun_is_a_prefix limit bytes n e begun text (inl (ended, first)) comes = front_begins (take limit bytes) n (limit < length bytes) ended e begun text first comes

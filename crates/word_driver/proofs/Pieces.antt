@@ -31,14 +31,14 @@ module _ {U S B O : Type 0} (w : Word U S B) (calls : O → Option (List (List �
   BreaksPut old unit fault before after = Breaks w held faults old unit fault before after × PutsLast w calls held old (Some unit) (fault ≡ Write) before after
 
   -- the unit was taken, and its text written
-  pub taken : (front : Front) (bytes : List ℕ) (old new : S) (text : List ℕ) (before after : O) → IsTakenBy w front bytes old new text → Grows (held before) (held after) text → (text ≡ [] → after ≡ before) → faults after ≡ faults before
-      → HandsOver calls held before after ⊥ (piece text) → IsTaken w.format Puts front bytes old new before after
+  pub taken : (prefix : Front) (bytes : List ℕ) (old new : S) (text : List ℕ) (before after : O) → IsTakenBy w prefix bytes old new text → Grows (held before) (held after) text → (text ≡ [] → after ≡ before) → faults after ≡ faults before
+      → HandsOver calls held before after ⊥ (piece text) → IsTaken w.format Puts prefix bytes old new before after
   taken (Taken n) bytes old new text before after is written none quiet hands = record {
     unit = is.unit;
     lawful = is.lawful;
     size = is.size;
     some = is.some;
-    front = is.front;
+    prefix = is.prefix;
     step = (record { text = text; step = is.step; written = written; quiet = quiet }, (text, is.step, hands));
   }
   taken NoBytes bytes old new text before after is written none quiet hands = (record { none = is.0.none; state = is.0.state; output = none is.0.output }, is.1, is.2)
@@ -46,24 +46,24 @@ module _ {U S B O : Type 0} (w : Word U S B) (calls : O → Option (List (List �
   taken Short bytes old new text before after is written none quiet hands = (record { none = is.0.none; state = is.0.state; output = none is.0.output }, is.1, is.2)
 
   -- the write of the unit's text was cut
-  pub cut : (front : Front) (bytes : List ℕ) (old new : S) (text : List ℕ) (before after : O) → IsTakenBy w front bytes old new text → GrowsByPrefix (held before) (held after) text → text ≢ [] → Blames (Unit {0}) (faults before) (faults after)
+  pub cut : (prefix : Front) (bytes : List ℕ) (old new : S) (text : List ℕ) (before after : O) → IsTakenBy w prefix bytes old new text → GrowsByPrefix (held before) (held after) text → text ≢ [] → Blames (Unit {0}) (faults before) (faults after)
       → HandsOver calls held before after (◌≡◌ {A = Fault B} Write Write) (piece text) → BreaksOff w.format BreaksPut bytes old Write before after
-  cut (Taken n) bytes old new text before after is front some cause hands = record {
+  cut (Taken n) bytes old new text before after is prefix some cause hands = record {
     unit = is.unit;
     rest = drop n bytes;
     lawful = is.lawful;
-    front = is.front;
+    prefix = is.prefix;
     broken = (
       record {
-        faults = (text, inl (new, is.step), front);
+        faults = (text, inl (new, is.step), prefix);
         cause = record { later = cause.later; rose = λ e. cause.rose tt; quiet = λ not. absurd (not refl) };
       },
       (text, inr (inl (new, is.step)), hands),
     );
   }
-  cut NoBytes bytes old new text before after is front some cause hands = absurd (some is.0.output)
-  cut Overlong bytes old new text before after is front some cause hands = absurd (some is.0.output)
-  cut Short bytes old new text before after is front some cause hands = absurd (some is.0.output)
+  cut NoBytes bytes old new text before after is prefix some cause hands = absurd (some is.0.output)
+  cut Overlong bytes old new text before after is prefix some cause hands = absurd (some is.0.output)
+  cut Short bytes old new text before after is prefix some cause hands = absurd (some is.0.output)
 
 -- the fault of something that happened may be blamed on it
 pub blamed : {P : Type 0} (before now : ℕ) → P → Blames P before now → Blames (Unit {0}) before now

@@ -2,7 +2,7 @@
 use Rattle.std.proofs.Common.{◌≡◌, ◌≢◌, ◌+◌, ◌≤◌, ℕ, List, [], ◌∷◌, ◌++◌, length, Option, Some, None, Result, Ok, Err, OnOk, IsErr, inl, inr, append-nil, refl, sym, ap, ◌∙◌, arith}
 use Rattle.flow_io.specs.Streams.{Grows, Called, HandsOver}
 use Rattle.flow_io.proofs.Calls.{hands_nothing, hands_more, hands_alike}
-use Rattle.wire_records.specs.Grammars.{spell_all}
+use Rattle.wire_records.specs.Grammars.{encode_all}
 use Rattle.wire_records.specs.Reading as reading
 use Rattle.wire_records.specs.declared.version.Version.{Version}
 use Rattle.file_units.specs.Units.{Leads, GoesToEnd, GoesToBreak}
@@ -54,14 +54,14 @@ module _ {U S B O : Type 0} (w : Word U S B) (calls : O → Option (List (List �
       unit = goes.breaks.unit;
       rest = goes.breaks.rest;
       lawful = goes.breaks.lawful;
-      front = goes.breaks.front;
+      prefix = goes.breaks.prefix;
       broken = goes.breaks.broken.0;
     };
   }
 
   -- with or without what was handed over, it breaks off after the same units
   pub break_few : (bytes : List ℕ) (fault : Fault B) (start : S) (before after : O) (goes : GoesToBreak w.format (Puts w calls held faults) (BreaksPut w calls held faults) bytes fault start before after) (seen : List ℕ) (room most : ℕ) → room ≡ most
-      → length seen ≤ length (spell_all w.format.units goes.units) + (room + 1) → length seen ≤ length (spell_all w.format.units (break_writes bytes fault start before after goes).units) + (most + 1)
+      → length seen ≤ length (encode_all w.format.units goes.units) + (room + 1) → length seen ≤ length (encode_all w.format.units (break_writes bytes fault start before after goes).units) + (most + 1)
   unfolding break_writes
   break_few bytes fault start before after goes seen room most same few = omega (arith, same, few)
 

@@ -3,7 +3,7 @@ use Rattle.std.proofs.Common.{◌≡◌, ◌+◌, ◌<◌, ℕ, List, [], ◌∷
 use Rattle.std.proofs.lemmas.Bool.{cases_lt}
 use Rattle.std.proofs.lemmas.List.{flat_map_more}
 use Rattle.std.proofs.lemmas.List.Elements.{All-nil, All-push, All-head, All-tail}
-use Rattle.wire_records.specs.Grammars.{spell_all}
+use Rattle.wire_records.specs.Grammars.{encode_all}
 use Rattle.wire_records.specs.Reading.{Ending, End}
 use Rattle.wire_records.specs.Reading as reading
 use Rattle.wire_records.specs.declared.version.Version.{Version}
@@ -20,11 +20,11 @@ module _ {U S B : Type 0} (w : Word U S B) (start : Version → S) (exact : IsEx
   abbrev pub HasEnd : Type 0
   HasEnd = (ended : Ended B) × (text : List ℕ) × ComesOn w More place body (start version) ended text
 
-  ends : (ended : Ended B) (units : List U) (rest : List ℕ) (s : S) (x last : List ℕ) → Passes w body (start version) units rest s x → Halts w More (place + length (spell_all w.format.units units)) rest s ended last → HasEnd
+  ends : (ended : Ended B) (units : List U) (rest : List ℕ) (s : S) (x last : List ℕ) → Passes w body (start version) units rest s x → Halts w More (place + length (encode_all w.format.units units)) rest s ended last → HasEnd
   ends ended units rest s x last passes halts = (ended, x ++ last, record { units = units; rest = rest; state = s; so_far = x; last = last; passes = passes; halts = halts; writes = refl })
 
   -- there is an end after all complete units
-  ends_by : (ending : Ending) (units : List U) (rest : List ℕ) (s : S) (x : List ℕ) → Passes w body (start version) units rest s x → AtEnd w More (place + length (spell_all w.format.units units)) rest ending → IsNotDenied HasEnd
+  ends_by : (ending : Ending) (units : List U) (rest : List ℕ) (s : S) (x : List ℕ) → Passes w body (start version) units rest s x → AtEnd w More (place + length (encode_all w.format.units units)) rest ending → IsNotDenied HasEnd
   ends_by (reading.Torn n) units rest s x passes at = not_denied (ends (Err (Torn n)) units rest s x [] passes (at, refl))
   ends_by reading.TooLong units rest s x passes at = not_denied (ends (Err TooLong) units rest s x [] passes (at, refl))
   ends_by End units rest s x passes at =
@@ -34,22 +34,22 @@ module _ {U S B : Type 0} (w : Word U S B) (start : Version → S) (exact : IsEx
       ]) (next.some_close version units s x passes.goes)
 
   -- there is an end, unit after unit
-  goes_to_end : (ending : Ending) (units done todo : List U) (rest : List ℕ) (s : S) (x : List ℕ) → units ≡ done ++ todo → All w.format.units.IsLawful todo → AtEnd w More (place + length (spell_all w.format.units units)) rest ending
-      → Passes w body (start version) done (spell_all w.format.units todo ++ rest) s x → IsNotDenied HasEnd
+  goes_to_end : (ending : Ending) (units done todo : List U) (rest : List ℕ) (s : S) (x : List ℕ) → units ≡ done ++ todo → All w.format.units.IsLawful todo → AtEnd w More (place + length (encode_all w.format.units units)) rest ending
+      → Passes w body (start version) done (encode_all w.format.units todo ++ rest) s x → IsNotDenied HasEnd
   goes_to_end ending units done [] rest s x parts lawful at passes =
       let same : units ≡ done = parts ∙ append-nil done in
-      ends_by ending done rest s x passes (subst (λ (us : List U). AtEnd w More (place + length (spell_all w.format.units us)) rest ending) same at)
+      ends_by ending done rest s x passes (subst (λ (us : List U). AtEnd w More (place + length (encode_all w.format.units us)) rest ending) same at)
   goes_to_end ending units done (u ∷ todo) rest s x parts lawful at passes =
       let g = w.format.units in
       let first = All-head g.IsLawful u todo lawful in
-      let front : spell_all g (u ∷ todo) ++ rest ≡ g.spell u ++ (spell_all g todo ++ rest) = append_assoc (g.spell u) (spell_all g todo) rest in
+      let prefix : encode_all g (u ∷ todo) ++ rest ≡ g.encode u ++ (encode_all g todo ++ rest) = append_assoc (g.encode u) (encode_all g todo) rest in
       follows (λ found. elim found [
         | inl (t, y, step) ↦ goes_to_end ending units (done ++ u ∷ []) todo rest t (x ++ y) (parts ∙ sym (append_assoc done (u ∷ []) todo)) (All-tail g.IsLawful u todo lawful) at (record {
-          whole = passes.whole ∙ ap (λ xs. spell_all g done ++ xs) front ∙ sym (append_assoc (spell_all g done) (g.spell u) (spell_all g todo ++ rest)) ∙ ap (λ xs. xs ++ (spell_all g todo ++ rest)) (flat_map_more g.spell [] done u);
+          whole = passes.whole ∙ ap (λ xs. encode_all g done ++ xs) prefix ∙ sym (append_assoc (encode_all g done) (g.encode u) (encode_all g todo ++ rest)) ∙ ap (λ xs. xs ++ (encode_all g todo ++ rest)) (flat_map_more g.encode [] done u);
           each = All-push g.IsLawful done u passes.each first;
           goes = goes_more w (start version) s t done u x y passes.goes step;
         })
-        | inr (why, last, stops) ↦ not_denied (ends (Err (Stopped why)) done (spell_all g (u ∷ todo) ++ rest) s x last passes (inl (u, spell_all g todo ++ rest, (first, front), stops)))
+        | inr (why, last, stops) ↦ not_denied (ends (Err (Stopped why)) done (encode_all g (u ∷ todo) ++ rest) s x last passes (inl (u, encode_all g todo ++ rest, (first, prefix), stops)))
       ]) (next.some_step version done s x u passes.goes first)
 
   pub comes_to_some : More ⊎ (¬ More) → IsNotDenied HasEnd
@@ -66,7 +66,7 @@ module _ {U S B : Type 0} (w : Word U S B) (start : Version → S) (exact : IsEx
   some_end limit bytes none =
       elim (exact.readable.magics.told (take limit bytes)) [
         | inl (version, body, magic) ↦
-            comes_to_some w start exact next version (limit < length bytes) (length (w.format.magics.spell version)) body (more_or_not limit (length bytes))
+            comes_to_some w start exact next version (limit < length bytes) (length (w.format.magics.encode version)) body (more_or_not limit (length bytes))
             (λ found. none found.0 (w.opens version ++ found.1) (inr (version, body, found.1, magic, refl, (found.2, kept version found.2.units found.2.state found.2.so_far found.2.passes.each found.2.passes.goes))))
         | inr not ↦ none (Err NotFlow) [] (inl (refl, not, refl))
       ]

@@ -127,7 +127,7 @@ module _ {U S B : Type 0} (w : Word U S B) (start : Version → S) (exact : IsEx
     source = record { before = before; after = after; faults = faults; faults_after = later }
 
     short_of : (bytes : List ℕ) → length bytes < 8 → BeginsWithNone w.format.magics bytes
-    short_of bytes short version rest lawful e = omega (arith, short, ap length e, length-append (w.format.magics.spell version) rest, exact.magic version)
+    short_of bytes short version rest lawful e = omega (arith, short, ap length e, length-append (w.format.magics.encode version) rest, exact.magic version)
 
     held_within : length window.held ≤ limit
     held_within =

@@ -12,7 +12,7 @@ use Rattle.word_driver.specs.Does.{task}
 pub record IsExact {U S B : Type 0} (w : Word U S B) : Type 0 where
   pub readable : IsReadable w.format
   pub short : ¬ w.format.IsOverlong []
-  pub magic : (version : Version) → length (w.format.magics.spell version) ≡ 8
+  pub magic : (version : Version) → length (w.format.magics.encode version) ≡ 8
   pub longest : HasLongest w.format w.longest
   pub some : 8 ≤ w.longest
   pub few : w.longest ≤ 2 ^ 20

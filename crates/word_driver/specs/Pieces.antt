@@ -33,4 +33,4 @@ module _ {U S B : Type 0} (w : Word U S B) where
 
   -- by the subcommand's start: no piece, or one for the opening, one for the text of each unit, and one for the last text
   abbrev pub IsByPieces : (Version → S) → List (List ℕ) → Type 0
-  IsByPieces start pieces = (pieces ≡ []) ⊎ ((version : Version) × (behind : List (List ℕ)) × GoesOnBy (start version) behind × (pieces ≡ piece (w.opens version) ++ behind))
+  IsByPieces start pieces = (pieces ≡ []) ⊎ ((version : Version) × (following : List (List ℕ)) × GoesOnBy (start version) following × (pieces ≡ piece (w.opens version) ++ following))

@@ -4,7 +4,7 @@ use Rattle.flow_io.specs.Faults.{Blames}
 use Rattle.flow_io.specs.Streams.{Takes, Grows, GrowsByPrefix, HandsOver}
 use Rattle.flow_io.specs.Windows.{WindowState}
 use Rattle.flow_io.specs.Changes.{Change}
-use Rattle.wire_records.specs.Grammars.{BeginsWith, BeginsWithNone, spell_all}
+use Rattle.wire_records.specs.Grammars.{BeginsWith, BeginsWithNone, encode_all}
 use Rattle.wire_records.specs.declared.version.Version.{Version}
 use Rattle.file_units.specs.declared.units.Front.{Front}
 use Rattle.file_units.specs.Units.{IsTaken}
@@ -32,7 +32,7 @@ IsOpened w start bytes state IsReady text false = BeginsWithNone w.format.magics
 
 -- the unit at the beginning of the bytes was taken, and the buffer holds its text
 abbrev pub IsTakenBy : {U S B : Type 0} → Word U S B → Front → List ℕ → S → S → List ℕ → Type 0
-IsTakenBy w front bytes old new text = IsTaken w.format (λ old unit new (before after : List ℕ). w.Steps old unit new after) front bytes old new [] text
+IsTakenBy w prefix bytes old new text = IsTaken w.format (λ old unit new (before after : List ℕ). w.Steps old unit new after) prefix bytes old new [] text
 
 -- what the buffer holds if a subcommand stops early, at a unit or at the end: nothing is said of it if memory ran out
 abbrev pub HaltsWith : {U S B : Type 0} → Word U S B → S → Option U → Halt B → List ℕ → Type 0
@@ -44,7 +44,7 @@ pub record HaltsAt {U S B : Type 0} (w : Word U S B) (bytes : List ℕ) (old : S
   pub unit : U
   pub rest : List ℕ
   pub lawful : w.format.units.IsLawful unit
-  pub front : bytes ≡ w.format.units.spell unit ++ rest
+  pub prefix : bytes ≡ w.format.units.encode unit ++ rest
   pub halts : HaltsWith w old (Some unit) why text
 
 -- the subcommand closed at the end of the input, or stopped early there
@@ -94,7 +94,7 @@ module _ {U S B : Type 0} (w : Word U S B) where
     pub more : List ℕ
     pub passes : Passes w bytes start units left state text
     pub written : Grows before after (text ++ more)
-    pub near : length seen ≤ length (spell_all w.format.units units) + most
+    pub near : length seen ≤ length (encode_all w.format.units units) + most
 
   -- how it ended from a place on and what it wrote, by the end, the bytes that were seen, and the bytes left in the source
   module _ (More : Type 0) (place : ℕ) (bytes : List ℕ) (start : S) (most : ℕ) (seen : List ℕ) (left : Option (List ℕ)) where

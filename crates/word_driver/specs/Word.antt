@@ -1,6 +1,6 @@
 -- A subcommand of the program as a value, and what bytes result in under it.
 use Rattle.std.specs.Prelude.{◌≡◌, ◌⊎◌, ◌+◌, ℕ, List, [], ◌∷◌, ◌++◌, length, All, Option, Some, None, Ok, Err}
-use Rattle.wire_records.specs.Grammars.{BeginsWith, BeginsWithNone, spell_all}
+use Rattle.wire_records.specs.Grammars.{BeginsWith, BeginsWithNone, encode_all}
 use Rattle.wire_records.specs.Reading.{Format, Ending, EndsAs}
 use Rattle.wire_records.specs.Reading as reading
 use Rattle.wire_records.specs.declared.version.Version.{Version}
@@ -49,7 +49,7 @@ module _ {U S B : Type 0} (w : Word U S B) where
 
   -- The bytes from this place on are complete units and a rest. The units lead from a state to another, and this is their text.
   pub record Passes (bytes : List ℕ) (start : S) (units : List U) (rest : List ℕ) (state : S) (text : List ℕ) : Type 0 where
-    pub whole : bytes ≡ spell_all w.format.units units ++ rest
+    pub whole : bytes ≡ encode_all w.format.units units ++ rest
     pub each : All w.format.units.IsLawful units
     pub goes : Goes start units state text
 
@@ -61,7 +61,7 @@ module _ {U S B : Type 0} (w : Word U S B) where
     pub so_far : List ℕ
     pub last : List ℕ
     pub passes : Passes bytes start units rest state so_far
-    pub halts : Halts More (place + length (spell_all w.format.units units)) rest state ended last
+    pub halts : Halts More (place + length (encode_all w.format.units units)) rest state ended last
     pub writes : text ≡ so_far ++ last
 
   -- memory may run out after the units that were taken, and this is their text
@@ -71,13 +71,13 @@ module _ {U S B : Type 0} (w : Word U S B) where
     pub state : S
     pub passes : Passes bytes start units rest state text
     pub allocates : ((unit : U) × (more : List ℕ) × BeginsWith w.format.units rest unit more × w.Allocates state (Some unit))
-        ⊎ (AtEnd More (place + length (spell_all w.format.units units)) rest reading.End × w.Allocates state None)
+        ⊎ (AtEnd More (place + length (encode_all w.format.units units)) rest reading.End × w.Allocates state None)
 
   -- The bytes begin with a magic, and `Holds` is true of its version, its length, the rest, and the text after the opening.
   abbrev pub Opens : (Version → ℕ → List ℕ → List ℕ → Type 0) → List ℕ → List ℕ → Type 0
   Opens Holds bytes text =
-      (version : Version) × (body : List ℕ) × (behind : List ℕ) × BeginsWith w.format.magics bytes version body
-      × (text ≡ w.opens version ++ behind) × Holds version (length (w.format.magics.spell version)) body behind
+      (version : Version) × (body : List ℕ) × (following : List ℕ) × BeginsWith w.format.magics bytes version body
+      × (text ≡ w.opens version ++ following) × Holds version (length (w.format.magics.encode version)) body following
 
   -- with the subcommand's start in a file of each version
   module _ (start : Version → S) where
@@ -85,15 +85,15 @@ module _ {U S B : Type 0} (w : Word U S B) where
     abbrev pub Comes : List ℕ → Type 0 → Ended B → List ℕ → Type 0
     Comes bytes More ended text =
         ((ended ≡ Err NotFlow) × BeginsWithNone w.format.magics bytes × (text ≡ []))
-        ⊎ Opens (λ version place body behind. (on : ComesOn More place body (start version) ended behind) × w.Keeps on.units on.state on.so_far) bytes text
+        ⊎ Opens (λ version place body following. (on : ComesOn More place body (start version) ended following) × w.Keeps on.units on.state on.so_far) bytes text
 
     -- the first n bytes are a magic and complete units, and this is the text of the opening and the units
     abbrev pub Passed : List ℕ → ℕ → List ℕ → Type 0
     Passed bytes n text =
-        Opens (λ version place body behind. (units : List U) × (rest : List ℕ) × (state : S) × Passes body (start version) units rest state behind × w.Keeps units state behind
-        × (n ≡ place + length (spell_all w.format.units units))) bytes text
+        Opens (λ version place body following. (units : List U) × (rest : List ℕ) × (state : S) × Passes body (start version) units rest state following × w.Keeps units state following
+        × (n ≡ place + length (encode_all w.format.units units))) bytes text
 
     -- memory may run out, and this is the text of the opening and the units before
     abbrev pub Lacks : List ℕ → Type 0 → List ℕ → Type 0
     Lacks bytes More text =
-        Opens (λ version place body behind. (on : LacksOn More place body (start version) behind) × w.Keeps on.units on.state behind) bytes text
+        Opens (λ version place body following. (on : LacksOn More place body (start version) following) × w.Keeps on.units on.state following) bytes text

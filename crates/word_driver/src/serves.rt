@@ -53,9 +53,9 @@ pub trait ServesWord {
         requires room { ROOM ≤ vec_capacity text.old }
         ensures room { vec_capacity text.old ≤ vec_capacity text.new }
         ensures taken { IfOk result
-            (λ front. IsTakenBy word front bytes.now (state self.old) (state self.new) text.new.items) }
+            (λ prefix. IsTakenBy word prefix bytes.now (state self.old) (state self.new) text.new.items) }
         ensures stays { IfOk result
-            (λ front. (left : ℕ) → length bytes.now ≤ left → is_ready self.old left → StaysReady (is_ready self.new) front left) }
+            (λ prefix. (left : ℕ) → length bytes.now ≤ left → is_ready self.old left → StaysReady (is_ready self.new) prefix left) }
         ensures halted { IfErr result (λ halt. HaltsAt word bytes.now (state self.old) halt text.new.items) };
 
     /// Closes it at the end of the input, and puts its last text into the buffer.

@@ -75,8 +75,8 @@ impl<K: Sink, W: ServesWord + Drop> TakesUnits<K> for Writing<W> {
     fn take(&mut self, bytes: &[u8], out: &mut K) -> Result<Front, Fault<W::Stop>> {
         self.text.clear();
         match self.word.take(bytes, &mut self.text) {
-            Ok(front) => match put(out, &self.text) {
-                Ok(()) => Ok(front),
+            Ok(prefix) => match put(out, &self.text) {
+                Ok(()) => Ok(prefix),
                 Err(_) => Err(Fault::Write),
             },
             Err(halt) => Err(halt_with(halt, out, &self.text)),

@@ -1,4 +1,4 @@
-use Rattle.flow_laws.proofs.Fronts.{begun_is_a_prefix}
+use Rattle.flow_laws.proofs.Prefixes.{begun_is_a_prefix}
 use Rattle.flow_laws.proofs.begun_is_a_prefix.Goals as goal
 
 pub returns : goal.returns

@@ -6,7 +6,7 @@ use Rattle.std.proofs.lemmas.List.{take_rest}
 use Rattle.std.proofs.lemmas.Option.{same_Some}
 use Rattle.wire_fields.specs.Numbers.{signed, IsSigned}
 use Rattle.byte_places.specs.Places.{signed_at}
-use Rattle.byte_places.proofs.Digits.{signed_spelled_16, begins_with}
+use Rattle.byte_places.proofs.Digits.{signed_encoded_16, begins_with}
 use Rattle.byte_places.proofs.numbers.i128_at.Goals as goal
 
 pub returns : goal.returns
@@ -14,7 +14,7 @@ returns c =
     let place = c.args.place in
     let bytes = c.args.bytes.now in
     let small = All-from_get_or (λ b. b < 256) bytes 0 (λ i there. omega (arith, c.type_inv.bytes i)) in
-    let at = signed_spelled_16 place bytes c.requires small in
+    let at = signed_encoded_16 place bytes c.requires small in
     let begins = begins_with (IsSigned 16) (signed 16) 16 place bytes c.new.result (signed_at w128 place bytes) at (c.new.ensures ∙ take_rest bytes place) in
     let read = c.take_i128.ensures.again (signed_at w128 place bytes) (drop 16 (drop place bytes)) at.fits begins in
     let fits : FitsSigned w128 c.unwrap.result = search rules in

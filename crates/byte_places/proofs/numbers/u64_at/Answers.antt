@@ -4,7 +4,7 @@ use Rattle.std.proofs.lemmas.List.{take_rest}
 use Rattle.std.proofs.lemmas.Option.{same_Some}
 use Rattle.wire_fields.specs.Numbers.{unsigned, IsUnsigned}
 use Rattle.byte_places.specs.Places.{unsigned_at}
-use Rattle.byte_places.proofs.Digits.{unsigned_spelled, begins_with}
+use Rattle.byte_places.proofs.Digits.{unsigned_encoded, begins_with}
 use Rattle.byte_places.proofs.numbers.u64_at.Goals as goal
 
 pub returns : goal.returns
@@ -12,7 +12,7 @@ returns c =
     let place = c.args.place in
     let bytes = c.args.bytes.now in
     let small = All-from_get_or (λ b. b < 256) bytes 0 (λ i there. omega (arith, c.type_inv.bytes i)) in
-    let at = unsigned_spelled 8 place bytes c.requires small in
+    let at = unsigned_encoded 8 place bytes c.requires small in
     let begins = begins_with (IsUnsigned 8) (unsigned 8) 8 place bytes c.new.result (unsigned_at 8 place bytes) at (c.new.ensures ∙ take_rest bytes place) in
     let read = c.take_u64.ensures.again (unsigned_at 8 place bytes) (drop 8 (drop place bytes)) at.fits begins in
     same_Some _ _ (sym c.unwrap.ensures ∙ read.0)

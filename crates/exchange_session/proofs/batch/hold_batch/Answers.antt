@@ -15,7 +15,7 @@ returns-clause-served c =
     let answer : Answer flow_orders.Outcome = Batch (old.batches + 1) outcome in
     let step : Step IsReadAs IsCanonicalOutcome old c.args.asked.now answer c.settle.new.self = record {
       read = Ok (RunBatch c.args.budget);
-      spelled = c.requires.read;
+      encoded = c.requires.read;
       served = record { first = None; refused = c.requires.first; answered = (outcome, c.in_ok-outcome.ensures.own, (refl, rw (c.orders.follows.holds-at-none, c.outcome_for.ensures.stays) at c.settle.ensures)) };
     } in (
       _,
@@ -23,7 +23,7 @@ returns-clause-served c =
         answer = answer;
         step = step;
         fits = pair_fits old c.args.asked.now answer c.settle.new.self (rw c.outcome_for.ensures.stays at c.orders.ensures.consistent) c.requires.short step;
-        spelled = refl;
+        encoded = refl;
       },
       rw (c.batches.ensures.value, c.orders.ensures.value, c.outcome_for.ensures.stays) at c.in_ok-write_outcome.ensures.written,
     )

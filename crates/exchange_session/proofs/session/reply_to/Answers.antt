@@ -9,13 +9,13 @@ use Rattle.exchange_session.proofs.session.reply_to.Goals as goal
 pub returns-in-Err-batch_allowed-clause-step : goal.returns-in-Err-batch_allowed-clause-step
 returns-in-Err-batch_allowed-clause-step c = record {
   read = Ok (RunBatch c.in-Ok-RunBatch.budget);
-  spelled = rw c.in-Ok-RunBatch.field-0-is at c.in-Ok-RunBatch.ensures.command;
+  encoded = rw c.in-Ok-RunBatch.field-0-is at c.in-Ok-RunBatch.ensures.command;
   served = record { first = Some c.in-Err-batch_allowed.refusal; refused = c.in-Err-batch_allowed.ensures.first; answered = (refl, refl) };
 }
 
 pub returns-in_ok-apply-in-Ok : goal.returns-in_ok-apply-in-Ok
 returns-in_ok-apply-in-Ok c = record {
-  step = record { read = Ok (command_of c.in-Ok.command); spelled = c.in-Ok.ensures.command; served = plain_by_any IsCanonicalOutcome _ (command_of c.in-Ok.command) _ _ c.in_ok-apply-in-Ok.ensures.served };
+  step = record { read = Ok (command_of c.in-Ok.command); encoded = c.in-Ok.ensures.command; served = plain_by_any IsCanonicalOutcome _ (command_of c.in-Ok.command) _ _ c.in_ok-apply-in-Ok.ensures.served };
   stays = tt;
   wanted = tt;
 }
@@ -23,4 +23,4 @@ returns-in_ok-apply-in-Ok c = record {
 pub returns-in-Err-clause-step : goal.returns-in-Err-clause-step
 returns-in-Err-clause-step c =
     let why = c.in-Err.ensures.fault in
-    record { read = Err why.0; spelled = why.1; served = (ap (λ refusal. Plain (Refused refusal)) why.2, refl) }
+    record { read = Err why.0; encoded = why.1; served = (ap (λ refusal. Plain (Refused refusal)) why.2, refl) }

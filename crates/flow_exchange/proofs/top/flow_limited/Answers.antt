@@ -18,22 +18,22 @@ written (Err e) before after line faults now grows cause still = absurd (still (
 
 -- a prefix of a line was written in any case
 cut : (result : Result (Unit {0}) WriteFailed) (before after : Option (List ℕ)) (line : List ℕ) → OnOk result (Grows before after line) → OnErr result (GrowsByPrefix before after line) → GrowsByPrefix before after line
-cut (Ok x) before after line grows front = GrowsByPrefix-whole before after line grows
-cut (Err e) before after line grows front = front
+cut (Ok x) before after line grows prefix = GrowsByPrefix-whole before after line grows
+cut (Err e) before after line grows prefix = prefix
 
 pub returns-clause-serves : goal.returns-clause-serves
 returns-clause-serves g c =
     let noted = written c.write_line.result (g.N.Sink.held c.args.notes.now) (g.N.Sink.held c.write_line.new.notes) (line_of c.match-form_of.status) (g.N.Sink.faults c.args.notes.now) (g.N.Sink.faults c.write_line.new.notes) c.write_line.ensures.written c.write_line.ensures.cause in
-    let front = cut c.write_line.result (g.N.Sink.held c.args.notes.now) (g.N.Sink.held c.write_line.new.notes) (line_of c.match-form_of.status) c.write_line.ensures.written c.write_line.ensures.cut in
+    let prefix = cut c.write_line.result (g.N.Sink.held c.args.notes.now) (g.N.Sink.held c.write_line.new.notes) (line_of c.match-form_of.status) c.write_line.ensures.written c.write_line.ensures.cut in
     elim c.match-form_of.branch [
       | in-Some w ↦
           let form = w.do_form-status.ensures in
           let line = rw w.status-is at noted in
-          let some = rw w.status-is at front in
+          let some = rw w.status-is at prefix in
           rw (w.status-is, w.source-is, w.out-is) (serves_form c.args.limit _ w.in-Some.form w.do_form-status.result _ _ w.in-Some.ensures.form _ form.asked form.does line some)
       | in-None w ↦
           let line = rw w.status-is at noted in
-          let some = rw w.status-is at front in
+          let some = rw w.status-is at prefix in
           rw (w.status-is, w.source-is, w.out-is) (serves_none c.args.limit _ _ _ _ w.in-None.ensures.none line some)
     ]
 

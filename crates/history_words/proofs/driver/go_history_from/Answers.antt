@@ -5,7 +5,7 @@ use Rattle.word_driver.proofs.Pieces.{blamed}
 use Rattle.word_driver.proofs.Tasks.{does_not_begin}
 use Rattle.journal_words.specs.Watching.{over_pairs}
 use Rattle.history_words.specs.Histories.{at_first, over_history_from}
-use Rattle.history_words.proofs.Behind.{does_behind, does_not_flow, does_not_restore, does_not_read, does_not_open, was_read, may_run_out, wants_opening}
+use Rattle.history_words.proofs.After.{does_after, does_not_flow, does_not_restore, does_not_read, does_not_open, was_read, may_run_out, wants_opening}
 use Rattle.history_words.proofs.driver.go_history_from.Goals as goal
 
 pub returns-in-Err : goal.returns-in-Err
@@ -66,9 +66,9 @@ returns g c =
     record {
       does = λ starts made.
           let goes = rw (c.over-pairs.ensures.state, c.in-Ok-begin.ensures.market, made c.in-Ok-read_start.market c.in-Ok-begin.on c.in-Ok-begin.ensures.made) at c.go_on.ensures.goes in
-          let done = does_behind (over_pairs g.P.OnPair.watch) (at_first (record { starts = starts; opens = g.H.OnHistory.opens c.args.history; Allocates = g.H.OnHistory.allocates c.args.history })) c.requires.exact c.args.limit (g.S.Source.rest c.args.source.now) (g.S.Source.rest c.read_start.new.source) (g.S.Source.rest c.go_on.new.source)
+          let done = does_after (over_pairs g.P.OnPair.watch) (at_first (record { starts = starts; opens = g.H.OnHistory.opens c.args.history; Allocates = g.H.OnHistory.allocates c.args.history })) c.requires.exact c.args.limit (g.S.Source.rest c.args.source.now) (g.S.Source.rest c.read_start.new.source) (g.S.Source.rest c.go_on.new.source)
           (g.S.Source.faults c.args.source.now) (g.S.Source.faults c.read_start.new.source) (g.S.Source.faults c.go_on.new.source) c.read_start.new.window c.in-Ok-read_start.market c.go_on.result _
           (g.K.Sink.held c.args.out.now) (g.K.Sink.held c.put.new.out) (g.K.Sink.held c.go_on.new.out) (g.K.Sink.faults c.args.out.now) (g.K.Sink.faults c.put.new.out) (g.K.Sink.faults c.go_on.new.out)
           start.finds (start.same.0 ∙ same) written (c.in-Ok-put.ensures.cause.quiet false≢true) goes (start.cause.quiet (was_read c.in-Ok-read_start.market)) c.go_on.ensures.reads c.go_on.ensures.writes in
-          rw (← c.ended_behind.ensures) at done;
+          rw (← c.ended_after.ensures) at done;
     }

@@ -4,8 +4,8 @@ use Rattle.journal_disk.proofs.Pieces.{part_read}
 use Rattle.journal_disk.proofs.reading.number_at.Goals as goal
 
 over : (content : Option (List ℕ)) (place number : ℕ) (got : List ℕ) → IfSome content (λ bytes. got ≡ take 4 (drop place bytes)) → got ≡ unsigned 4 number → IfSome content (λ bytes. take 4 (drop place bytes) ≡ unsigned 4 number)
-over None place number got reads spells = tt
-over (Some bytes) place number got reads spells = sym reads ∙ spells
+over None place number got reads encodes = tt
+over (Some bytes) place number got reads encodes = sym reads ∙ encodes
 
 pub returns-clause-number : goal.returns-clause-number
 returns-clause-number g c =

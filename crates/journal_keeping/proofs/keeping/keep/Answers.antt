@@ -54,11 +54,11 @@ returns-in-Err-clause-unasked g c = λ refusal. (asked_refused _ c.in-Err.fault 
 -- ---- records were served
 
 pub serve_on-requires-clause-longest : goal.serve_on-requires-clause-longest
-serve_on-requires-clause-longest g c = subst (HasLongest commands) (sym c.in-Ok.ensures.begun.behind.room) run_is_exact.longest
+serve_on-requires-clause-longest g c = subst (HasLongest commands) (sym c.in-Ok.ensures.begun.following.room) run_is_exact.longest
 
 pub serve_on-requires-clause-kept : goal.serve_on-requires-clause-kept
 serve_on-requires-clause-kept g c =
-    can_serve (g.D.Disk.state c.args.disk.now).content (g.D.Disk.state c.begin.new.disk).content c.in-Ok.ensures.begun.begin c.in-Ok.ensures.begun.input c.in-Ok.begun.keeper.session c.in-Ok.begun.keeper.appender (g.D.Disk.state c.begin.new.disk) c.in-Ok.ensures.begun.behind.magic.0 c.in-Ok.ensures.told c.in-Ok.ensures.begun.begun
+    can_serve (g.D.Disk.state c.args.disk.now).content (g.D.Disk.state c.begin.new.disk).content c.in-Ok.ensures.begun.begin c.in-Ok.ensures.begun.input c.in-Ok.begun.writer.session c.in-Ok.begun.writer.appender (g.D.Disk.state c.begin.new.disk) c.in-Ok.ensures.begun.following.magic.0 c.in-Ok.ensures.told c.in-Ok.ensures.begun.begun
 
 pub returns-in-Ok-clause-keeps : goal.returns-in-Ok-clause-keeps
 returns-in-Ok-clause-keeps g c = λ begin old market legal.
@@ -70,9 +70,9 @@ returns-in-Ok-clause-keeps g c = λ begin old market legal.
     let left = g.S.Source.rest c.serve_on.new.source in
     let held = g.K.Sink.held c.args.out.now in
     let holds_out = g.K.Sink.held c.serve_on.new.out in
-    let known = begun_known start begin old market legal c.args.limit content mid c.in-Ok.ensures.begun.begin c.in-Ok.ensures.begun.input c.in-Ok.begun.keeper.session c.in-Ok.begun.keeper.appender c.in-Ok.ensures.begun.behind.magic.0
-    (source_begins c.args.limit c.in-Ok.begun.window c.in-Ok.ensures.begun.input content after c.in-Ok.ensures.begun.behind) c.in-Ok.ensures.begun.begun in
-    keeps_served c.args.limit content after left c.in-Ok.begun.window c.in-Ok.ensures.begun.begin c.in-Ok.ensures.begun.input c.in-Ok.ensures.begun.behind c.serve_on.result begin start mid end old market c.in-Ok.begun.keeper.session c.in-Ok.begun.keeper.appender held holds_out
+    let known = begun_known start begin old market legal c.args.limit content mid c.in-Ok.ensures.begun.begin c.in-Ok.ensures.begun.input c.in-Ok.begun.writer.session c.in-Ok.begun.writer.appender c.in-Ok.ensures.begun.following.magic.0
+    (source_begins c.args.limit c.in-Ok.begun.window c.in-Ok.ensures.begun.input content after c.in-Ok.ensures.begun.following) c.in-Ok.ensures.begun.begun in
+    keeps_served c.args.limit content after left c.in-Ok.begun.window c.in-Ok.ensures.begun.begin c.in-Ok.ensures.begun.input c.in-Ok.ensures.begun.following c.serve_on.result begin start mid end old market c.in-Ok.begun.writer.session c.in-Ok.begun.writer.appender held holds_out
     known (c.in-Ok.ensures.begun.moments begin old market legal) c.serve_on.ensures.goes
 
 pub returns-in-Ok-clause-again : goal.returns-in-Ok-clause-again
@@ -85,10 +85,10 @@ returns-in-Ok-clause-again g c = λ begin old market legal.
     let left = g.S.Source.rest c.serve_on.new.source in
     let held = g.K.Sink.held c.args.out.now in
     let holds_out = g.K.Sink.held c.serve_on.new.out in
-    let known = begun_known start begin old market legal c.args.limit content mid c.in-Ok.ensures.begun.begin c.in-Ok.ensures.begun.input c.in-Ok.begun.keeper.session c.in-Ok.begun.keeper.appender c.in-Ok.ensures.begun.behind.magic.0
-    (source_begins c.args.limit c.in-Ok.begun.window c.in-Ok.ensures.begun.input content after c.in-Ok.ensures.begun.behind) c.in-Ok.ensures.begun.begun in
+    let known = begun_known start begin old market legal c.args.limit content mid c.in-Ok.ensures.begun.begin c.in-Ok.ensures.begun.input c.in-Ok.begun.writer.session c.in-Ok.begun.writer.appender c.in-Ok.ensures.begun.following.magic.0
+    (source_begins c.args.limit c.in-Ok.begun.window c.in-Ok.ensures.begun.input content after c.in-Ok.ensures.begun.following) c.in-Ok.ensures.begun.begun in
     may_begin_again c.args.limit content _ begin start end old market held holds_out legal (g.met.D.Disk.is_disk c.serve_on.new.disk)
-    (keeps_served c.args.limit content after left c.in-Ok.begun.window c.in-Ok.ensures.begun.begin c.in-Ok.ensures.begun.input c.in-Ok.ensures.begun.behind c.serve_on.result begin start mid end old market c.in-Ok.begun.keeper.session c.in-Ok.begun.keeper.appender held holds_out
+    (keeps_served c.args.limit content after left c.in-Ok.begun.window c.in-Ok.ensures.begun.begin c.in-Ok.ensures.begun.input c.in-Ok.ensures.begun.following c.serve_on.result begin start mid end old market c.in-Ok.begun.writer.session c.in-Ok.begun.writer.appender held holds_out
     known (c.in-Ok.ensures.begun.moments begin old market legal) c.serve_on.ensures.goes)
 
 pub returns-in-Ok-clause-comes : goal.returns-in-Ok-clause-comes
@@ -102,8 +102,8 @@ returns-in-Ok-clause-comes g c =
     let before = g.K.Sink.held c.args.out.now in
     let holds_out = g.K.Sink.held c.serve_on.new.out in
     if_some start.content _ _
-    (λ (held : List ℕ) begun. comes_served c.args.limit held content mid c.in-Ok.ensures.begun.begin c.in-Ok.ensures.begun.input c.in-Ok.begun.keeper.session c.in-Ok.begun.keeper.appender begun after left
-    c.in-Ok.begun.window c.in-Ok.ensures.begun.behind end before holds_out c.serve_on.result c.serve_on.ensures.goes)
+    (λ (held : List ℕ) begun. comes_served c.args.limit held content mid c.in-Ok.ensures.begun.begin c.in-Ok.ensures.begun.input c.in-Ok.begun.writer.session c.in-Ok.begun.writer.appender begun after left
+    c.in-Ok.begun.window c.in-Ok.ensures.begun.following end before holds_out c.serve_on.result c.serve_on.ensures.goes)
     c.in-Ok.ensures.begun.begun
 
 pub returns-in-Ok-clause-legal : goal.returns-in-Ok-clause-legal
@@ -114,7 +114,7 @@ returns-in-Ok-clause-unasked g c = λ refusal. absurd (not_of_serving c.serve_on
 
 pub returns-in-Ok-clause-untouched : goal.returns-in-Ok-clause-untouched
 returns-in-Ok-clause-untouched g c =
-    none_begun (g.D.Disk.state c.args.disk.now).content c.in-Ok.ensures.begun.begin c.in-Ok.ensures.begun.input c.in-Ok.begun.keeper.session c.in-Ok.begun.keeper.appender (g.D.Disk.state c.begin.new.disk) _ c.in-Ok.ensures.begun.begun
+    none_begun (g.D.Disk.state c.args.disk.now).content c.in-Ok.ensures.begun.begin c.in-Ok.ensures.begun.input c.in-Ok.begun.writer.session c.in-Ok.begun.writer.appender (g.D.Disk.state c.begin.new.disk) _ c.in-Ok.ensures.begun.begun
 
 pub returns-in-Ok-clause-taken : goal.returns-in-Ok-clause-taken
 returns-in-Ok-clause-taken g c =
@@ -126,7 +126,7 @@ returns-in-Ok-clause-taken g c =
     let left = g.S.Source.rest c.serve_on.new.source in
     let held = g.K.Sink.held c.args.out.now in
     let holds_out = g.K.Sink.held c.serve_on.new.out in
-    taken_at_most c.args.limit content after left c.in-Ok.begun.window c.in-Ok.ensures.begun.input c.in-Ok.ensures.begun.behind c.in-Ok.begun.keeper.session c.in-Ok.begun.keeper.appender mid end held holds_out c.serve_on.result c.serve_on.ensures.goes
+    taken_at_most c.args.limit content after left c.in-Ok.begun.window c.in-Ok.ensures.begun.input c.in-Ok.ensures.begun.following c.in-Ok.begun.writer.session c.in-Ok.begun.writer.appender mid end held holds_out c.serve_on.result c.serve_on.ensures.goes
 
 pub returns-in-Ok-clause-paced : goal.returns-in-Ok-clause-paced
 returns-in-Ok-clause-paced g c =
@@ -138,7 +138,7 @@ returns-in-Ok-clause-paced g c =
     let left = g.S.Source.rest c.serve_on.new.source in
     let held = g.K.Sink.held c.args.out.now in
     let holds_out = g.K.Sink.held c.serve_on.new.out in
-    paced_served c.args.limit content after left c.in-Ok.begun.window c.in-Ok.ensures.begun.input c.in-Ok.ensures.begun.behind c.in-Ok.begun.keeper.session c.in-Ok.begun.keeper.appender mid end held holds_out c.serve_on.result c.serve_on.ensures.goes
+    paced_served c.args.limit content after left c.in-Ok.begun.window c.in-Ok.ensures.begun.input c.in-Ok.ensures.begun.following c.in-Ok.begun.writer.session c.in-Ok.begun.writer.appender mid end held holds_out c.serve_on.result c.serve_on.ensures.goes
 
 pub returns-in-Ok-clause-allocates : goal.returns-in-Ok-clause-allocates
 returns-in-Ok-clause-allocates g c = λ lacks.
@@ -151,13 +151,13 @@ returns-in-Ok-clause-allocates g c = λ lacks.
     let before = g.K.Sink.held c.args.out.now in
     let holds_out = g.K.Sink.held c.serve_on.new.out in
     if_some start.content _ _
-    (λ (held : List ℕ) begun. wants_next c.args.limit content after left c.in-Ok.begun.window c.in-Ok.ensures.begun.input c.in-Ok.ensures.begun.behind c.in-Ok.begun.keeper.session c.in-Ok.begun.keeper.appender mid end before holds_out held c.in-Ok.ensures.begun.begin begun c.serve_on.result c.serve_on.ensures.goes lacks)
+    (λ (held : List ℕ) begun. wants_next c.args.limit content after left c.in-Ok.begun.window c.in-Ok.ensures.begun.input c.in-Ok.ensures.begun.following c.in-Ok.begun.writer.session c.in-Ok.begun.writer.appender mid end before holds_out held c.in-Ok.ensures.begun.begin begun c.serve_on.result c.serve_on.ensures.goes lacks)
     c.in-Ok.ensures.begun.begun
 
 pub returns-in-Ok-clause-made : goal.returns-in-Ok-clause-made
 returns-in-Ok-clause-made g c =
     each_some (g.D.Disk.state c.args.disk.now).content _
-    (λ (held : List ℕ) short. inr (start_taken c.args.limit c.in-Ok.begun.window c.in-Ok.ensures.begun.input (g.S.Source.rest c.args.source.now) (g.S.Source.rest c.begin.new.source) (g.S.Source.rest c.serve_on.new.source) c.serve_on.ensures.goes.goes.taken c.in-Ok.ensures.begun.behind c.serve_on.ensures.goes.goes.takes))
+    (λ (held : List ℕ) short. inr (start_taken c.args.limit c.in-Ok.begun.window c.in-Ok.ensures.begun.input (g.S.Source.rest c.args.source.now) (g.S.Source.rest c.begin.new.source) (g.S.Source.rest c.serve_on.new.source) c.serve_on.ensures.goes.goes.taken c.in-Ok.ensures.begun.following c.serve_on.ensures.goes.goes.takes))
 
 pub returns-in-Err-clause-lengths : goal.returns-in-Err-clause-lengths
 returns-in-Err-clause-lengths g c =
@@ -171,6 +171,6 @@ returns-in-Ok-clause-lengths g c =
     let content = g.S.Source.rest c.args.source.now in
     let after = g.S.Source.rest c.begin.new.source in
     if_some start.content _ _
-    (λ (held : List ℕ) begun. grows_served c.args.limit c.in-Ok.ensures.begun.begin c.in-Ok.ensures.begun.input c.in-Ok.begun.window content after c.in-Ok.ensures.begun.behind start mid end (g.met.D.Disk.is_disk c.begin.new.disk) c.in-Ok.ensures.begun.lengths
-    held c.in-Ok.begun.keeper.session c.in-Ok.begun.keeper.appender begun c.serve_on.ensures.lengths)
+    (λ (held : List ℕ) begun. grows_served c.args.limit c.in-Ok.ensures.begun.begin c.in-Ok.ensures.begun.input c.in-Ok.begun.window content after c.in-Ok.ensures.begun.following start mid end (g.met.D.Disk.is_disk c.begin.new.disk) c.in-Ok.ensures.begun.lengths
+    held c.in-Ok.begun.writer.session c.in-Ok.begun.writer.appender begun c.serve_on.ensures.lengths)
     c.in-Ok.ensures.begun.begun

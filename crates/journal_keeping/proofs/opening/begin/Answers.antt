@@ -8,7 +8,7 @@ use Rattle.journal_keeping.proofs.opening.begin.Goals as goal
 
 pub returns-in-Ok-Some-clause-begun : goal.returns-in-Ok-Some-clause-begun
 returns-in-Ok-Some-clause-begun g c =
-    on_ok c.begin_kept.result _ _ (λ b begun. begun_first c.args.limit (g.D.Disk.state c.args.disk.now) (g.D.Disk.state c.recover.new.disk) (g.D.Disk.state c.begin_kept.new.disk) b.window (g.S.Source.rest c.args.source.now) (g.S.Source.rest c.begin_kept.new.source) b.keeper.session b.keeper.appender c.recover.ensures.looks (g.met.D.Disk.is_disk c.recover.new.disk) begun) c.begin_kept.ensures.begun
+    on_ok c.begin_kept.result _ _ (λ b begun. begun_first c.args.limit (g.D.Disk.state c.args.disk.now) (g.D.Disk.state c.recover.new.disk) (g.D.Disk.state c.begin_kept.new.disk) b.window (g.S.Source.rest c.args.source.now) (g.S.Source.rest c.begin_kept.new.source) b.writer.session b.writer.appender c.recover.ensures.looks (g.met.D.Disk.is_disk c.recover.new.disk) begun) c.begin_kept.ensures.begun
 
 pub returns-in-Ok-Some-clause-safe : goal.returns-in-Ok-Some-clause-safe
 returns-in-Ok-Some-clause-safe g c = λ fails was old market holds.
@@ -19,7 +19,7 @@ returns-in-Ok-Some-clause-lengths g c = λ fails. grows_first c.args.limit (g.S.
 
 pub returns-in-Ok-None-clause-begun : goal.returns-in-Ok-None-clause-begun
 returns-in-Ok-None-clause-begun g c =
-    on_ok c.begin_new.result _ _ (λ b begun. begun_first c.args.limit (g.D.Disk.state c.args.disk.now) (g.D.Disk.state c.recover.new.disk) (g.D.Disk.state c.begin_new.new.disk) b.window (g.S.Source.rest c.args.source.now) (g.S.Source.rest c.begin_new.new.source) b.keeper.session b.keeper.appender c.recover.ensures.looks (g.met.D.Disk.is_disk c.recover.new.disk) begun) c.begin_new.ensures.begun
+    on_ok c.begin_new.result _ _ (λ b begun. begun_first c.args.limit (g.D.Disk.state c.args.disk.now) (g.D.Disk.state c.recover.new.disk) (g.D.Disk.state c.begin_new.new.disk) b.window (g.S.Source.rest c.args.source.now) (g.S.Source.rest c.begin_new.new.source) b.writer.session b.writer.appender c.recover.ensures.looks (g.met.D.Disk.is_disk c.recover.new.disk) begun) c.begin_new.ensures.begun
 
 pub returns-in-Ok-None-clause-safe : goal.returns-in-Ok-None-clause-safe
 returns-in-Ok-None-clause-safe g c = λ fails was old market holds.

@@ -46,7 +46,7 @@ pub returns-in-Err-make_disk-clause-unread : goal.returns-in-Err-make_disk-claus
 returns-in-Err-make_disk-clause-unread g c =
     let opens = (subst (λ (l : List ℕ). OpensStart c.args.limit c.in-Ok-open_start.opened.market l c.in-Ok-open_start.opened.window (g.S.Source.rest c.args.source.now) (g.S.Source.rest c.open_start.new.source)) (sym c.deref.ensures.value) c.in-Ok-open_start.ensures.opens) in
     subst (Unread c.args.limit (g.S.Source.rest c.args.source.now) (g.S.Source.rest c.open_start.new.source)) (sym (same_fault c.in-Err-make_disk.fault _ c.in-Err-make_disk.ensures.refused))
-    (unread_made c.args.limit opens.begin c.in-Ok-open_start.opened.window (g.S.Source.rest c.args.source.now) (g.S.Source.rest c.open_start.new.source) opens.behind)
+    (unread_made c.args.limit opens.begin c.in-Ok-open_start.opened.window (g.S.Source.rest c.args.source.now) (g.S.Source.rest c.open_start.new.source) opens.following)
 
 pub returns-in-Err-make_disk-clause-untouched : goal.returns-in-Err-make_disk-clause-untouched
 returns-in-Err-make_disk-clause-untouched g c = none_new (g.D.Disk.state c.args.disk.now).content (g.D.Disk.state c.args.disk.now) _ c.requires.found
@@ -62,4 +62,4 @@ returns-in-Err-make_disk-clause-lengths g c =
     λ _. new_grows c.args.limit c.in-Ok-open_start.opened.market c.deref.result.now c.in-Ok-open_start.opened.window (g.S.Source.rest c.args.source.now) (g.S.Source.rest c.open_start.new.source) c.requires.few opens (g.D.Disk.state c.args.disk.now) (g.D.Disk.state c.make_disk.new.disk) c.version.result c.version.ensures.value c.requires.found c.make_disk.ensures.moments c.make_disk.ensures.lengths
 
 pub returns-in-Err-make_disk-clause-made : goal.returns-in-Err-make_disk-clause-made
-returns-in-Err-make_disk-clause-made g c = inr (start_taken c.args.limit c.in-Ok-open_start.opened.window c.in-Ok-open_start.ensures.opens.begin (g.S.Source.rest c.args.source.now) (g.S.Source.rest c.open_start.new.source) (g.S.Source.rest c.open_start.new.source) [] c.in-Ok-open_start.ensures.opens.behind (takes_none (g.S.Source.rest c.open_start.new.source)))
+returns-in-Err-make_disk-clause-made g c = inr (start_taken c.args.limit c.in-Ok-open_start.opened.window c.in-Ok-open_start.ensures.opens.begin (g.S.Source.rest c.args.source.now) (g.S.Source.rest c.open_start.new.source) (g.S.Source.rest c.open_start.new.source) [] c.in-Ok-open_start.ensures.opens.following (takes_none (g.S.Source.rest c.open_start.new.source)))

@@ -38,8 +38,8 @@ pairs-preserved g c =
       looks = looks_more (g.D.Disk.state c.args.disk.now) mid next i.looks e.looks;
       reads = λ begin rest starts new holds.
           let was = i.reads begin rest starts new holds in
-          let now = entry_holds (head_of begin) (map records_of was.0) c.pairs.journal was.1 mid was.4 pair c.take.new.self stands (omega (arith, t.moves, t.spelled.2)) in
-          let one = one_read begin was.0 c.pairs.audit c.judge.new.audit pair was.2 t.spelled.0 judged.legal in
+          let now = entry_holds (head_of begin) (map records_of was.0) c.pairs.journal was.1 mid was.4 pair c.take.new.self stands (omega (arith, t.moves, t.encoded.2)) in
+          let one = one_read begin was.0 c.pairs.audit c.judge.new.audit pair was.2 t.encoded.0 judged.legal in
           (one.0, now.0, one.1, omega (arith, more, was.3, one.2), looks_hold (head_of begin) (map records_of one.0) c.take.new.self now.0 mid next (subst (λ (l : List RecordPair). Holds (head_of begin) l c.take.new.self now.0 mid) one.3 now.1) e.looks);
       piece = e.piece;
       next = omega (arith, judged.next, i.next, t.moves);

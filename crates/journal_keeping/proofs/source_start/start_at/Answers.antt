@@ -29,17 +29,17 @@ pub returns-in-Ok-clause-opens : goal.returns-in-Ok-clause-opens
 returns-in-Ok-clause-opens g c =
     let begins = (starts_is Decides-eqb c.args.window.held checkpoint_magic c.starts_with.result (rw c.held-2.ensures.held at c.starts_with.ensures.value)).0 c.if-not-starts_with.false in
     let found = c.in-Ok.ensures.kept in
-    on_ok c.behind_checkpoint.result _ _ (λ o opens before takes.
+    on_ok c.after_checkpoint.result _ _ (λ o opens before takes.
     let at = checkpoint_at before (g.S.Source.rest c.args.source.now) c.args.window takes c.requires.some c.requires.first c.requires.within (g.S.Source.rest c.kept_market.new.source) (drop 8 c.args.window.held, begins) c.kept_market.new.window c.in-Ok.market found in
-    subst (λ (n : ℕ). OpensStart n o.market o.stored.items o.window before (g.S.Source.rest c.behind_checkpoint.new.source)) found.taken.limit (opens before at.0 at.1)) c.behind_checkpoint.ensures.opens
+    subst (λ (n : ℕ). OpensStart n o.market o.stored.items o.window before (g.S.Source.rest c.after_checkpoint.new.source)) found.taken.limit (opens before at.0 at.1)) c.after_checkpoint.ensures.opens
 
 pub returns-in-Ok-clause-of_source : goal.returns-in-Ok-clause-of_source
 returns-in-Ok-clause-of_source g c =
     let begins = (starts_is Decides-eqb c.args.window.held checkpoint_magic c.starts_with.result (rw c.held-2.ensures.held at c.starts_with.ensures.value)).0 c.if-not-starts_with.false in
     let found = c.in-Ok.ensures.kept in
-    on_err c.behind_checkpoint.result _ _ (λ fault of before takes.
+    on_err c.after_checkpoint.result _ _ (λ fault of before takes.
     let at = checkpoint_at before (g.S.Source.rest c.args.source.now) c.args.window takes c.requires.some c.requires.first c.requires.within (g.S.Source.rest c.kept_market.new.source) (drop 8 c.args.window.held, begins) c.kept_market.new.window c.in-Ok.market found in
-    of_limit before (g.S.Source.rest c.behind_checkpoint.new.source) fault c.kept_market.new.window.limit c.args.window.limit found.taken.limit (of before at.0 at.1)) c.behind_checkpoint.ensures.of_source
+    of_limit before (g.S.Source.rest c.after_checkpoint.new.source) fault c.kept_market.new.window.limit c.args.window.limit found.taken.limit (of before at.0 at.1)) c.after_checkpoint.ensures.of_source
 
 pub returns-in-Err-Read-clause-of_source : goal.returns-in-Err-Read-clause-of_source
 returns-in-Err-Read-clause-of_source g c = λ before takes.

@@ -13,12 +13,12 @@ use Rattle.journal_records.specs.Pairs.{longest_plain_pair}
 abbrev pub invariant-units : goal.invariant-units
 invariant-units g l =
     (new : List (Pair Record Outcome))
-    × HasGone commands Adds g.S.Source.rest g.S.Source.faults (IsReady l.keeper.session l.keeper.appender) l.fn.window l.window l.fn.source l.source [] new tt tt
-    × SoFar (g.D.Disk.state l.fn.disk) (g.D.Disk.state l.disk) l.fn.keeper.session l.keeper.session l.fn.keeper.appender l.keeper.appender (g.K.Sink.held l.fn.out) (g.K.Sink.held l.out) new
+    × HasGone commands Adds g.S.Source.rest g.S.Source.faults (IsReady l.writer.session l.writer.appender) l.fn.window l.window l.fn.source l.source [] new tt tt
+    × SoFar (g.D.Disk.state l.fn.disk) (g.D.Disk.state l.disk) l.fn.writer.session l.writer.session l.fn.writer.appender l.writer.appender (g.K.Sink.held l.fn.out) (g.K.Sink.held l.out) new
     × ((g.D.Disk.state l.disk).faults ≡ (g.D.Disk.state l.fn.disk).faults)
     × (g.K.Sink.faults l.out ≡ g.K.Sink.faults l.fn.out)
-    × (longest_plain_pair ≤ vec_capacity l.keeper.pair)
-    × StaysWithin l.fn.window (g.S.Source.rest l.fn.source) l.window (g.S.Source.rest l.source) l.fn.keeper.appender l.keeper.appender (g.D.Disk.state l.fn.disk) (g.D.Disk.state l.disk)
+    × (longest_plain_pair ≤ vec_capacity l.writer.pair)
+    × StaysWithin l.fn.window (g.S.Source.rest l.fn.source) l.window (g.S.Source.rest l.source) l.fn.writer.appender l.writer.appender (g.D.Disk.state l.fn.disk) (g.D.Disk.state l.disk)
 
 -- the bytes that may still be given up, and those that may be read
 abbrev pub decreases-units : goal.decreases-units

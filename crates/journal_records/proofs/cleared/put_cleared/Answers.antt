@@ -3,13 +3,13 @@ use Rattle.std.specs.Prelude.{All}
 use Rattle.std.specs.Int.{w128}
 use Rattle.std.proofs.lemmas.Int.{to_z-of_z}
 use Rattle.wire_fields.specs.Numbers.{IsSigned}
-use Rattle.wire_fields.proofs.Spelling.{IsSigned-from_fits}
+use Rattle.wire_fields.proofs.Encoding.{IsSigned-from_fits}
 use Rattle.flow_orders.specs.Outcomes.{Clearing, fill_of}
 use Rattle.flow_orders.specs.Trades.{trades}
 use Rattle.batch_outcome.specs.Published.{clearing_of}
 use Rattle.journal_records.specs.Bodies.{IsFill}
 use Rattle.journal_records.proofs.FieldForms.{clearing_fits}
-use Rattle.journal_records.proofs.Spelled.{put_together}
+use Rattle.journal_records.proofs.Encoded.{put_together}
 use Rattle.journal_records.proofs.Fills.{length-fills}
 use Rattle.journal_records.proofs.cleared.put_cleared.Goals as goal
 

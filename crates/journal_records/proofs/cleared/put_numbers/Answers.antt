@@ -3,7 +3,7 @@ use Rattle.std.proofs.lemmas.Int.{to_z-of_z}
 use Rattle.std.proofs.lemmas.List.Elements.{All-more}
 use Rattle.std.proofs.lemmas.List.{take_more, flat_map_more}
 use Rattle.wire_fields.specs.Numbers.{signed, IsSigned}
-use Rattle.wire_fields.proofs.Spelling.{IsSigned-from_fits}
+use Rattle.wire_fields.proofs.Encoding.{IsSigned-from_fits}
 use Rattle.journal_records.proofs.cleared.put_numbers.Goals as goal
 
 pub loop-number-preserved : goal.loop-number-preserved

@@ -5,7 +5,7 @@ use Rattle.std.proofs.lemmas.Option.{none-some, same_Some}
 use Rattle.std.proofs.lemmas.List.{append-nil}
 use Rattle.std.proofs.lemmas.Bool.{false≢true}
 use Rattle.wire_fields.specs.Numbers.{signed, IsUnsigned}
-use Rattle.wire_fields.proofs.Spelling.{IsSigned-from_fits}
+use Rattle.wire_fields.proofs.Encoding.{IsSigned-from_fits}
 use Rattle.journal_records.proofs.Reading.{from_residuals, from_fills, from_orders, from_prices, from_assets, cleared_apart, cleared_read}
 use Rattle.journal_records.proofs.cleared_view.cleared_in.Goals as goal
 

@@ -1,6 +1,6 @@
 use Rattle.std.proofs.Common.{◌++◌, ◌∙◌}
 use Rattle.wire_fields.specs.Numbers.{unsigned}
-use Rattle.wire_fields.proofs.Spelling.{length-unsigned}
+use Rattle.wire_fields.proofs.Encoding.{length-unsigned}
 use Rattle.journal_records.proofs.Fills.{apart}
 use Rattle.journal_records.proofs.fills_view.rate_of.Goals as goal
 

@@ -1,4 +1,4 @@
-use Rattle.journal_records.proofs.Spelled.{batch_short}
+use Rattle.journal_records.proofs.Encoded.{batch_short}
 use Rattle.journal_records.proofs.laws.batch_replies_fit.Goals as goal
 
 pub returns : goal.returns

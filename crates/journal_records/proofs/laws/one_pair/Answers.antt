@@ -1,4 +1,4 @@
-use Rattle.journal_records.proofs.Spelled.{pair_unique}
+use Rattle.journal_records.proofs.Encoded.{pair_unique}
 use Rattle.journal_records.proofs.laws.one_pair.Goals as goal
 
 pub returns : goal.returns

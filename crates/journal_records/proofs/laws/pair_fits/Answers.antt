@@ -1,4 +1,4 @@
-use Rattle.journal_records.proofs.Spelled.{pair_room}
+use Rattle.journal_records.proofs.Encoded.{pair_room}
 use Rattle.journal_records.proofs.laws.pair_fits.Goals as goal
 
 pub returns : goal.returns

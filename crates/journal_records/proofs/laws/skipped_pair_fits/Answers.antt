@@ -1,4 +1,4 @@
-use Rattle.journal_records.proofs.Spelled.{skipped_pair_room}
+use Rattle.journal_records.proofs.Encoded.{skipped_pair_room}
 use Rattle.journal_records.proofs.laws.skipped_pair_fits.Goals as goal
 
 pub returns : goal.returns

@@ -1,6 +1,6 @@
 use Rattle.std.proofs.Common.{drop, arith}
 use Rattle.std.proofs.lemmas.Bool.{false≢true}
-use Rattle.journal_records.proofs.PairFronts.{none_over, whole_not_over, short_not_over}
+use Rattle.journal_records.proofs.PairPrefixes.{none_over, whole_not_over, short_not_over}
 use Rattle.journal_records.proofs.pair.states_over.Goals as goal
 
 pub returns-in-Whole : goal.returns-in-Whole

@@ -1,12 +1,12 @@
 use Rattle.std.proofs.Common.{◌≡◌, ℕ, List, [], ◌++◌, sym, ap, ◌∙◌, refl}
 use Rattle.std.proofs.lemmas.List.{append-nil}
 use Rattle.wire_fields.specs.Numbers.{unsigned}
-use Rattle.wire_fields.proofs.Spelling.{length-unsigned}
+use Rattle.wire_fields.proofs.Encoding.{length-unsigned}
 use Rattle.wire_records.specs.Refusals.{code_of}
-use Rattle.wire_records.proofs.Spelled.{head_and_body}
+use Rattle.wire_records.proofs.Encoded.{head_and_body}
 use Rattle.wire_records.specs.declared.reply.Reply.{Reply}
 use Rattle.wire_records.specs.declared.reply.Reply.TheVariants.{Done, Asset, Account, Order, Refused}
-use Rattle.wire_records.specs.Records.{spelling}
+use Rattle.wire_records.specs.Records.{encoding}
 use Rattle.wire_records.specs.Commands.{Plain}
 use Rattle.journal_records.specs.Replies.{answer_record}
 use Rattle.journal_records.specs.Bodies.{reply_tag, reply_body}
@@ -14,8 +14,8 @@ use Rattle.journal_records.proofs.FieldForms.{tag_of_reply, body_of_reply, reply
 use Rattle.journal_records.proofs.plain.put_reply.Goals as goal
 
 -- the record of a reply part by part is that of its fields
-whole : (old : List ℕ) (r : Reply) → old ++ spelling (record { tag = reply_tag r; body = reply_body r }) ≡ old ++ spelling (answer_record (Plain r))
-whole old r = ap (λ tag. old ++ spelling (record { tag = tag; body = reply_body r })) (sym (tag_of_reply r)) ∙ ap (λ body. old ++ spelling (record { tag = (answer_record (Plain r)).tag; body = body })) (sym (body_of_reply r))
+whole : (old : List ℕ) (r : Reply) → old ++ encoding (record { tag = reply_tag r; body = reply_body r }) ≡ old ++ encoding (answer_record (Plain r))
+whole old r = ap (λ tag. old ++ encoding (record { tag = tag; body = reply_body r })) (sym (tag_of_reply r)) ∙ ap (λ body. old ++ encoding (record { tag = (answer_record (Plain r)).tag; body = body })) (sym (body_of_reply r))
 
 pub returns-in-Done-clause-written : goal.returns-in-Done-clause-written
 unfolding reply_body

@@ -4,10 +4,10 @@ use Rattle.std.proofs.lemmas.Int.{to_z-of_z}
 use Rattle.std.proofs.lemmas.List.Elements.{All-drop}
 use Rattle.std.proofs.Math.Seq.{drop-append_seam}
 use Rattle.wire_records.specs.Records.{AreBytes}
-use Rattle.wire_fields.proofs.Spelling.{IsSigned-from_fits}
+use Rattle.wire_fields.proofs.Encoding.{IsSigned-from_fits}
 use Rattle.batch_outcome.specs.Published.{skipping_of}
 use Rattle.journal_records.proofs.FieldForms.{skipping_fits}
-use Rattle.journal_records.proofs.Spelled.{put_skip_together}
+use Rattle.journal_records.proofs.Encoded.{put_skip_together}
 use Rattle.journal_records.proofs.skipped.put_skipped.Goals as goal
 
 pub returns-clause-written : goal.returns-clause-written

@@ -5,7 +5,7 @@ use Rattle.std.proofs.lemmas.Option.{none-some, same_Some}
 use Rattle.std.proofs.lemmas.List.{append-nil}
 use Rattle.std.proofs.lemmas.Bool.{false≢true}
 use Rattle.wire_fields.specs.Numbers.{IsUnsigned}
-use Rattle.wire_fields.proofs.Spelling.{IsSigned-from_fits}
+use Rattle.wire_fields.proofs.Encoding.{IsSigned-from_fits}
 use Rattle.journal_records.proofs.Reading.{from_steps, from_end, from_start, skipped_apart, skipped_read}
 use Rattle.journal_records.proofs.skipped_view.skipped_in.Goals as goal
 

@@ -1,5 +1,5 @@
 use Rattle.std.proofs.Common.{[]}
-use Rattle.journal_replay.proofs.Replayed.{behind_magic, begins_with_eight, audits_all}
+use Rattle.journal_replay.proofs.Replayed.{after_magic, begins_with_eight, audits_all}
 use Rattle.journal_replay.proofs.replaying.replay.Goals as goal
 
 pub audit_pairs-requires : goal.audit_pairs-requires
@@ -28,7 +28,7 @@ returns-in-Err-Memory c =
     let begins = (c.journal_version.ensures.exact c.in-Some.version).0 c.in-Some.is in
     record {
       version = c.in-Some.version;
-      behind = begins.0;
+      following = begins.0;
       begins = begins.1;
-      finds = rw (behind_magic c.in-Some.version c.args.bytes.now begins.0 begins.1) (rw c.in-Err-Memory.field-0-is at c.in-Err-Memory.ensures.fault);
+      finds = rw (after_magic c.in-Some.version c.args.bytes.now begins.0 begins.1) (rw c.in-Err-Memory.field-0-is at c.in-Err-Memory.ensures.fault);
     }

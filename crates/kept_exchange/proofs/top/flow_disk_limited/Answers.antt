@@ -8,11 +8,11 @@ pub returns-clause-serves : goal.returns-clause-serves
 returns-clause-serves g c =
     let kept = c.keep-ended.ensures in
     let line = rw c.status_of-status.ensures at c.write_line.ensures.written in
-    let front = rw c.status_of-status.ensures at c.write_line.ensures.cut in
+    let prefix = rw c.status_of-status.ensures at c.write_line.ensures.cut in
     rw c.status_of-status.ensures (serves c.args.limit c.keep-ended.result (g.D.Disk.state c.args.disk.now) (g.D.Disk.state c.keep-ended.new.disk)
     (change g.S.Source.rest g.S.Source.faults c.args.source.now c.keep-ended.new.source)
     (change g.K.Sink.held g.K.Sink.faults c.args.out.now c.keep-ended.new.out)
     (change g.N.Sink.held g.N.Sink.faults c.args.notes.now c.write_line.new.notes) c.write_line.result
-    kept.keeps kept.again kept.lengths kept.comes kept.legal
-    (if_some (g.D.Disk.state c.args.disk.now).content _ _ (λ (held : List ℕ) looks. λ none. let it = looks none in (it.0, ap g.S.Source.rest it.1, ap g.K.Sink.held it.2)) kept.untouched) kept.made kept.taken kept.paced kept.allocates
-    kept.disk_cause kept.source_cause kept.out_cause line front c.write_line.ensures.cause)
+    kept.keeps kept.lengths (kept.comes, kept.paced, kept.allocates)
+    (if_some (g.D.Disk.state c.args.disk.now).content _ _ (λ (held : List ℕ) looks. λ none. let it = looks none in (it.0, ap g.S.Source.rest it.1, ap g.K.Sink.held it.2)) kept.untouched) kept.made kept.taken
+    kept.disk_cause kept.source_cause kept.out_cause line prefix c.write_line.ensures.cause)

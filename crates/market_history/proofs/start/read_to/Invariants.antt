@@ -4,10 +4,10 @@ use Rattle.market_history.proofs.start.read_to.Given as goal
 
 abbrev pub invariant-loop-window : goal.invariant-loop-window
 invariant-loop-window g l = record {
-  taken : TakesOn l.fn.window l.window l.fn.front.items l.front.items (g.S.Source.rest l.fn.source) (g.S.Source.rest l.source);
-  few : length l.front.items ≤ l.want;
+  taken : TakesOn l.fn.window l.window l.fn.prefix.items l.prefix.items (g.S.Source.rest l.fn.source) (g.S.Source.rest l.source);
+  few : length l.prefix.items ≤ l.want;
   quiet : g.S.Source.faults l.source ≡ g.S.Source.faults l.fn.source;
 }
 
 abbrev pub decreases-loop-window : goal.decreases-loop-window
-decreases-loop-window g l = l.want - length l.front.items
+decreases-loop-window g l = l.want - length l.prefix.items

@@ -3,7 +3,7 @@ use Rattle.std.specs.Prelude.{All}
 use Rattle.std.specs.List.{flat_map}
 use Rattle.byte_places.specs.Places.{unsigned_at}
 use Rattle.market_parts.specs.Parts.{ReadOrder}
-use Rattle.market_snapshot.specs.Spellings.{order_spelling}
+use Rattle.market_snapshot.specs.Encodings.{order_encoding}
 use Rattle.market_snapshot.specs.Widths.{FitsOrder}
 use Rattle.market_snapshot.specs.Layout.{account_size}
 use Rattle.market_snapshot.specs.Sizes.{EndsWith}
@@ -68,4 +68,4 @@ returns-clause-size c = λ m k more rest is e.
     let first : 11 + 8 * c.from.result + 4 + c.account_size.result * c.u32_at-accounts.result + 44 + 24 * c.from-2.result + 4 ≡ first_of bytes m k more rest is e = omega (arith, product, assets, c.from.ensures, c.from-2.ensures) in
     let counted = c.u32_at-orders.ensures ∙ ap (λ n. unsigned_at 4 n bytes) place ∙ orders_counted bytes m k more rest is e (omega (arith, place, c.if-bytes-place.false)) in
     let moved : EndsWith bytes (first_of bytes m k more rest is e) c.u32_at-orders.result c.orders_end.result = subst (λ n. EndsWith bytes n c.u32_at-orders.result c.orders_end.result) first c.orders_end.ensures in
-    ends bytes m k more rest is e c.orders_end.result (λ orders behind tail many fit here. moved orders behind tail (many ∙ sym counted) fit here)
+    ends bytes m k more rest is e c.orders_end.result (λ orders following tail many fit here. moved orders following tail (many ∙ sym counted) fit here)

@@ -4,7 +4,7 @@ use Rattle.byte_places.specs.Places.{unsigned_at}
 use Rattle.market_snapshot.specs.Layout.{count_place, first_place, AreOrders, HasNoOrders}
 use Rattle.market_snapshot.specs.Answers.{WhereNotSound}
 use Rattle.market_snapshot.specs.Kept.{IsKept}
-use Rattle.market_snapshot.proofs.Laid.{all_spelled, all_fit}
+use Rattle.market_snapshot.proofs.Laid.{all_encoded, all_fit}
 use Rattle.market_snapshot.proofs.Viewing.{too_many, faulted, begins_with_first}
 use Rattle.market_snapshot.proofs.view.view_of.Goals as goal
 
@@ -49,4 +49,4 @@ returns-clause-fits c =
 pub returns-clause-begins : goal.returns-clause-begins
 returns-clause-begins c =
     let k = kept c in
-    begins_with_first _ c.args.bytes.now c.in-Ok.places.end (all_spelled c.args.bytes.now k.bytes c.in-Some.layout k.layout c.in-Ok.places.end c.in-Ok.places.starts.items k.orders k.count k.few) k.orders.inside
+    begins_with_first _ c.args.bytes.now c.in-Ok.places.end (all_encoded c.args.bytes.now k.bytes c.in-Some.layout k.layout c.in-Ok.places.end c.in-Ok.places.starts.items k.orders k.count k.few) k.orders.inside

@@ -2,7 +2,7 @@ use Rattle.std.proofs.Common.{◌≡◌, ◌*◌, ◌∙◌, ◌++◌, length, a
 use Rattle.flow_accounts.specs.Balances.{Account, Balances, asset_count, account_count}
 use Rattle.wire_records.specs.Versions.{number_of}
 use Rattle.market_snapshot.specs.Layout.{account_size}
-use Rattle.market_snapshot.specs.Spellings.{tickers_spelling, accounts_spelling, totals_spelling, exchange_spelling, batches_spelling}
+use Rattle.market_snapshot.specs.Encodings.{tickers_encoding, accounts_encoding, totals_encoding, exchange_encoding, batches_encoding}
 use Rattle.market_snapshot.proofs.Written.{fields_written}
 use Rattle.market_snapshot.proofs.writing.put_fields.Goals as goal
 
@@ -11,12 +11,12 @@ returns-clause-written c =
     let old = c.args.out.now.items in
     let m = c.args.market.now in
     let first = c.put_tickers.ensures.written
-    ∙ ap (λ v. old ++ tickers_spelling (number_of v) c.tickers.result.now) c.version.ensures.value
-    ∙ ap (λ t. old ++ tickers_spelling (number_of m.version) t) c.tickers.ensures.value in
-    let second = c.put_accounts.ensures.written ∙ ap (λ b. c.put_tickers.new.out.items ++ accounts_spelling b) c.accounts.ensures.value ∙ ap (λ z. z ++ accounts_spelling m.balances) first in
-    let third = c.put_totals.ensures.written ∙ ap (λ b. c.put_accounts.new.out.items ++ totals_spelling b) c.accounts-2.ensures.value ∙ ap (λ z. z ++ totals_spelling m.balances) second in
-    let fourth = c.put_exchange.ensures.written ∙ ap (λ a. c.put_totals.new.out.items ++ exchange_spelling a) c.exchange.ensures.value ∙ ap (λ z. z ++ exchange_spelling m.exchange) third in
-    fields_written old c.put_batches.new.out.items m (c.put_batches.ensures.written ∙ ap (λ z. z ++ batches_spelling m.next_order m.batches m.last_prices) fourth)
+    ∙ ap (λ v. old ++ tickers_encoding (number_of v) c.tickers.result.now) c.version.ensures.value
+    ∙ ap (λ t. old ++ tickers_encoding (number_of m.version) t) c.tickers.ensures.value in
+    let second = c.put_accounts.ensures.written ∙ ap (λ b. c.put_tickers.new.out.items ++ accounts_encoding b) c.accounts.ensures.value ∙ ap (λ z. z ++ accounts_encoding m.balances) first in
+    let third = c.put_totals.ensures.written ∙ ap (λ b. c.put_accounts.new.out.items ++ totals_encoding b) c.accounts-2.ensures.value ∙ ap (λ z. z ++ totals_encoding m.balances) second in
+    let fourth = c.put_exchange.ensures.written ∙ ap (λ a. c.put_totals.new.out.items ++ exchange_encoding a) c.exchange.ensures.value ∙ ap (λ z. z ++ exchange_encoding m.exchange) third in
+    fields_written old c.put_batches.new.out.items m (c.put_batches.ensures.written ∙ ap (λ z. z ++ batches_encoding m.next_order m.batches m.last_prices) fourth)
 
 pub returns-clause-len : goal.returns-clause-len
 returns-clause-len c =

@@ -3,10 +3,10 @@ use Rattle.std.proofs.lemmas.List.{replicate_more}
 use Rattle.memory_disk.proofs.bytes.cut_short.Goals as goal
 
 -- one more byte of the filling
-filled : (front now : List ℕ) (i whole fill : ℕ) → whole ≤ i → now ≡ (front ++ replicate (i - whole) fill) ++ fill ∷ [] → now ≡ front ++ replicate (i + 1 - whole) fill
-filled front now i whole fill le is =
+filled : (prefix now : List ℕ) (i whole fill : ℕ) → whole ≤ i → now ≡ (prefix ++ replicate (i - whole) fill) ++ fill ∷ [] → now ≡ prefix ++ replicate (i + 1 - whole) fill
+filled prefix now i whole fill le is =
     let next : i - whole + 1 ≡ i + 1 - whole = omega (arith, le) in
-    is ∙ append_assoc front (replicate (i - whole) fill) (fill ∷ []) ∙ ap (λ (l : List ℕ). front ++ l) (replicate_more (i - whole) fill ∙ ap (λ (n : ℕ). replicate n fill) next)
+    is ∙ append_assoc prefix (replicate (i - whole) fill) (fill ∷ []) ∙ ap (λ (l : List ℕ). prefix ++ l) (replicate_more (i - whole) fill ∙ ap (λ (n : ℕ). replicate n fill) next)
 
 pub loop-preserved : goal.loop-preserved
 loop-preserved c =

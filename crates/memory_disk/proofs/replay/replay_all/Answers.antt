@@ -8,13 +8,13 @@ loop-call-preserved c =
     let e = c.replay_one.ensures in
     let size = c.size_of-size.ensures in
     let parts = data_of-at c.loop-call.call-index c.args.calls.now _ c.loop-call-test.true c.size_of-size.result size in
-    let fits : length c.front.result.now ≡ c.size_of-size.result = omega (arith, ap length c.front.ensures, length-take c.size_of-size.result c.loop-call.rest.now, size, parts, i.enough) in
-    let behind = ap length c.behind-rest.ensures ∙ length-drop c.size_of-size.result c.loop-call.rest.now in
+    let fits : length c.prefix.result.now ≡ c.size_of-size.result = omega (arith, ap length c.prefix.ensures, length-take c.size_of-size.result c.loop-call.rest.now, size, parts, i.enough) in
+    let following = ap length c.following-rest.ensures ∙ length-drop c.size_of-size.result c.loop-call.rest.now in
     record {
-      image = replay_at c.loop-call.call-index c.args.calls.now _ c.loop-call-test.true c.args.part c.args.fill c.size_of-size.result c.loop-call.rest.now c.front.result.now c.behind-rest.result.now _ _ _ _ size c.front.ensures c.behind-rest.ensures e.held e.image ∙ i.image;
-      enough = omega (arith, behind, size, parts, i.enough);
-      held = omega (arith, behind, fits, e.held_len, e.held_room, i.held, size, parts, i.enough);
+      image = replay_at c.loop-call.call-index c.args.calls.now _ c.loop-call-test.true c.args.part c.args.fill c.size_of-size.result c.loop-call.rest.now c.prefix.result.now c.following-rest.result.now _ _ _ _ size c.prefix.ensures c.following-rest.ensures e.held e.image ∙ i.image;
+      enough = omega (arith, following, size, parts, i.enough);
+      held = omega (arith, following, fits, e.held_len, e.held_room, i.held, size, parts, i.enough);
       same = omega (arith, e.held_room, e.image_room, i.same);
-      long = omega (arith, behind, fits, e.image_len, e.held_room, i.long, i.held, size, parts, i.enough);
-      torn = omega (arith, behind, e.torn_room, i.torn);
+      long = omega (arith, following, fits, e.image_len, e.held_room, i.long, i.held, size, parts, i.enough);
+      torn = omega (arith, following, e.torn_room, i.torn);
     }

@@ -1,7 +1,7 @@
 use Rattle.std.proofs.Common.{◌≡◌, ◌++◌, map}
 use Rattle.std.specs.List.{range_with_len}
-use Rattle.sample_market.specs.Files.{unit_deposit, spell_commands}
+use Rattle.sample_market.specs.Files.{unit_deposit, encode_commands}
 use Rattle.sample_market.proofs.file.put_units.Given as goal
 
 abbrev pub invariant-loop-asset : goal.invariant-loop-asset
-invariant-loop-asset l = l.file.items ≡ l.fn.file.items ++ spell_commands (map (unit_deposit l.fn.account) (range_with_len 0 l.asset))
+invariant-loop-asset l = l.file.items ≡ l.fn.file.items ++ encode_commands (map (unit_deposit l.fn.account) (range_with_len 0 l.asset))

@@ -3,7 +3,7 @@ use Rattle.std.proofs.lemmas.Int.{to_z-of_z}
 use Rattle.weight_rows.specs.declared.entries.Entry.{Entry}
 use Rattle.sample_market.specs.Draws.{drawn, state_after}
 use Rattle.sample_market.specs.Orders.{drawn_entries}
-use Rattle.sample_market.proofs.Drawn.{entry_of, row_begins, behind_begins, entry_more, state_more}
+use Rattle.sample_market.proofs.Drawn.{entry_of, row_begins, after_begins, entry_more, state_more}
 use Rattle.sample_market.proofs.orders.row.Goals as goal
 
 pub loop-asset-init : goal.loop-asset-init
@@ -15,7 +15,7 @@ loop-asset-init c =
     record {
       from = omega arith;
       row = row_begins c.args.draws.now c.below.new.self c.below-first.new.self c.below.result c.below-first.result _ _ count.value count.next (first.value ∙ ap (λ n. drawn n c.below.new.self) c.from.ensures) first.next left entries.items;
-      behind = behind_begins c.args.draws.now c.below.new.self c.below-first.new.self c.below.result _ count.value count.next first.next left;
+      following = after_begins c.args.draws.now c.below.new.self c.below-first.new.self c.below.result _ count.value count.next first.next left;
       few = rw entries.items (omega (arith, left, count.bound));
       room = omega (arith, left, entries.len, entries.capacity);
     }
@@ -33,8 +33,8 @@ loop-asset-preserved c =
       from = omega (arith, before.from);
       row =
           entry_more _ c.loop-asset.entries.items c.push_reserved.new.self.items entry (end - asset) rest asset c.loop-asset.draws before.row less c.push_reserved.ensures.items (ap (entry_of asset) weight)
-          ∙ ap (λ s. c.push_reserved.new.self.items ++ drawn_entries rest (asset + 1) s) (sym c.weight-weight.ensures.behind);
-      behind = state_more _ (end - asset) rest c.loop-asset.draws before.behind less ∙ ap (state_after (2 * rest)) (sym c.weight-weight.ensures.behind);
+          ∙ ap (λ s. c.push_reserved.new.self.items ++ drawn_entries rest (asset + 1) s) (sym c.weight-weight.ensures.following);
+      following = state_more _ (end - asset) rest c.loop-asset.draws before.following less ∙ ap (state_after (2 * rest)) (sym c.weight-weight.ensures.following);
       few = omega (arith, before.few, less, ap length c.push_reserved.ensures.items, length-append c.loop-asset.entries.items (entry ∷ []));
       room = omega (arith, before.room, less, c.push_reserved.ensures.len, c.push_reserved.ensures.capacity);
     }

@@ -4,7 +4,7 @@ use Rattle.journal_records.specs.Formats.{records_of}
 use Rattle.batch_audit.specs.Legal.{IsLegalPair}
 use Rattle.sample_summary.specs.Private.{IsWritten, IsCounted}
 use Rattle.sample_summary.proofs.Counted.{has_room}
-use Rattle.sample_summary.proofs.Written.{legal_of, framed_as, not_none, not_broken, made_of, spells_of}
+use Rattle.sample_summary.proofs.Written.{legal_of, framed_as, not_none, not_broken, made_of, encodes_of}
 use Rattle.sample_summary.proofs.sampling.take_pair.Goals as goal
 
 pub audit_legal-requires-clause-legal : goal.audit_legal-requires-clause-legal
@@ -17,7 +17,7 @@ audit_legal-requires-clause-legal c =
 counted : (c : goal.After-counts_of) (w : IsWritten c.args.audit.now c.args.bytes.now) → IsCounted w.pair.answer c.counts_of.result
 counted c w =
     let is = framed_as c.args.audit.now c.args.bytes.now w c.in-Whole.pair (drop c.in-Whole.field-1 c.args.bytes.now) c.in-Whole.ensures.0 c.in-Whole.ensures.2 in
-    c.counts_of.ensures w.pair.answer (spells_of c.args.audit.now c.args.bytes.now w c.in-Whole.pair is)
+    c.counts_of.ensures w.pair.answer (encodes_of c.args.audit.now c.args.bytes.now w c.in-Whole.pair is)
 
 pub add-requires-clause-cleared : goal.add-requires-clause-cleared
 unfolding counted
@@ -41,7 +41,7 @@ pub returns : goal.returns
 returns c = record {
   taken = λ w.
       let is = framed_as c.args.audit.now c.args.bytes.now w c.in-Whole.pair (drop c.in-Whole.field-1 c.args.bytes.now) c.in-Whole.ensures.0 c.in-Whole.ensures.2 in
-      let one = c.counts_of.ensures w.pair.answer (spells_of c.args.audit.now c.args.bytes.now w c.in-Whole.pair is) in (
+      let one = c.counts_of.ensures w.pair.answer (encodes_of c.args.audit.now c.args.bytes.now w c.in-Whole.pair is) in (
         made_of c.args.audit.now c.args.bytes.now w c.in-Whole.pair c.audit_legal.new.audit is c.in_ok-audit_legal-in-Whole.ensures.made,
         record {
           cleared = omega (arith, c.add.ensures.cleared, one.cleared);

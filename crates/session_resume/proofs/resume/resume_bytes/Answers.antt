@@ -1,8 +1,8 @@
 use Rattle.std.proofs.Common.{drop, IsTrue}
 use Rattle.session_resume.specs.Firsts.{Whole}
 use Rattle.session_resume.specs.Resuming.{FirstComesTo, Resumes, ResumesInto, ResumesShort}
-use Rattle.session_resume.specs.Private.{IntoBehind, ShortBehind}
-use Rattle.session_resume.proofs.Behind.{ends_map, into_whole, short_whole, illegal_ends}
+use Rattle.session_resume.specs.Private.{IntoAfter, ShortAfter}
+use Rattle.session_resume.proofs.After.{ends_map, into_whole, short_whole, illegal_ends}
 use Rattle.session_resume.proofs.resume.resume_bytes.Goals as goal
 
 pub returns-in-Ok-clause-ends : goal.returns-in-Ok-clause-ends
@@ -12,7 +12,7 @@ returns-in-Ok-clause-ends g c =
     let rest = drop part.place bytes in
     let first = Whole part.origin part.market part.place rest in
     let stands = c.in-Ok.ensures.first in
-    ends_map (FirstComesTo (IsTrue c.args.more) first) (Resumes (IsTrue c.args.more) bytes) (IntoBehind part.market rest) (ResumesInto bytes) (ShortBehind part.market rest) (ResumesShort bytes)
+    ends_map (FirstComesTo (IsTrue c.args.more) first) (Resumes (IsTrue c.args.more) bytes) (IntoAfter part.market rest) (ResumesInto bytes) (ShortAfter part.market rest) (ResumesShort bytes)
     (λ ended text comes. record { first = first; stands = stands; comes = comes }) (into_whole bytes part.origin part.market part.place rest stands) (short_whole bytes part.origin part.market part.place rest stands)
     c.go_on.result (g.K.Sink.held c.args.out.now) (g.K.Sink.held c.go_on.new.out) c.go_on.ensures.ends
 

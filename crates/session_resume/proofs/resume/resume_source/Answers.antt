@@ -11,7 +11,7 @@ pub returns-in-Err-Read : goal.returns-in-Err-Read
 returns-in-Err-Read g c =
     let read = c.in-Err-Read.ensures in
     record {
-      does = does_not_read resuming c.args.limit (λ bytes n. inl refl) (change g.S.Source.rest g.S.Source.faults c.args.source.now c.read_all.new.source) read.front.0 (g.K.Sink.held c.args.out.now) (g.K.Sink.faults c.args.out.now) read.front.1 read.most
+      does = does_not_read resuming c.args.limit (λ bytes n. inl refl) (change g.S.Source.rest g.S.Source.faults c.args.source.now c.read_all.new.source) read.prefix.0 (g.K.Sink.held c.args.out.now) (g.K.Sink.faults c.args.out.now) read.prefix.1 read.most
           (blamed _ _ (ap Err c.in-Err-Read.field-0-is) read.cause);
       unread = λ e. refl;
     }
@@ -20,7 +20,7 @@ pub returns-in-Err-Memory : goal.returns-in-Err-Memory
 returns-in-Err-Memory g c =
     let read = c.in-Err-Memory.ensures in
     record {
-      does = does_not_fit resuming c.args.limit (λ left. inl refl) (change g.S.Source.rest g.S.Source.faults c.args.source.now c.read_all.new.source) (g.K.Sink.held c.args.out.now) (g.K.Sink.faults c.args.out.now) (keeps_up_within resuming c.args.limit (g.S.Source.rest c.args.source.now) (g.S.Source.rest c.read_all.new.source) read.front.0 (g.K.Sink.held c.args.out.now) (g.K.Sink.held c.args.out.now) read.front.1 read.most (omega arith)) read.most
+      does = does_not_fit resuming c.args.limit (λ left. inl refl) (change g.S.Source.rest g.S.Source.faults c.args.source.now c.read_all.new.source) (g.K.Sink.held c.args.out.now) (g.K.Sink.faults c.args.out.now) (keeps_up_within resuming c.args.limit (g.S.Source.rest c.args.source.now) (g.S.Source.rest c.read_all.new.source) read.prefix.0 (g.K.Sink.held c.args.out.now) (g.K.Sink.held c.args.out.now) read.prefix.1 read.most (omega arith)) read.most
           (read.cause.quiet (memory_is_not_read _ _ c.in-Err-Memory.field-0-is));
       unread = λ e. refl;
     }
@@ -33,7 +33,7 @@ returns g c =
     let ends = rw c.deref.ensures.value at c.resume_bytes.ensures.ends in
     record {
       does = does resuming c.args.limit c.resume_bytes.result source out (meets_told source.before source.after c.args.limit c.in-Ok.input c.resume_bytes.result out.before out.after read.whole ends)
-          (λ why. keeps_up_within resuming c.args.limit source.before source.after read.front.0 out.before out.after read.front.1 read.most (omega arith)) read.most
+          (λ why. keeps_up_within resuming c.args.limit source.before source.after read.prefix.0 out.before out.after read.prefix.1 read.most (omega arith)) read.most
           (left_told source.before source.after c.args.limit c.in-Ok.input c.resume_bytes.result out.before out.after read.whole read.taken ends)
           (read_quietly (Resumes (IsTrue c.in-Ok.input.more) c.in-Ok.input.bytes.items) (ResumesInto c.in-Ok.input.bytes.items) (ResumesShort c.in-Ok.input.bytes.items) c.resume_bytes.result out.before out.after ends source.faults source.faults_after (read.cause.quiet (λ e. cc)))
           c.resume_bytes.ensures.cause;

@@ -1,4 +1,4 @@
-use Rattle.wire_fields.proofs.Spelling.{All-signed}
+use Rattle.wire_fields.proofs.Encoding.{All-signed}
 use Rattle.wire_fields.proofs.laws.signed_bytes.Goals as goal
 
 pub returns : goal.returns

@@ -1,4 +1,4 @@
-use Rattle.wire_fields.proofs.Spelling.{All-unsigned}
+use Rattle.wire_fields.proofs.Encoding.{All-unsigned}
 use Rattle.wire_fields.proofs.laws.unsigned_bytes.Goals as goal
 
 pub returns : goal.returns

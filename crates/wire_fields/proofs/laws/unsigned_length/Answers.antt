@@ -1,4 +1,4 @@
-use Rattle.wire_fields.proofs.Spelling.{length-unsigned}
+use Rattle.wire_fields.proofs.Encoding.{length-unsigned}
 use Rattle.wire_fields.proofs.laws.unsigned_length.Goals as goal
 
 pub returns : goal.returns

@@ -1,6 +1,6 @@
 use Rattle.std.proofs.Common.{[], arith}
 use Rattle.wire_records.specs.Formats.{commands}
-use Rattle.wire_records.proofs.Fronts.{states_none-from_few}
+use Rattle.wire_records.proofs.Prefixes.{states_none-from_few}
 use Rattle.wire_records.proofs.ReadingLaws.{file_read}
 use Rattle.wire_records.proofs.RecordCode.{commands_readable}
 use Rattle.wire_records.proofs.laws.file_is_read.Goals as goal

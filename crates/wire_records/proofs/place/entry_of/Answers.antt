@@ -1,16 +1,16 @@
 use Rattle.std.proofs.Common.{◌≡◌, ◌++◌, ℕ, ℤ, List, Some, to_z, of_z, w32, append_assoc, refl, ap, ◌∙◌}
 use Rattle.std.proofs.lemmas.Int.{to_z-of_z}
 use Rattle.std.proofs.lemmas.Option.{none-some, same_Some}
-use Rattle.wire_fields.proofs.Spelling.{FitsSigned-from_signed}
+use Rattle.wire_fields.proofs.Encoding.{FitsSigned-from_signed}
 use Rattle.wire_records.proofs.Requests.{same_entry}
 use Rattle.wire_fields.specs.Numbers.{unsigned, signed}
 use Rattle.weight_rows.specs.declared.entries.Entry.{Entry}
-use Rattle.wire_records.specs.Bodies.{entry_spelling}
+use Rattle.wire_records.specs.Bodies.{entry_encoding}
 use Rattle.wire_records.proofs.place.entry_of.Goals as goal
 
 -- the asset comes before the weight
-apart : (e : Entry) (bytes rest : List ℕ) → bytes ≡ entry_spelling e ++ rest → bytes ≡ unsigned 2 e.asset ++ (signed 4 e.weight ++ rest)
-unfolding entry_spelling
+apart : (e : Entry) (bytes rest : List ℕ) → bytes ≡ entry_encoding e ++ rest → bytes ≡ unsigned 2 e.asset ++ (signed 4 e.weight ++ rest)
+unfolding entry_encoding
 apart e bytes rest same = same ∙ append_assoc (unsigned 2 e.asset) (signed 4 e.weight) rest
 
 pub returns-in_err-asset : goal.returns-in_err-asset

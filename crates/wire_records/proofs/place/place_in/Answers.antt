@@ -2,12 +2,12 @@ use Rattle.std.proofs.Common.{◌≡◌, ◌++◌, ◌*◌, ℕ, List, [], lengt
 use Rattle.std.proofs.lemmas.Int.{to_z-of_z}
 use Rattle.std.proofs.lemmas.List.{append-nil, nil_from_length}
 use Rattle.std.proofs.lemmas.Bool.{false≢true}
-use Rattle.wire_fields.proofs.Spelling.{FitsSigned-from_signed}
+use Rattle.wire_fields.proofs.Encoding.{FitsSigned-from_signed}
 use Rattle.wire_records.specs.declared.place.Numbers.{Numbers}
 use Rattle.wire_records.specs.Records.{AreBytes}
-use Rattle.wire_records.specs.Private.{FitNumbers, numbers_and, entries_in, SpellsRequest}
+use Rattle.wire_records.specs.Private.{FitNumbers, numbers_and, entries_in, EncodesRequest}
 use Rattle.wire_records.proofs.RequestsTold.{none-from_few, none-from_other, request_found}
-use Rattle.wire_records.proofs.Entries.{entries_spelled}
+use Rattle.wire_records.proofs.Entries.{entries_encoded}
 use Rattle.wire_records.proofs.place.place_in.Goals as goal
 
 pub returns-in_err-numbers-clause-none : goal.returns-in_err-numbers-clause-none
@@ -31,14 +31,14 @@ returns-then-not-is_empty-clause-none c =
 pub invariant_of-result : goal.invariant_of-result
 invariant_of-result c =
     let bytes = c.as_bytes-bytes in
-    entries_spelled c.in_ok-numbers.numbers.count bytes.result.now (omega (arith, ap length bytes.ensures.value, c.in_ok-take.ensures.size, c.from.ensures)) (rw bytes.ensures.value bytes.ensures.bytes)
+    entries_encoded c.in_ok-numbers.numbers.count bytes.result.now (omega (arith, ap length bytes.ensures.value, c.in_ok-take.ensures.size, c.from.ensures)) (rw bytes.ensures.value bytes.ensures.bytes)
 
 -- the request that was read, with its limits as the code hands them on
-read : (n : Numbers) (rest bytes left body : List ℕ) → FitNumbers n → body ≡ numbers_and n rest → rest ≡ bytes ++ left → left ≡ [] → length bytes ≡ 6 * n.count → AreBytes bytes → SpellsRequest body (record { account = n.account; low = to_z w64 (of_z w64 n.low); high = to_z w64 (of_z w64 n.high); rate = n.rate; cap = n.cap; row = entries_in bytes })
+read : (n : Numbers) (rest bytes left body : List ℕ) → FitNumbers n → body ≡ numbers_and n rest → rest ≡ bytes ++ left → left ≡ [] → length bytes ≡ 6 * n.count → AreBytes bytes → EncodesRequest body (record { account = n.account; low = to_z w64 (of_z w64 n.low); high = to_z w64 (of_z w64 n.high); rate = n.rate; cap = n.cap; row = entries_in bytes })
 read n rest bytes left body fit whole parts none size small =
     let all : rest ≡ bytes = parts ∙ ap (λ xs. bytes ++ xs) none ∙ append-nil bytes in
     rw (to_z-of_z w64 n.low (FitsSigned-from_signed 8 w64 refl n.low fit.low), to_z-of_z w64 n.high (FitsSigned-from_signed 8 w64 refl n.high fit.high))
-    (request_found n bytes body fit (whole ∙ ap (numbers_and n) all) size (entries_spelled n.count bytes size small))
+    (request_found n bytes body fit (whole ∙ ap (numbers_and n) all) size (entries_encoded n.count bytes size small))
 
 pub returns-clause-found : goal.returns-clause-found
 returns-clause-found c =

@@ -1,19 +1,19 @@
 use Rattle.std.proofs.Common.{◌≡◌, ◌+◌, ◌<◌, ◌≤◌, ℕ, List, [], ◌++◌, length, take, drop, length-append, sym, ap, ◌∙◌, refl, arith}
 use Rattle.std.proofs.lemmas.List.{take_at, drop_at, length-take-le}
 use Rattle.std.proofs.lemmas.Bool.Decides.{nat_tests}
-use Rattle.wire_records.specs.Records.{Record, head, spelling, StatesLength, HasNoFront}
-use Rattle.wire_records.proofs.Spelled.{length-spelling, read_whole}
-use Rattle.wire_records.proofs.Fronts.{no_front-from_few, states_none-from_few, no_front-from_stated, states_one}
+use Rattle.wire_records.specs.Records.{Record, head, encoding, StatesLength, HasNoPrefix}
+use Rattle.wire_records.proofs.Encoded.{length-encoding, read_whole}
+use Rattle.wire_records.proofs.Prefixes.{no_prefix-from_few, states_none-from_few, no_prefix-from_stated, states_one}
 use Rattle.wire_records.proofs.record.next_record.Goals as goal
 
 -- bytes that begin with an encoding are that encoding and the rest
-rest_of : (bytes rest : List ℕ) (r : Record) (n : ℕ) → n ≡ length (spelling r) → bytes ≡ spelling r ++ rest → bytes ≡ spelling r ++ drop n bytes
+rest_of : (bytes rest : List ℕ) (r : Record) (n : ℕ) → n ≡ length (encoding r) → bytes ≡ encoding r ++ rest → bytes ≡ encoding r ++ drop n bytes
 rest_of bytes rest r n len e =
-    e ∙ ap (λ xs. spelling r ++ xs) (sym (drop_at (spelling r) rest n (sym len)) ∙ ap (drop n) (sym e))
+    e ∙ ap (λ xs. encoding r ++ xs) (sym (drop_at (encoding r) rest n (sym len)) ∙ ap (drop n) (sym e))
 
 -- fewer than five bytes, but some
-short : (limit : ℕ) (bytes : List ℕ) → (bytes ≡ [] → ⊥) → length bytes < 5 → (bytes ≡ [] → ⊥) × HasNoFront limit bytes × ((n : ℕ) → StatesLength n bytes → n ≤ limit)
-short limit bytes some few = (some, no_front-from_few limit bytes few, λ n states. absurd (states_none-from_few n bytes few states))
+short : (limit : ℕ) (bytes : List ℕ) → (bytes ≡ [] → ⊥) → length bytes < 5 → (bytes ≡ [] → ⊥) × HasNoPrefix limit bytes × ((n : ℕ) → StatesLength n bytes → n ≤ limit)
+short limit bytes some few = (some, no_prefix-from_few limit bytes few, λ n states. absurd (states_none-from_few n bytes few states))
 
 pub returns-in-None : goal.returns-in-None
 returns-in-None c = short c.args.limit c.args.bytes.now (λ empty. absurd (grind (arith, nat_tests, ap length empty))) (omega (arith, c.in-None.ensures.few, ap length c.new-cursor.ensures))
@@ -27,7 +27,7 @@ returns-in-None-take c =
     let stated : c.args.bytes.now ≡ head tag n ++ rest = sym c.new-cursor.ensures ∙ found.stated in
     let few : length rest < n = c.in-None-take.ensures.none.0 refl in (
       λ empty. absurd (grind (arith, nat_tests, ap length empty)),
-      no_front-from_stated c.args.limit tag n c.args.bytes.now rest (omega arith) found.fits.0 found.fits.1 stated few,
+      no_prefix-from_stated c.args.limit tag n c.args.bytes.now rest (omega arith) found.fits.0 found.fits.1 stated few,
       λ m states. let e = states_one tag n m c.args.bytes.now rest found.fits.0 found.fits.1 stated states in omega (arith, e),
     )
 
@@ -42,7 +42,7 @@ slice_bounds-bytes-end c =
     let body = c.in-Some-take.body.now in
     let r : Record = record { tag = c.in-Some.head.0; body = body } in
     let whole = read_whole c.args.bytes.now c.take_head.new.cursor body c.take.new.self c.in-Some.head.0 c.in-Some.head.1 (sym c.new-cursor.ensures ∙ found.stated) c.in-Some-take.ensures.found c.in-Some-take.ensures.size in
-    sym (length-take-le (5 + length body) c.args.bytes.now (omega (arith, ap length whole, length-append (spelling r) c.take.new.self, length-spelling r)))
+    sym (length-take-le (5 + length body) c.args.bytes.now (omega (arith, ap length whole, length-append (encoding r) c.take.new.self, length-encoding r)))
 
 pub invariant_of-result : goal.invariant_of-result
 invariant_of-result c =
@@ -50,7 +50,7 @@ invariant_of-result c =
     let body = c.in-Some-take.body.now in
     let r : Record = record { tag = c.in-Some.head.0; body = body } in
     let whole = read_whole c.args.bytes.now c.take_head.new.cursor body c.take.new.self c.in-Some.head.0 c.in-Some.head.1 (sym c.new-cursor.ensures ∙ found.stated) c.in-Some-take.ensures.found c.in-Some-take.ensures.size in
-    ap (take (5 + length body)) whole ∙ take_at (spelling r) c.take.new.self (5 + length body) (length-spelling r)
+    ap (take (5 + length body)) whole ∙ take_at (encoding r) c.take.new.self (5 + length body) (length-encoding r)
 
 pub returns-in-Some-take : goal.returns-in-Some-take
 returns-in-Some-take c =
@@ -58,5 +58,5 @@ returns-in-Some-take c =
     let body = c.in-Some-take.body.now in
     let r : Record = record { tag = c.in-Some.head.0; body = body } in
     let whole = read_whole c.args.bytes.now c.take_head.new.cursor body c.take.new.self c.in-Some.head.0 c.in-Some.head.1 (sym c.new-cursor.ensures ∙ found.stated) c.in-Some-take.ensures.found c.in-Some-take.ensures.size in
-    let len : 5 + length body ≡ length (spelling r) = sym (length-spelling r) in
+    let len : 5 + length body ≡ length (encoding r) = sym (length-encoding r) in
     (record { tag = found.fits.0; body = omega (arith, c.in-Some-take.ensures.size) }, len, rest_of c.args.bytes.now c.take.new.self r (5 + length body) len whole)

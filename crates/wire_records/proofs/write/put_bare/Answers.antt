@@ -1,5 +1,5 @@
 use Rattle.std.proofs.Common.{[], append-nil, sym, ◌∙◌, refl}
-use Rattle.wire_records.proofs.Spelled.{head_and_body}
+use Rattle.wire_records.proofs.Encoded.{head_and_body}
 use Rattle.wire_records.proofs.write.put_bare.Goals as goal
 
 pub returns : goal.returns

@@ -1,7 +1,7 @@
 use Rattle.std.proofs.Common.{◌++◌, ap, ◌∙◌, sym}
 use Rattle.wire_fields.specs.Numbers.{unsigned}
-use Rattle.wire_fields.proofs.Spelling.{length-unsigned}
-use Rattle.wire_records.proofs.Spelled.{head_and_body}
+use Rattle.wire_fields.proofs.Encoding.{length-unsigned}
+use Rattle.wire_records.proofs.Encoded.{head_and_body}
 use Rattle.wire_records.proofs.write.put_batch.Goals as goal
 
 pub returns : goal.returns

@@ -1,5 +1,5 @@
 use Rattle.std.proofs.Common.{◌++◌, ap, ◌∙◌, arith}
-use Rattle.wire_records.proofs.Spelled.{head_and_body}
+use Rattle.wire_records.proofs.Encoded.{head_and_body}
 use Rattle.wire_records.proofs.write.put_ticker.Goals as goal
 
 pub returns-clause-written : goal.returns-clause-written

@@ -1,9 +1,9 @@
 use Rattle.std.proofs.Common.{◌++◌, length-append, ap, ◌∙◌}
 use Rattle.std.proofs.lemmas.List.{append_assoc}
 use Rattle.wire_fields.specs.Numbers.{unsigned}
-use Rattle.wire_fields.proofs.Spelling.{length-unsigned}
+use Rattle.wire_fields.proofs.Encoding.{length-unsigned}
 use Rattle.wire_records.specs.Records.{head}
-use Rattle.wire_records.proofs.Spelled.{head_and_body}
+use Rattle.wire_records.proofs.Encoded.{head_and_body}
 use Rattle.wire_records.proofs.write.put_units.Goals as goal
 
 pub returns : goal.returns

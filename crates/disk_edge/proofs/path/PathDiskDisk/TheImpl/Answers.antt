@@ -1,49 +1,18 @@
-use Rattle.std.proofs.Common.{refl}
-use Rattle.disk_edge.proofs.Untold.{nothing_told, always, elapses}
+use Rattle.disk_edge.proofs.Torn.{write_stays, cut_stays}
+use Rattle.disk_edge.proofs.Untold.{tells_any, changes_any, no_longer_any}
 use Rattle.disk_edge.proofs.path.PathDiskDisk.TheImpl.Goals as goal
 
 pub length-tells : goal.length-tells
-length-tells g c = record {
-  length = nothing_told c.result;
-  content = refl;
-  images = λ image left. left;
-  time = elapses c.args.self.now.file c.new.self.now.file;
-  cause = c.ensures.cause;
-}
+length-tells g c = tells_any c.args.self.now.file c.new.self.now.file c.result _ c.ensures.cause
 
 pub read_at-tells : goal.read_at-tells
-read_at-tells g c = record {
-  read = always _ c.result tt;
-  content = refl;
-  images = λ image left. left;
-  time = elapses c.args.self.now.file c.new.self.now.file;
-  cause = c.ensures.cause;
-}
+read_at-tells g c = tells_any c.args.self.now.file c.new.self.now.file c.result _ c.ensures.cause
 
 pub write_at-tells : goal.write_at-tells
-write_at-tells g c = record {
-  written = always _ c.result refl;
-  told = (λ is. is, λ is. is);
-  images = c.ensures.images;
-  time = elapses c.args.self.now.file c.new.self.now.file;
-  cause = c.ensures.cause;
-}
+write_at-tells g c = changes_any c.args.self.now.file c.new.self.now.file c.result _ _ (write_stays c.args.place _) c.ensures.cause
 
 pub cut-tells : goal.cut-tells
-cut-tells g c = record {
-  cut = always _ c.result refl;
-  told = (λ is. is, λ is. is);
-  images = c.ensures.images;
-  no_longer = c.ensures.no_longer;
-  time = elapses c.args.self.now.file c.new.self.now.file;
-  cause = c.ensures.cause;
-}
+cut-tells g c = record { changes = changes_any c.args.self.now.file c.new.self.now.file c.result _ _ (cut_stays c.args.to) c.ensures.cause; no_longer = no_longer_any c.args.self.now.file c.new.self.now.file }
 
 pub sync-tells : goal.sync-tells
-sync-tells g c = record {
-  kept = always _ c.result tt;
-  content = refl;
-  images = λ image left. left;
-  time = elapses c.args.self.now.file c.new.self.now.file;
-  cause = c.ensures.cause;
-}
+sync-tells g c = tells_any c.args.self.now.file c.new.self.now.file c.result _ c.ensures.cause

@@ -8,6 +8,6 @@ returns-in-Err-clause-halted c =
       unit = at.asked;
       rest = at.rest;
       lawful = at.lawful;
-      front = at.front;
+      prefix = at.prefix;
       halts = elim at.allocates [ inl short ↦ absurd (omega (arith, short, c.requires.room, c.requires.none)) | inr allocates ↦ allocates ];
     }

@@ -10,7 +10,7 @@ returns-in-Plain-clause-served c = (
     answer = Plain c.in-Plain.reply;
     step = rw (c.in-Plain.is, c.self.view_is) at c.in_ok-reply.ensures.step;
     fits = λ next. plain_pair_fits c.args.asked.now c.in-Plain.reply c.requires.short c.write_plain.ensures.fits;
-    spelled = refl;
+    encoded = refl;
   },
   rw c.reserve_plain.ensures.stays at c.write_plain.ensures.written,
 )

@@ -22,7 +22,7 @@ returns-in-Ok-clause-taken g c = record {
   lawful = c.in-Whole.ensures.0;
   size = c.in-Whole.ensures.1;
   some = omega (arith, (pair_within c.args.bytes.now c.in-Whole.pair c.in-Whole.taken c.in-Whole.ensures.1 c.in-Whole.ensures.2).1);
-  front = c.in-Whole.ensures.2;
+  prefix = c.in-Whole.ensures.2;
   step = c.in-Ok.ensures.seen;
 }
 

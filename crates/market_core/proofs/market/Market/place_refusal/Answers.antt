@@ -1,10 +1,10 @@
 use Rattle.std.proofs.Common.{Some, sym, ◌∙◌}
 use Rattle.std.proofs.lemmas.Bool.{false≢true}
-use Rattle.market_core.proofs.Placing.{refuses_numbers, BehindNumbers, first_of_place, too_late}
+use Rattle.market_core.proofs.Placing.{refuses_numbers, AfterNumbers, first_of_place, too_late}
 use Rattle.market_core.proofs.market.Market.place_refusal.Goals as goal
 
 pub returns-in-Some : goal.returns-in-Some
-returns-in-Some c = refuses_numbers c.args.self.now c.args.place.now (BehindNumbers c.args.self.now c.args.last c.args.place.now) (Some c.in-Some.refusal) c.in-Some.ensures.some
+returns-in-Some c = refuses_numbers c.args.self.now c.args.place.now (AfterNumbers c.args.self.now c.args.last c.args.place.now) (Some c.in-Some.refusal) c.in-Some.ensures.some
 
 pub returns-then-not-is_to_come : goal.returns-then-not-is_to_come
 returns-then-not-is_to_come c =

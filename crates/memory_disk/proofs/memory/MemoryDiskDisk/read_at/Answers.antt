@@ -1,28 +1,17 @@
 use Rattle.std.proofs.Common.{length, ap, ◌∙◌, refl, arith, true, false}
-use Rattle.memory_disk.specs.Memory.{looked}
-use Rattle.memory_disk.proofs.MemoryCalls.{look_held, look_content, look_images, time_goes}
+use Rattle.std.proofs.lemmas.Result.{err_from_is_err_and}
+use Rattle.memory_disk.proofs.MemoryCalls.{look_held, look_tells}
 use Rattle.memory_disk.proofs.memory.MemoryDiskDisk.read_at.Goals as goal
 
-pub returns-in_err-look-clause-content : goal.returns-in_err-look-clause-content
-returns-in_err-look-clause-content c = look_content c.args.self.now c.look.new.self true c.in_err-look.ensures.made
-
-pub returns-in_err-look-clause-images : goal.returns-in_err-look-clause-images
-returns-in_err-look-clause-images c = look_images c.args.self.now c.look.new.self true c.in_err-look.ensures.made
-
-pub returns-in_err-look-clause-time : goal.returns-in_err-look-clause-time
-returns-in_err-look-clause-time c = time_goes c.args.self.now c.look.new.self looked true c.in_err-look.ensures.made
-
-pub returns-clause-content : goal.returns-clause-content
-returns-clause-content c = look_content c.args.self.now c.look.new.self false c.in_ok-look.ensures.made
-
-pub returns-clause-images : goal.returns-clause-images
-returns-clause-images c = look_images c.args.self.now c.look.new.self false c.in_ok-look.ensures.made
-
-pub returns-clause-time : goal.returns-clause-time
-returns-clause-time c = time_goes c.args.self.now c.look.new.self looked false c.in_ok-look.ensures.made
+pub returns-in_err-look-clause-tells : goal.returns-in_err-look-clause-tells
+returns-in_err-look-clause-tells c =
+    let p = err_from_is_err_and c.from_residual.result c.from_residual.ensures.1 in
+    rw p.1 (look_tells c.args.self.now c.look.new.self true c.in_err-look.ensures.made _ _ tt c.in_err-look.ensures.cause)
 
 pub read_out-requires : goal.read_out-requires
 read_out-requires c = let same = c.bytes.ensures ∙ (look_held c.args.self.now c.look.new.self false c.in_ok-look.ensures.made) in omega (arith, c.requires, ap length same)
 
-pub returns-clause-read : goal.returns-clause-read
-returns-clause-read c = let same = c.bytes.ensures ∙ (look_held c.args.self.now c.look.new.self false c.in_ok-look.ensures.made) in rw (c.read_out.ensures, same) refl
+pub returns-clause-tells : goal.returns-clause-tells
+returns-clause-tells c =
+    let same = c.bytes.ensures ∙ (look_held c.args.self.now c.look.new.self false c.in_ok-look.ensures.made) in
+    look_tells c.args.self.now c.look.new.self false c.in_ok-look.ensures.made _ _ (rw (c.read_out.ensures, same) refl) c.in_ok-look.ensures.cause

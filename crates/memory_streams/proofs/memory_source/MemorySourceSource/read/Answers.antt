@@ -3,16 +3,16 @@ use Rattle.std.proofs.lemmas.List.{drop-append-le, take-append-drop}
 use Rattle.memory_streams.proofs.memory_source.MemorySourceSource.read.Goals as goal
 
 -- the bytes after a read of the first part of a buffer are unchanged in the whole buffer
-behind : (into front : List ℕ) (most count : ℕ) → count ≤ length front → length front ≡ length (take most into) → drop count front ≡ drop count (take most into) → drop count (front ++ drop most into) ≡ drop count into
-behind into front most count short same e =
-    drop-append-le count front (drop most into) short
+following : (into prefix : List ℕ) (most count : ℕ) → count ≤ length prefix → length prefix ≡ length (take most into) → drop count prefix ≡ drop count (take most into) → drop count (prefix ++ drop most into) ≡ drop count into
+following into prefix most count short same e =
+    drop-append-le count prefix (drop most into) short
     ∙ ap (λ ys. ys ++ drop most into) e
     ∙ sym (drop-append-le count (take most into) (drop most into) (omega arith))
     ∙ ap (λ ys. drop count ys) (take-append-drop most into)
 
-pub returns-clause-behind : goal.returns-clause-behind
-returns-clause-behind c =
+pub returns-clause-following : goal.returns-clause-following
+returns-clause-following c =
     let all = c.read.ensures.all in
-    let kept = rw all at c.read.ensures.behind in
+    let kept = rw all at c.read.ensures.following in
     let same = c.read.auto.into in
-    rw all (behind c.args.into.now c.read.new.into c.min-most.result _ (omega arith) same kept)
+    rw all (following c.args.into.now c.read.new.into c.min-most.result _ (omega arith) same kept)

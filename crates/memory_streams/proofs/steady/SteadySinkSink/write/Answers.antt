@@ -8,8 +8,8 @@ use Rattle.memory_streams.proofs.steady.SteadySinkSink.write.Goals as goal
 use Rattle.memory_streams.proofs.steady.SteadySinkSink.write.Goals.{then-self, else-self}
 
 -- what was held and the bytes that fit are the first bytes of both together
-front : (old more : List ℕ) (room : ℕ) → length old ≤ room → old ++ take (min (length more) (room - length old)) more ≡ take room (old ++ more)
-front old more room h =
+prefix : (old more : List ℕ) (room : ℕ) → length old ≤ room → old ++ take (min (length more) (room - length old)) more ≡ take room (old ++ more)
+prefix old more room h =
     let turned : min (length more) (room - length old) ≡ min (room - length old) (length more) = omega arith in
     let whole : length old + (room - length old) ≡ room = omega arith in
     ap (λ n. old ++ take n more) turned ∙ ap (λ ys. old ++ ys) (take_min (room - length old) more) ∙ sym (take-append-add old more (room - length old)) ∙ ap (λ n. take n (old ++ more)) whole
@@ -21,7 +21,7 @@ all_fits k n room count h e = grind (arith, nat_tests)
 -- the fields after a write are those that `keep` states
 kept : (old more new : List ℕ) (room count : ℕ) (was now : Bool) → length old ≤ room → count ≡ min (length more) (room - length old) → new ≡ old ++ take count more → now ≡ (was && nat_eq count (length more)) → record { bytes = new; room = room; complete = now } ≡ keep (record { bytes = old; room = room; complete = was }) more
 kept old more new room count was now h e items flag =
-    rw (items, flag, all_fits (length old) (length more) room count h e, e, front old more room h) refl
+    rw (items, flag, all_fits (length old) (length more) room count h e, e, prefix old more room h) refl
 
 pub returns-clause-kept : goal.returns-clause-kept
 returns-clause-kept c =

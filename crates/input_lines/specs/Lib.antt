@@ -1,0 +1,3 @@
+pub mod Long
+pub mod Finding
+pub mod Private

@@ -1,0 +1,30 @@
+-- For private functions alone: while a line is sought, or passed over.
+use Rattle.std.specs.Prelude.{◌≡◌, ◌<◌, ◌≤◌, ◌+◌, ℕ, List, ◌++◌, length, take, Option}
+use Rattle.flow_io.specs.Streams.{Takes}
+use Rattle.flow_io.specs.Windows.{WindowState}
+use Rattle.line_records.specs.Lines.{IsPiece}
+use Rattle.input_lines.specs.Long.{most_line}
+use Rattle.input_lines.specs.Finding.{IsOpen}
+
+-- the bytes of a part of a long line were given up
+pub record IsPassing (old now : WindowState) (before rest : Option (List ℕ)) : Type 0 where
+  pub joined : List ℕ
+  pub gone : List ℕ
+  pub takes : Takes before rest joined
+  pub limit : now.limit ≡ old.limit
+  pub parts : old.held ++ joined ≡ gone ++ now.held
+  pub place : now.place ≡ old.place + length gone
+  pub piece : IsPiece (gone ++ now.held)
+  pub long : most_line < length (gone ++ now.held)
+  pub is_open : IsOpen now rest
+
+-- bytes were joined to those held, and the first `seen` of all have no line feed
+pub record IsSearching (old now : WindowState) (before rest : Option (List ℕ)) (seen : ℕ) : Type 0 where
+  pub joined : List ℕ
+  pub takes : Takes before rest joined
+  pub limit : now.limit ≡ old.limit
+  pub held : now.held ≡ old.held ++ joined
+  pub place : now.place ≡ old.place
+  pub inside : seen ≤ length now.held
+  pub piece : IsPiece (take seen now.held)
+  pub is_open : IsOpen now rest

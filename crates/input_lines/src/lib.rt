@@ -1,0 +1,13 @@
+//! The lines of an input that is read through a window: [`next_line`] finds one after the other, or passes over one that is too long.
+//!
+//! # Costs
+//!
+//! Each byte is looked at once. No line is copied, and nothing is allocated.
+#![tactic(auto)]
+
+mod lines;
+
+pub use lines::{Next, next_line};
+
+/// The most bytes of a line before its line feed.
+pub const MOST_LINE: usize = 65_536;

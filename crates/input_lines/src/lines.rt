@@ -1,0 +1,95 @@
+//! The lines of an input, each found in a window or passed over.
+ghost use Rattle.std.specs.Prelude.{◌≡◌, ◌≢◌, ◌<◌, ◌⊎◌, [], length, IfOk, OnErr, IsErr};
+ghost use Rattle.flow_io.specs.Faults.{Blames};
+ghost use Rattle.line_records.specs.Lines.{IsPiece};
+ghost use Rattle.input_lines.specs.Long.{most_line};
+ghost use Rattle.input_lines.specs.Finding.{IsOpen, Finds, FindsNone};
+
+use crate::MOST_LINE;
+use flow_io::{Filled, ReadFailed, Source, Window};
+use memchr::memchr;
+
+/// What an input has next.
+#[derive(Clone, Copy)]
+pub enum Next {
+    /// A line of so many bytes, which the window holds with its line feed.
+    Line(usize),
+    /// A line that is too long; the window begins after its line feed.
+    Long,
+    /// The last line, which has no line feed; the window holds just it.
+    Last,
+    /// The last line, which has no line feed and is too long; the window begins after it.
+    LongLast,
+    /// No more lines.
+    End,
+    /// More bytes than the limit, before which no line ends.
+    Limit,
+}
+
+// Passes over a line that is too long, of which the window holds the first bytes.
+fn pass_over<S: Source>(window: &mut Window, source: &mut S) -> Result<Next, ReadFailed>
+    requires open { IsOpen window.old (S.rest source.old) }
+    requires piece { IsPiece window.old.held }
+    requires long { most_line < length window.old.held }
+    ensures finds { IfOk result (Finds window.old window.new (S.rest source.old) (S.rest source.new)) }
+    ensures none { OnErr result (FindsNone window.old (S.rest source.old) (S.rest source.new)) }
+    ensures cause { Blames (IsErr result) (S.faults source.old) (S.faults source.new) }
+{
+    'parts: loop {
+        let count = window.held().len();
+        window.advance(count);
+        match window.fill(source, 1) {
+            Ok(Filled::Enough) => {}
+            Ok(Filled::Limited) => return Ok(Next::Limit),
+            Ok(Filled::Ended) => return Ok(Next::LongLast),
+            Err(failed) => return Err(failed),
+        }
+        match memchr(b'\n', window.held()) {
+            Some(size) => {
+                window.advance(size + 1);
+                return Ok(Next::Long);
+            }
+            None => {}
+        }
+    }
+}
+
+/// Finds what an input has next, after what its window has given up: reads only while the window holds no line feed, until it holds one, the input ends, or
+/// the line is too long, which is passed over. The window has room for 65,537 bytes. `ReadFailed` comes only if the source's count of faults rose; then no
+/// line feed is among the bytes that were taken.
+pub fn next_line<S: Source>(window: &mut Window, source: &mut S) -> Result<Next, ReadFailed>
+    requires open { IsOpen window.old (S.rest source.old) }
+    ensures finds { IfOk result (Finds window.old window.new (S.rest source.old) (S.rest source.new)) }
+    ensures none { OnErr result (FindsNone window.old (S.rest source.old) (S.rest source.new)) }
+    ensures cause { Blames (IsErr result) (S.faults source.old) (S.faults source.new) }
+{
+    let mut seen = 0;
+    'reads: loop {
+        match memchr(b'\n', &window.held()[seen..]) {
+            Some(size) => return Ok(Next::Line(seen + size)),
+            None => {}
+        }
+        seen = window.held().len();
+        if seen > MOST_LINE {
+            return pass_over(window, source);
+        }
+        match window.fill(source, seen + 1) {
+            Ok(Filled::Enough) => {}
+            Ok(Filled::Limited) => return Ok(Next::Limit),
+            Ok(Filled::Ended) => return Ok(last_of(window.held())),
+            Err(failed) => return Err(failed),
+        }
+    }
+}
+
+// What is last in an input that has ended, of which the window holds so much.
+fn last_of(held: &[u8]) -> Next
+    ensures some { result ≡ Next.Last → held.now ≢ [] }
+    ensures none { result ≡ Next.End → held.now ≡ [] }
+    ensures either { (result ≡ Next.Last) ⊎ (result ≡ Next.End) }
+{
+    if held.is_empty() {
+        return Next::End;
+    }
+    Next::Last
+}

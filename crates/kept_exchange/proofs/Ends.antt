@@ -1,0 +1,102 @@
+-- What holds by the status is what holds by the result of keeping a journal, and of serving lines.
+use Rattle.std.proofs.Common.{◌≡◌, ℕ, List, Option, IfSome, Ok, Err, refl, sym, ap, subst}
+use Rattle.std.specs.Prelude.{⊤}
+use Rattle.flow_io.specs.Changes.{Change}
+use Rattle.disk_edge.specs.Disks.{DiskState}
+use Rattle.journal_keeping.specs.Pacing.{KeepsPace, RunsOut}
+use Rattle.journal_keeping.specs.Ended as kept
+use Rattle.journal_keeping.specs.declared.fault.KeepFault.TheVariants.{Read, Write, Disk, Memory, NotDisk, Damaged, Rejected, NotFlow, BadCheckpoint, Torn, TooLong}
+use Rattle.line_keeping.specs.Outputs.{Output}
+use Rattle.line_keeping.specs.Ended as lines
+use Rattle.flow_exchange.specs.declared.status.Status.{Status}
+use Rattle.flow_exchange.specs.declared.status.Status.TheVariants as status
+use Rattle.kept_exchange.specs.Statuses.{kept_status}
+use Rattle.kept_exchange.specs.Keeping.{EndsWith}
+use Rattle.kept_exchange.specs.Lines.{LinesEndWith}
+use Rattle.kept_exchange.specs.Laws.{KeepEndsByResult, LinesEndByResult}
+use Rattle.kept_exchange.proofs.AsStatus.{Kept, each}
+
+module _ (limit : ℕ) (held : Option (List ℕ)) (end : DiskState) (source out : Change) where
+  abbrev pub ByResult : Kept → Type 0
+  ByResult result =
+      IfSome held (λ bytes. kept.ComesTo limit bytes source.before end out.before out.after result) × KeepsPace limit source.before source.after out.before out.after result
+      × ((◌≡◌ {A = Kept} result (Err Memory)) → IfSome held (λ bytes. RunsOut limit bytes source.before source.after end out.before out.after))
+
+  pub ends_as : (result : Kept) → ByResult result → EndsWith limit held end source out (kept_status limit result)
+  ends_as (Ok done) by = (by.0, by.1)
+  ends_as (Err Read) by = by.1
+  ends_as (Err Write) by = by.1
+  ends_as (Err Disk) by = by.1
+  ends_as (Err Memory) by = (by.1, by.2 refl)
+  ends_as (Err NotDisk) by = by.0
+  ends_as (Err (Damaged place)) by = by.0
+  ends_as (Err (Rejected number)) by = by.0
+  ends_as (Err NotFlow) by = by.0
+  ends_as (Err BadCheckpoint) by = by.0
+  ends_as (Err (Torn place)) by = by.0
+  ends_as (Err TooLong) by = (by.0, refl)
+
+  nothing : IfSome held (λ bytes. ⊤)
+  nothing = each held (λ (bytes : List ℕ). ⊤) (λ bytes. tt)
+
+  by_status : (ends : Status) → EndsWith limit held end source out ends → (result : Kept) × (ends ≡ kept_status limit result) × ByResult result
+  by_status status.Done x = (Ok tt, refl, (x.0, x.1, λ e. absurd cc))
+  by_status status.ReadFault x = (Err Read, refl, (nothing, x, λ e. absurd cc))
+  by_status status.WriteFault x = (Err Write, refl, (nothing, x, λ e. absurd cc))
+  by_status status.DiskFault x = (Err Disk, refl, (nothing, x, λ e. absurd cc))
+  by_status status.NoMemory x = (Err Memory, refl, (nothing, x.0, λ e. x.1))
+  by_status status.NotDisk x = (Err NotDisk, refl, (x, tt, λ e. absurd cc))
+  by_status (status.Damaged place) x = (Err (Damaged place), refl, (x, tt, λ e. absurd cc))
+  by_status (status.Rejected number) x = (Err (Rejected number), refl, (x, tt, λ e. absurd cc))
+  by_status status.NotFlow x = (Err NotFlow, refl, (x, tt, λ e. absurd cc))
+  by_status status.BadCheckpoint x = (Err BadCheckpoint, refl, (x, tt, λ e. absurd cc))
+  by_status (status.Torn place) x = (Err (Torn place), refl, (x, tt, λ e. absurd cc))
+  by_status (status.TooLong most) x = (Err TooLong, ap status.TooLong x.1, (x.0, tt, λ e. absurd cc))
+  by_status status.Usage x = absurd x
+  by_status (status.BadText number) x = absurd x
+  by_status (status.NoAccount number) x = absurd x
+
+pub keep_ends : (end : DiskState) → KeepEndsByResult end
+keep_ends end limit held source out ends = (
+  λ x. let some = by_status limit held end source out ends x in (some.0, some.1, some.2.0, some.2.1, some.2.2),
+  λ some. subst (EndsWith limit held end source out) (sym some.1) (ends_as limit held end source out some.0 (some.2, some.3, some.4)),
+)
+
+module _ (limit : ℕ) (held : List ℕ) (content left : Option (List ℕ)) (end : DiskState) (out later : Output) where
+  pub lines_end_as : (result : Kept) → lines.ComesTo limit held content left end out later result → LinesEndWith limit held content left end out later (kept_status limit result)
+  lines_end_as (Ok done) comes = comes
+  lines_end_as (Err Read) comes = comes
+  lines_end_as (Err Write) comes = comes
+  lines_end_as (Err Disk) comes = comes
+  lines_end_as (Err Memory) comes = comes
+  lines_end_as (Err NotDisk) comes = comes
+  lines_end_as (Err (Damaged place)) comes = comes
+  lines_end_as (Err (Rejected number)) comes = comes
+  lines_end_as (Err NotFlow) comes = comes
+  lines_end_as (Err BadCheckpoint) comes = comes
+  lines_end_as (Err (Torn place)) comes = comes
+  lines_end_as (Err TooLong) comes = (comes, refl)
+
+  lines_by_status : (ends : Status) → LinesEndWith limit held content left end out later ends
+      → (result : Kept) × (ends ≡ kept_status limit result) × lines.ComesTo limit held content left end out later result
+  lines_by_status status.Done x = (Ok tt, refl, x)
+  lines_by_status status.ReadFault x = (Err Read, refl, x)
+  lines_by_status status.WriteFault x = (Err Write, refl, x)
+  lines_by_status status.DiskFault x = (Err Disk, refl, x)
+  lines_by_status status.NoMemory x = (Err Memory, refl, x)
+  lines_by_status status.NotDisk x = (Err NotDisk, refl, x)
+  lines_by_status (status.Damaged place) x = (Err (Damaged place), refl, x)
+  lines_by_status (status.Rejected number) x = (Err (Rejected number), refl, x)
+  lines_by_status status.NotFlow x = (Err NotFlow, refl, x)
+  lines_by_status status.BadCheckpoint x = (Err BadCheckpoint, refl, x)
+  lines_by_status (status.TooLong most) x = (Err TooLong, ap status.TooLong x.1, x.0)
+  lines_by_status (status.Torn place) x = absurd x
+  lines_by_status status.Usage x = absurd x
+  lines_by_status (status.BadText number) x = absurd x
+  lines_by_status (status.NoAccount number) x = absurd x
+
+pub lines_end : (end : DiskState) → LinesEndByResult end
+lines_end end limit held content left out later ends = (
+  lines_by_status limit held content left end out later ends,
+  λ some. subst (LinesEndWith limit held content left end out later) (sym some.1) (lines_end_as limit held content left end out later some.0 some.2),
+)

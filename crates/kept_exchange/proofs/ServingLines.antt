@@ -1,0 +1,80 @@
+-- A call that serves lines and keeps their journal does what is promised of it.
+use Rattle.std.proofs.Common.{◌≡◌, ◌+◌, ℕ, List, subst, Option, IfSome, Result, Err, OnOk, OnErr, IsErr, ap}
+use Rattle.flow_io.specs.Faults.{Blames}
+use Rattle.flow_io.specs.Streams.{Grows, GrowsByPrefix, TakesAtMost}
+use Rattle.flow_io.specs.Changes.{Change}
+use Rattle.flow_io.specs.declared.sink.WriteFailed.{WriteFailed}
+use Rattle.wire_records.specs.Records.{Record}
+use Rattle.wire_records.specs.Commands.{Pair}
+use Rattle.flow_orders.specs.Outcomes.{Outcome}
+use Rattle.market_rules.specs.Market.{Market}
+use Rattle.market_history.specs.Histories.{Start}
+use Rattle.disk_edge.specs.Disks.{DiskState}
+use Rattle.journal_disk.specs.Looking.{OnlyLooks}
+use Rattle.journal_keeping.specs.Keeping.{HoldsLegal}
+use Rattle.journal_keeping.specs.Openings.{KeepNone}
+use Rattle.journal_keeping.specs.declared.fault.KeepFault.TheVariants.{Read, Write, Disk}
+use Rattle.line_keeping.specs.Outputs.{Output}
+use Rattle.line_keeping.specs.Keeping.{ServesIn}
+use Rattle.line_keeping.specs.Ended.{ComesTo, LeavesNone}
+use Rattle.line_keeping.specs.Making.{IsMadeAfterStart}
+use Rattle.line_keeping.specs.Lengths.{GrowsAtMost}
+use Rattle.line_keeping.proofs.Gaining.{gains_wider}
+use Rattle.flow_exchange.specs.declared.status.Status.TheVariants as status
+use Rattle.flow_exchange.specs.Statuses.{line_of}
+use Rattle.kept_exchange.specs.Statuses.{kept_status}
+use Rattle.kept_exchange.specs.Lines.{ServesLines}
+use Rattle.kept_exchange.proofs.AsStatus.{Kept, if_some, blames_as, read_back, write_back, disk_back, done_back}
+use Rattle.kept_exchange.proofs.Serving.{written, cut_line}
+use Rattle.kept_exchange.proofs.Ends.{lines_end_as}
+
+-- what a call does to the disk and to the output, for a weaker condition on when a write was cut short
+serves_wider : (limit : ℕ) (content : Option (List ℕ)) (Cut Wider : Type 0) (begin : Start) (start end : DiskState) (old : List (Pair Record Outcome)) (market : Market) (out later : Output) → (Cut → Wider)
+    → ServesIn limit content Cut begin start end old market out later → ServesIn limit content Wider begin start end old market out later
+serves_wider limit content Cut Wider begin start end old market out later wider (of, from, before, goes, serves) = (
+  of,
+  from,
+  before,
+  goes,
+  record {
+    new = serves.new;
+    acknowledged = serves.acknowledged;
+    runs = serves.runs;
+    texts = serves.texts;
+    added = serves.added;
+    answers = serves.answers;
+    answered = serves.answered;
+    gained = gains_wider Cut Wider out later serves.answers wider serves.gained;
+  },
+)
+
+module _ (limit : ℕ) (result : Kept) (start end : DiskState) (source : Change) (out later : Output) where
+  pub serves : (notes : Change) (noting : Result (Unit {0}) WriteFailed)
+      → ((begin : Start) (old : List (Pair Record Outcome)) (market : Market) → HoldsLegal start begin old market → ServesIn limit source.before (◌≡◌ {A = Kept} result (Err Write)) begin start end old market out later)
+      → IfSome start.content (λ held. GrowsAtMost limit source.before start end)
+      → IfSome start.content (λ held. ComesTo limit held source.before source.after end out later result)
+      → IfSome start.content (λ held. KeepNone held → OnlyLooks start end × (source.after ≡ source.before) × (later ≡ out))
+      → IfSome start.content (λ held. IsMadeAfterStart limit held start end source.before source.after)
+      → TakesAtMost source.before source.after (limit + 1)
+      → LeavesNone result source.after
+      → Blames (◌≡◌ {A = Kept} result (Err Disk)) start.faults end.faults
+      → Blames (◌≡◌ {A = Kept} result (Err Read)) source.faults source.faults_after
+      → Blames (◌≡◌ {A = Kept} result (Err Write)) out.faults later.faults
+      → OnOk noting (Grows notes.before notes.after (line_of (kept_status limit result)))
+      → OnErr noting (GrowsByPrefix notes.before notes.after (line_of (kept_status limit result)))
+      → Blames (IsErr noting) notes.faults notes.faults_after
+      → ServesLines limit (kept_status limit result) start end source out later notes
+  serves notes noting keeps lengths comes untouched made taken left disk read write line prefix cause = record {
+    keeps = λ begin old market holds. serves_wider limit source.before (◌≡◌ {A = Kept} result (Err Write)) (kept_status limit result ≡ status.WriteFault) begin start end old market out later (ap (kept_status limit)) (keeps begin old market holds);
+    lengths = lengths;
+    comes = if_some start.content _ _ (λ (held : List ℕ) so. lines_end_as limit held source.before source.after end out later result so) comes;
+    untouched = untouched;
+    made = made;
+    taken = taken;
+    left = λ e. subst (λ (r : Kept). LeavesNone r source.after) (done_back limit result e) left;
+    disks = blames_as _ _ _ _ (ap (kept_status limit)) (disk_back limit result) disk;
+    reads = blames_as _ _ _ _ (ap (kept_status limit)) (read_back limit result) read;
+    writes = blames_as _ _ _ _ (ap (kept_status limit)) (write_back limit result) write;
+    noted = written noting notes.before notes.after (line_of (kept_status limit result)) notes.faults notes.faults_after line cause;
+    cut = cut_line noting notes.before notes.after (line_of (kept_status limit result)) line prefix;
+  }

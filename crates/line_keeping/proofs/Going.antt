@@ -1,0 +1,230 @@
+-- Lines that are answered one after the other: none yet, one more, and how it ends.
+use Rattle.std.proofs.Common.{◌≡◌, ◌≢◌, ◌⊎◌, inl, inr, ℕ, ◌+◌, ◌-◌, ◌*◌, ◌<◌, ◌≤◌, ◌^◌, List, [], ◌∷◌, ◌++◌, Option, None, Some, IfSome, Result, Ok, Err, length, length-append, take, drop, map, refl, sym, ap, subst, ◌∙◌, arith, append_assoc}
+use Rattle.std.specs.Prelude.{All}
+use Rattle.std.proofs.lemmas.List.{append-nil, take_all, length-take-le}
+use Rattle.std.proofs.lemmas.Bool.{cases_lt}
+use Rattle.std.proofs.Math.Seq.{take-append_seam, take-length}
+use Rattle.std.proofs.lemmas.List.Elements.{All-push, All-nil}
+use Rattle.std.proofs.lemmas.Grind.{flat_map-append}
+use Rattle.wire_records.specs.Records.{Record}
+use Rattle.wire_records.specs.Commands.{Pair}
+use Rattle.flow_orders.specs.Outcomes.{Outcome}
+use Rattle.journal_records.specs.Formats.{records_of}
+use Rattle.market_rules.specs.Market.{Market}
+use Rattle.market_history.specs.Histories.{Start}
+use Rattle.flow_io.specs.Streams.{Takes}
+use Rattle.flow_io.specs.Windows.{WindowState}
+use Rattle.flow_io.proofs.Reading.{Takes-more}
+use Rattle.file_units.specs.Inputs.{known}
+use Rattle.disk_edge.specs.Disks.{DiskState, IsDisk}
+use Rattle.journal_disk.specs.Entries.{Keeps}
+use Rattle.line_records.specs.Lines.{IsPiece, AreLines, ended_by_feeds}
+use Rattle.line_records.proofs.Pieces.{lines_after, any_or_none}
+use Rattle.journal_keeping.specs.Starts.{head_of}
+use Rattle.journal_keeping.specs.Keeping.{IsKeptJournal, Runs}
+use Rattle.journal_keeping.specs.Pacing.{asked_of}
+use Rattle.journal_keeping.specs.declared.fault.KeepFault.{KeepFault}
+use Rattle.journal_keeping.specs.declared.fault.KeepFault.TheVariants.{Read, Write, Disk, Memory, TooLong}
+use Rattle.journal_keeping.proofs.Serving.{ended}
+use Rattle.journal_keeping.proofs.Turns.{so_none}
+use Rattle.input_lines.specs.Finding.{IsOpen, HasEnded, FindsNone}
+use Rattle.line_keeping.specs.Answers.{IsNoCommand, no_command_text, IsLineBegun, AreLinesAnswered, AreAnsweredInto}
+use Rattle.line_keeping.specs.Outputs.{Output, Gains}
+use Rattle.line_keeping.specs.Private.{HasAdded, AnswersLine, Breaks, BreaksLine, HasGone, StopAt, AreRead, AreDone, BrokeOff, AnswersOn}
+use Rattle.line_keeping.proofs.Gaining.{gains_none, gains_more, gains_wider}
+use Rattle.line_keeping.proofs.Joining.{Pairs, Texts, lines_more}
+use Rattle.line_keeping.proofs.Adding.{added_more, runs_after}
+
+Takes-nothing : (told : Option (List ℕ)) → Takes told told []
+Takes-nothing None = tt
+Takes-nothing (Some left) = refl
+
+-- lines with their feeds, and one more
+pub feeds_more : (lines : Texts) (line : List ℕ) → ended_by_feeds (lines ++ line ∷ []) ≡ ended_by_feeds lines ++ (line ++ 10 ∷ [])
+feeds_more lines line = flat_map-append (λ (piece : List ℕ). piece ++ 10 ∷ []) lines (line ∷ []) ∙ ap (λ (l : List ℕ). ended_by_feeds lines ++ l) (append-nil (line ++ 10 ∷ []))
+
+module _ (first : WindowState) (rest : Option (List ℕ)) (old : Market) (count from : ℕ) (start : DiskState) (out : Output) where
+  -- nothing was answered yet
+  pub gone_none : (entries place : ℕ) → IsOpen first rest → IsDisk start → entries ≡ count → place ≡ from → old.next_order ≤ from + 2 ^ 63 → count ≤ from → from ≤ 2 ^ 60 → first.limit ≤ 2 ^ 32
+      → HasGone first first rest rest old old count entries from place 0 start start out out
+  gone_none entries place is_open is_disk is_count is_place orders few low short = record {
+    taken = [];
+    takes = Takes-nothing rest;
+    read = [];
+    pieces = All-nil IsPiece;
+    whole = append-nil first.held;
+    place_is = omega arith;
+    limit = refl;
+    is_open = is_open;
+    number = refl;
+    pairs = [];
+    texts = [];
+    answered = (refl, refl, refl);
+    added = subst (λ (n : ℕ). HasAdded start start old old from n []) (sym is_place) (so_none start old from None is_disk);
+    counted = omega (arith, is_count);
+    gained = gains_none ⊥ out;
+    orders = omega (arith, orders, is_place);
+    few = omega (arith, few, is_count, is_place);
+    room = omega (arith, low, short, is_place);
+  }
+
+  module _ (now : WindowState) (left : Option (List ℕ)) (market : Market) (entries place lines : ℕ) (disk : DiskState) (later : Output) (gone : HasGone first now rest left old market count entries from place lines start disk out later) where
+    -- more bytes were taken
+    more_taken : (after : Option (List ℕ)) (joined : List ℕ) → Takes left after joined → Takes rest after (gone.taken ++ joined)
+    more_taken after joined takes = Takes-more rest left after gone.taken joined gone.takes takes
+
+    more_whole : (joined : List ℕ) → first.held ++ (gone.taken ++ joined) ≡ ended_by_feeds gone.read ++ (now.held ++ joined)
+    more_whole joined = sym (append_assoc first.held gone.taken joined) ∙ ap (λ (l : List ℕ). l ++ joined) gone.whole ∙ append_assoc (ended_by_feeds gone.read) now.held joined
+
+    -- one more line
+    pub gone_more : (next : WindowState) (after : Option (List ℕ)) (line joined : List ℕ) (market2 : Market) (entries2 place2 : ℕ) (disk2 : DiskState) (last : Output) → Takes left after joined → IsPiece line
+        → now.held ++ joined ≡ line ++ 10 ∷ next.held → next.place ≡ now.place + (length line + 1) → next.limit ≡ now.limit → IsOpen next after
+        → AnswersLine (lines + 1) line market market2 entries entries2 place place2 disk disk2 later last
+        → HasGone first next rest after old market2 count entries2 from place2 (lines + 1) start disk2 out last
+    gone_more next after line joined market2 entries2 place2 disk2 last takes piece encoded moved limit is_open answers = record {
+      taken = gone.taken ++ joined;
+      takes = more_taken after joined takes;
+      read = gone.read ++ line ∷ [];
+      pieces = All-push IsPiece gone.read line gone.pieces piece;
+      whole = more_whole joined ∙ ap (λ (l : List ℕ). ended_by_feeds gone.read ++ l) (encoded ∙ sym (append_assoc line (10 ∷ []) next.held)) ∙ sym (append_assoc (ended_by_feeds gone.read) (line ++ 10 ∷ []) next.held)
+          ∙ ap (λ (l : List ℕ). l ++ next.held) (sym (feeds_more gone.read line));
+      place_is = omega (arith, moved, gone.place_is, ap length (feeds_more gone.read line), length-append (ended_by_feeds gone.read) (line ++ 10 ∷ []), length-append line (10 ∷ []));
+      limit = limit ∙ gone.limit;
+      is_open = is_open;
+      number = omega (arith, gone.number, length-append gone.read (line ∷ []));
+      pairs = gone.pairs ++ answers.pairs;
+      texts = gone.texts ++ answers.texts;
+      answered = lines_more old count 1 gone.read gone.pairs gone.texts market line answers.pairs answers.texts market2 entries (lines + 1) gone.answered gone.counted (omega (arith, gone.number)) answers.answered;
+      added = added_more start disk disk2 old market market2 from place place2 gone.pairs answers.pairs gone.added answers.added;
+      counted = omega (arith, answers.counted, gone.counted, length-append gone.pairs answers.pairs);
+      gained = gains_more ⊥ out later last gone.texts answers.texts gone.gained answers.gained;
+      orders = omega (arith, answers.orders, gone.orders, answers.place.0);
+      few = omega (arith, answers.counted, gone.few, answers.place.0);
+      room = omega (arith, gone.room, answers.place.1, answers.size, moved, limit, is_open.within);
+    }
+
+    -- what is known of the disk and the output where it ends after a line
+    runs_here : (begin : Start) (kept : Pairs) → IsKeptJournal begin kept old → Keeps (head_of begin) (map records_of kept) from start → Runs begin start disk kept old (asked_of (gone.pairs ++ [])) (gone.pairs ++ []) (length gone.pairs)
+    runs_here begin kept is at =
+        subst (λ (l : Pairs). Runs begin start disk kept old (asked_of l) l (length gone.pairs)) (sym (append-nil gone.pairs)) (ended begin start disk kept old place (asked_of gone.pairs) gone.pairs market (gone.added.kept begin kept is at))
+
+    keeps_here : (begin : Start) (kept : Pairs) → IsKeptJournal begin kept old → Keeps (head_of begin) (map records_of kept) from start → (p : ℕ) × Keeps (head_of begin) (map records_of (kept ++ gone.pairs)) p disk
+    keeps_here begin kept is at = (place, (gone.added.kept begin kept is at).keeps)
+
+    -- it ends after the last line that was answered, with these bytes after it
+    module _ (after : Option (List ℕ)) (joined past : List ℕ) (takes : Takes left after (joined ++ past)) (short : length past ≤ 1) (within : now.place + length (now.held ++ joined) ≤ now.limit) where
+      all_taken : List ℕ
+      all_taken = gone.taken ++ (joined ++ past)
+
+      bytes_few : first.place + (length first.held + length (gone.taken ++ (joined ++ past))) ≤ first.limit + 1
+      bytes_few = omega (
+        arith,
+        within,
+        short,
+        gone.place_is,
+        gone.limit,
+        ap length (more_whole joined),
+        length-append first.held (gone.taken ++ joined),
+        length-append (ended_by_feeds gone.read) (now.held ++ joined),
+        length-append gone.taken joined,
+        length-append gone.taken (joined ++ past),
+        length-append joined past,
+      )
+
+      pub ends_so : (result : Result (Unit {0}) KeepFault) → AreRead (first.limit - first.place) (first.held ++ known (gone.taken ++ (joined ++ past)) after) (first.held ++ (gone.taken ++ (joined ++ past))) after gone.read [] result
+          → AreDone old count gone.read [] gone.pairs gone.texts market result → AreDone old count gone.read [] (gone.pairs ++ []) gone.texts market result → (◌≢◌ {A = Result (Unit {0}) KeepFault} result (Err Memory))
+          → AnswersOn first rest after result old count from start disk out later
+      ends_so result reads done more lacks = record {
+        taken = gone.taken ++ (joined ++ past);
+        takes = more_taken after (joined ++ past) takes;
+        few = bytes_few;
+        read = gone.read;
+        line = [];
+        reads = reads;
+        pairs = gone.pairs;
+        texts = gone.texts;
+        market = market;
+        answered = done;
+        journal = λ not begin kept is at. (gone.added.kept begin kept is at).goes_on.journal;
+        more = [];
+        words = gone.texts;
+        last = market;
+        further = more;
+        runs = runs_here;
+        gained = gains_wider ⊥ _ out later gone.texts (λ no. absurd no) gone.gained;
+        whole = λ not. (refl, keeps_here);
+        lacks = λ is. absurd (lacks is);
+      }
+
+    -- it ends while a line is answered
+    module _ (after : Option (List ℕ)) (joined : List ℕ) (takes : Takes left after joined) (within : now.place + length (now.held ++ joined) ≤ now.limit) (line : List ℕ) (disk2 : DiskState) (last : Output) (fault : KeepFault)
+        (breaks : BreaksLine (lines + 1) line market entries place disk disk2 later last fault)
+        (stops : StopAt (first.limit - first.place) (first.held ++ known (gone.taken ++ joined) after) (first.held ++ (gone.taken ++ joined)) after gone.read line) where
+      b : Breaks (IsLineBegun market entries (lines + 1) line) market place disk disk2 later last fault
+      b = breaks.breaks
+
+      into : (pairs : Pairs) (texts : Texts) (m : Market) → IsLineBegun market entries (lines + 1) line pairs texts m → AreAnsweredInto old count gone.read line (gone.pairs ++ pairs) (gone.texts ++ texts) m
+      into pairs texts m begun = record {
+        done = gone.pairs;
+        own = gone.texts;
+        next = market;
+        answered = gone.answered;
+        more = pairs;
+        others = texts;
+        begun = subst (λ (n : ℕ). IsLineBegun market n (length gone.read + 1) line pairs texts m) gone.counted (subst (λ (n : ℕ). IsLineBegun market entries n line pairs texts m) (ap (λ (n : ℕ). n + 1) gone.number) begun);
+        pairs_are = refl;
+        texts_are = refl;
+      }
+
+      done_by : (f : KeepFault) (pairs : Pairs) (texts : Texts) (m : Market) → (f ≡ Memory) ⊎ (f ≡ Disk) ⊎ (f ≡ Write) → AreAnsweredInto old count gone.read line pairs texts m → AreDone old count gone.read line pairs texts m (Err f)
+      done_by f pairs texts m (inl is) a = subst (λ (x : KeepFault). AreDone old count gone.read line pairs texts m (Err x)) (sym is) a
+      done_by f pairs texts m (inr (inl is)) a = subst (λ (x : KeepFault). AreDone old count gone.read line pairs texts m (Err x)) (sym is) a
+      done_by f pairs texts m (inr (inr is)) a = subst (λ (x : KeepFault). AreDone old count gone.read line pairs texts m (Err x)) (sym is) a
+
+      read_by : (f : KeepFault) → (f ≡ Memory) ⊎ (f ≡ Disk) ⊎ (f ≡ Write) → AreRead (first.limit - first.place) (first.held ++ known (gone.taken ++ joined) after) (first.held ++ (gone.taken ++ joined)) after gone.read line (Err f)
+      read_by f (inl is) = subst (λ (x : KeepFault). AreRead (first.limit - first.place) (first.held ++ known (gone.taken ++ joined) after) (first.held ++ (gone.taken ++ joined)) after gone.read line (Err x)) (sym is) stops
+      read_by f (inr (inl is)) = subst (λ (x : KeepFault). AreRead (first.limit - first.place) (first.held ++ known (gone.taken ++ joined) after) (first.held ++ (gone.taken ++ joined)) after gone.read line (Err x)) (sym is) stops
+      read_by f (inr (inr is)) = subst (λ (x : KeepFault). AreRead (first.limit - first.place) (first.held ++ known (gone.taken ++ joined) after) (first.held ++ (gone.taken ++ joined)) after gone.read line (Err x)) (sym is) stops
+
+      err_is : (f h : KeepFault) → ◌≡◌ {A = Result (Unit {0}) KeepFault} (Err f) (Err h) → f ≡ h
+      err_is f h e = cc
+
+      broke : (f : KeepFault) → (f ≡ Memory) ⊎ (f ≡ Disk) ⊎ (f ≡ Write) → BrokeOff (Err f)
+      broke f (inl is) = inl (ap Err is)
+      broke f (inr (inl is)) = inr (inl (ap Err is))
+      broke f (inr (inr is)) = inr (inr (ap Err is))
+
+      pub breaks_so : AnswersOn first rest after (Err fault) old count from start disk2 out last
+      breaks_so = record {
+        taken = gone.taken ++ joined;
+        takes = more_taken after joined takes;
+        few = omega (arith, within, gone.place_is, gone.limit, ap length (more_whole joined), length-append first.held (gone.taken ++ joined), length-append (ended_by_feeds gone.read) (now.held ++ joined));
+        read = gone.read;
+        line = line;
+        reads = read_by fault b.is_one;
+        pairs = gone.pairs ++ b.pairs;
+        texts = gone.texts ++ b.texts;
+        market = b.market;
+        answered = done_by fault (gone.pairs ++ b.pairs) (gone.texts ++ b.texts) b.market b.is_one (into b.pairs b.texts b.market b.begun);
+        journal = λ not. absurd (not (broke fault b.is_one));
+        more = b.more;
+        words = gone.texts ++ b.words;
+        last = b.last;
+        further = subst (λ (l : Pairs). AreDone old count gone.read line l (gone.texts ++ b.words) b.last (Err fault)) (sym (append_assoc gone.pairs b.pairs b.more))
+            (done_by fault (gone.pairs ++ (b.pairs ++ b.more)) (gone.texts ++ b.words) b.last b.is_one (into (b.pairs ++ b.more) b.words b.last b.further));
+        runs = λ begin kept is at.
+            let k = gone.added.kept begin kept is at in
+            let runs = runs_after begin start disk kept gone.pairs old market place k (b.pairs ++ b.more) disk2 (length b.pairs) (b.runs begin (kept ++ gone.pairs) k.goes_on.journal k.keeps) in
+            subst (λ (n : ℕ). Runs begin start disk2 kept old (asked_of ((gone.pairs ++ b.pairs) ++ b.more)) ((gone.pairs ++ b.pairs) ++ b.more) n) (sym (length-append gone.pairs b.pairs))
+            (subst (λ (l : Pairs). Runs begin start disk2 kept old (asked_of l) l (length gone.pairs + length b.pairs)) (sym (append_assoc gone.pairs b.pairs b.more)) runs);
+        gained = gains_wider (fault ≡ Write) _ out last (gone.texts ++ b.texts) (λ is. ap Err is) (gains_more (fault ≡ Write) out later last gone.texts b.texts gone.gained b.gained);
+        whole = λ not.
+            let w = b.whole (λ is. not (ap Err is)) in (
+              w.0,
+              λ begin kept is at.
+                  let k = gone.added.kept begin kept is at in
+                  let keeps = w.1 begin (kept ++ gone.pairs) k.goes_on.journal k.keeps in
+                  (keeps.0, subst (λ (l : Pairs). Keeps (head_of begin) (map records_of l) keeps.0 disk2) (append_assoc kept gone.pairs b.pairs) keeps.1),
+            );
+        lacks = λ is. breaks.lacks (err_is fault Memory is);
+      }

@@ -1,0 +1,193 @@
+-- Commands that are served, kept and told one after the other: none yet, one more, and one at which it broke off.
+use Rattle.std.proofs.Common.{◌≡◌, ◌≢◌, inl, inr, ℕ, ◌+◌, ◌*◌, ◌<◌, ◌≤◌, ◌^◌, List, [], ◌∷◌, ◌++◌, Option, None, Some, IfSome, IsSome, length, length-append, take, drop, get_or, take-append-drop, map, refl, sym, ap, subst, ◌∙◌, arith, rules, append_assoc}
+use Rattle.std.proofs.lemmas.List.{append-nil, map-append, drop_more}
+use Rattle.std.proofs.Math.Seq.{take-add}
+use Rattle.wire_records.specs.Records.{Record, encoding}
+use Rattle.wire_records.specs.Commands.{Command, Pair}
+use Rattle.wire_records.proofs.Encoded.{length-encoding}
+use Rattle.flow_orders.specs.Outcomes.{Outcome}
+use Rattle.journal_records.specs.Pairs.{IsPair, pair_encoding}
+use Rattle.journal_records.specs.Formats.{records_of}
+use Rattle.market_rules.specs.Market.{Market}
+use Rattle.market_history.specs.Histories.{Start}
+use Rattle.batch_report.specs.Reports.{IsReport}
+use Rattle.disk_edge.specs.Disks.{DiskState, IsDisk, AtEachMoment}
+use Rattle.journal_disk.specs.Pairs.{RecordPair, IsRecordPair, pair_bytes}
+use Rattle.journal_disk.specs.Entries.{Head, WithOrWithout, Keeps}
+use Rattle.journal_keeping.specs.Starts.{head_of}
+use Rattle.journal_keeping.specs.Keeping.{IsKeptJournal, Runs}
+use Rattle.journal_keeping.specs.Pacing.{asked_of}
+use Rattle.journal_keeping.specs.Private.{KeepsOneMore}
+use Rattle.journal_keeping.specs.declared.fault.KeepFault.{KeepFault}
+use Rattle.journal_keeping.specs.declared.fault.KeepFault.TheVariants.{Read, Write, Disk, Memory, NotDisk, Damaged, Rejected, NotFlow, BadCheckpoint, Torn, TooLong}
+use Rattle.journal_keeping.proofs.Serving.{ended, failed}
+use Rattle.journal_keeping.proofs.Turns.{canonical_is_admissible, is_record_pair, same_bytes, so_none, so_more}
+use Rattle.line_keeping.specs.Answers.{AreAnswered}
+use Rattle.line_keeping.specs.Outputs.{Output, Gains}
+use Rattle.line_keeping.specs.Private.{HasAdded, IsReadyFor, IsServed, AnswersCommand, BreaksCommand, AnswersCommands, BreaksCommands}
+use Rattle.line_keeping.proofs.Gaining.{gains_none, gains_more, gains_wider}
+use Rattle.line_keeping.proofs.Joining.{Pairs, Texts, answered_more}
+
+-- the longest entry
+pub longest_entry : (pair : Pair Record Outcome) → IsPair pair → length (pair_encoding pair) ≤ 263178
+unfolding pair_encoding
+longest_entry pair fits = omega (arith, length-append (encoding pair.asked) (encoding (records_of pair).1), length-encoding pair.asked, length-encoding (records_of pair).1, fits.asked.body, fits.answered.body)
+
+-- a disk keeps one entry more
+pub keeps_one : (pair : Pair Record Outcome) (from to : ℕ) (disk later : DiskState) (bytes : List ℕ) → IsPair pair → bytes ≡ pair_encoding pair
+    → ((head : Head) (pairs : List RecordPair) (last : RecordPair) → Keeps head pairs from disk → IsRecordPair last → bytes ≡ pair_bytes last → Keeps head (pairs ++ last ∷ []) to later)
+    → ((head : Head) (pairs : List RecordPair) (last : RecordPair) → Keeps head pairs from disk → IsRecordPair last → bytes ≡ pair_bytes last → AtEachMoment disk later (WithOrWithout head pairs last))
+    → KeepsOneMore pair from to disk later
+keeps_one pair from to disk later bytes fits is kept moments = record {
+  keeps = λ head pairs keeps. kept head pairs (records_of pair) keeps (is_record_pair pair fits) (is ∙ same_bytes pair);
+  moments = λ head pairs keeps. moments head pairs (records_of pair) keeps (is_record_pair pair fits) (is ∙ same_bytes pair);
+}
+
+some_is : (bytes : List ℕ) → IsSome (Some bytes)
+some_is bytes = search rules
+
+none_is_not : IsSome {T = List ℕ} None → ⊥
+none_is_not is = search rules
+
+-- what holds of a disk of known content goes on to the next one
+pub keeps_on : (a b : Option (List ℕ)) {P Q : Type 0} → (IsSome b → IsSome a) → IfSome a (λ _. P) → (P → Q) → IfSome b (λ _. Q)
+keeps_on a None told p f = tt
+keeps_on None (Some y) told p f = absurd (none_is_not (told (some_is y)))
+keeps_on (Some x) (Some y) told p f = f p
+
+-- a list in two parts, at one of its elements
+pub parted_at : {A : Type 0} (l : List A) (k : ℕ) (x : A) → k < length l → x ≡ get_or l k x → (take (k + 1) l ≡ take k l ++ x ∷ []) × (l ≡ take k l ++ x ∷ drop (k + 1) l)
+parted_at l k x inside is =
+    let following : drop k l ≡ x ∷ drop (k + 1) l = drop_more l k x inside ∙ ap (λ z. z ∷ drop (k + 1) l) (sym is) in
+    (take-add k 1 l ∙ ap (λ z. take k l ++ take 1 z) following, sym (take-append-drop k l) ∙ ap (λ z. take k l ++ z) following)
+
+-- a disk on which commands are kept may keep one more
+pub ready_more : (commands done : ℕ) (entries place : ℕ) (market : Market) (count from : ℕ) (now : Market) → market.next_order ≤ from + 2 ^ 63 → count ≤ from → from + 263183 * commands ≤ 2 ^ 61 → done < commands
+    → from + done ≤ place → place ≤ from + 263183 * done → now.next_order ≤ market.next_order + done → entries ≡ count + done → IsReadyFor now entries place 0
+ready_more commands done entries place market count from now orders counted room less low high few is = record {
+  orders = omega (arith, orders, few, low);
+  counted = omega (arith, is, counted, low);
+  room = omega (arith, room, less, high);
+}
+
+module _ (old : Market) (count from : ℕ) (disk : DiskState) (out : Output) where
+  pub commands_none : IsDisk disk → AnswersCommands [] old old count count from from disk disk out out
+  commands_none is_disk = record {
+    pairs = [];
+    texts = [];
+    answered = (refl, refl, refl);
+    added = so_none disk old from None is_disk;
+    stays = λ keeps. keeps;
+    counted = omega arith;
+    size = refl;
+    place = (omega arith, omega arith);
+    orders = omega arith;
+    gained = gains_none ⊥ out;
+  }
+
+  module _ (done : List Command) (mid : Market) (entries place : ℕ) (m : DiskState) (o : Output) (so : AnswersCommands done old mid count entries from place disk m out o) (command : Command) where
+    pub commands_more : (new : Market) (to : ℕ) (later : DiskState) (after : Output) → AnswersCommand command mid new entries place to m later o after → new.next_order ≤ mid.next_order + 1
+        → AnswersCommands (done ++ command ∷ []) old new count (entries + 1) from to disk later out after
+    commands_more new to later after one few = record {
+      pairs = so.pairs ++ one.pair ∷ [];
+      texts = so.texts ++ one.text ∷ [];
+      answered = answered_more old count done so.pairs so.texts mid command one.pair one.text new (entries + 1) so.answered one.served (omega (arith, so.counted)) one.report;
+      added = so_more disk m later old mid new from place to None None None so.pairs one.pair so.added one.served.fits one.served.step one.keeps one.told tt;
+      stays = λ keeps. keeps_on m.content later.content one.told (so.stays keeps) (λ kept. (kept.0, kept.1 ++ records_of one.pair ∷ [], one.keeps.keeps kept.0 kept.1 kept.2));
+      counted = omega (arith, so.counted, length-append so.pairs (one.pair ∷ []));
+      size = omega (arith, so.size, length-append so.pairs (one.pair ∷ []), length-append done (command ∷ []));
+      place = (
+        omega (arith, so.place.0, one.place, length-append so.pairs (one.pair ∷ [])),
+        omega (arith, so.place.1, one.place, longest_entry one.pair one.served.fits, length-append so.pairs (one.pair ∷ [])),
+      );
+      orders = omega (arith, so.orders, few, length-append so.pairs (one.pair ∷ []));
+      gained = gains_more ⊥ out o after so.texts (one.text ∷ []) so.gained one.gained;
+    }
+
+    module _ (rest : List Command) where
+      abbrev Broke : DiskState → Output → KeepFault → Type 0
+      Broke later after fault = BreaksCommands (done ++ command ∷ rest) old count from disk later out after fault
+
+      -- memory ran out for it
+      pub memory_breaks : Broke m o Memory
+      memory_breaks = record {
+        pairs = so.pairs;
+        texts = so.texts;
+        market = mid;
+        begun = (done, command ∷ rest, refl, so.answered);
+        more = [];
+        words = so.texts;
+        last = mid;
+        further = (done, command ∷ rest, refl, subst (λ (l : Pairs). AreAnswered old count done l so.texts mid) (sym (append-nil so.pairs)) so.answered);
+        runs = λ begin kept is at.
+            subst (λ (l : Pairs). Runs begin disk m kept old (asked_of l) l (length so.pairs)) (sym (append-nil so.pairs)) (ended begin disk m kept old place (asked_of so.pairs) so.pairs mid (so.added.kept begin kept is at));
+        gained = gains_wider ⊥ _ out o so.texts (λ no. absurd no) so.gained;
+        whole = λ not. (refl, λ begin kept is at. (place, (so.added.kept begin kept is at).keeps));
+        is_one = inl refl;
+      }
+
+      joined : done ++ command ∷ rest ≡ (done ++ command ∷ []) ++ rest
+      joined = sym (append_assoc done (command ∷ []) rest)
+
+      -- the disk failed
+      pub disk_breaks : (pair : Pair Record Outcome) (text : List ℕ) (new : Market) (later : DiskState) → IsDisk later → IsServed command mid pair new → IsReport new (entries + 1) (records_of pair) text
+          → ((head : Head) (pairs : List RecordPair) → Keeps head pairs place m → AtEachMoment m later (WithOrWithout head pairs (records_of pair))) → Broke later o Disk
+      disk_breaks pair text new later is_disk served report moments = record {
+        pairs = so.pairs;
+        texts = so.texts;
+        market = mid;
+        begun = (done, command ∷ rest, refl, so.answered);
+        more = pair ∷ [];
+        words = so.texts ++ text ∷ [];
+        last = new;
+        further = (done ++ command ∷ [], rest, joined, answered_more old count done so.pairs so.texts mid command pair text new (entries + 1) so.answered served (omega (arith, so.counted)) report);
+        runs = λ begin kept is at.
+            let k = so.added.kept begin kept is at in
+            let right = canonical_is_admissible begin (kept ++ so.pairs) mid pair new k.goes_on.journal served.step in
+            subst (λ (l : List Record). Runs begin disk later kept old l (so.pairs ++ pair ∷ []) (length so.pairs)) (sym (map-append (λ (p : Pair Record Outcome). p.asked) so.pairs (pair ∷ [])))
+            (failed begin disk m later kept old place (asked_of so.pairs) so.pairs mid new pair k is_disk served.fits served.step right (moments (head_of begin) (map records_of (kept ++ so.pairs)) k.keeps));
+        gained = gains_wider ⊥ _ out o so.texts (λ no. absurd no) so.gained;
+        whole = λ not. absurd (not refl);
+        is_one = inr (inl refl);
+      }
+
+      -- its text was cut short
+      pub write_breaks : (pair : Pair Record Outcome) (text : List ℕ) (new : Market) (to : ℕ) (later : DiskState) (after : Output) → IsServed command mid pair new → IsReport new (entries + 1) (records_of pair) text
+          → KeepsOneMore pair place to m later → (IsSome later.content → IsSome m.content) → Gains (Unit {0}) o after (text ∷ []) → Broke later after Write
+      write_breaks pair text new to later after served report keeps told gains =
+          let all = so.pairs ++ pair ∷ [] in
+          let added = so_more disk m later old mid new from place to None None None so.pairs pair so.added served.fits served.step keeps told tt in
+          let answered = answered_more old count done so.pairs so.texts mid command pair text new (entries + 1) so.answered served (omega (arith, so.counted)) report in
+          record {
+            pairs = all;
+            texts = so.texts ++ text ∷ [];
+            market = new;
+            begun = (done ++ command ∷ [], rest, joined, answered);
+            more = [];
+            words = so.texts ++ text ∷ [];
+            last = new;
+            further = (done ++ command ∷ [], rest, joined, subst (λ (l : Pairs). AreAnswered old count (done ++ command ∷ []) l (so.texts ++ text ∷ []) new) (sym (append-nil all)) answered);
+            runs = λ begin kept is at.
+                subst (λ (l : Pairs). Runs begin disk later kept old (asked_of l) l (length all)) (sym (append-nil all)) (ended begin disk later kept old to (asked_of all) all new (added.kept begin kept is at));
+            gained = gains_wider (Unit {0}) _ out after (so.texts ++ text ∷ []) (λ _. refl) (gains_more (Unit {0}) out o after so.texts (text ∷ []) so.gained gains);
+            whole = λ not. (refl, λ begin kept is at. (to, (added.kept begin kept is at).keeps));
+            is_one = inr (inr refl);
+          }
+
+-- by what it broke off with
+pub breaks_by : {D : Type 0} (state : D → DiskState) (now next : D) (old : Market) (count from : ℕ) (disk : DiskState) (out : Output) (done : List Command) (mid : Market) (entries place to : ℕ) (o after : Output)
+    → AnswersCommands done old mid count entries from place disk (state now) out o → (command : Command) (rest : List Command) (fault : KeepFault) → IsDisk (state next) → BreaksCommand command mid entries place to (state now) (state next) o after (next ≡ now) fault
+    → BreaksCommands (done ++ command ∷ rest) old count from disk (state next) out after fault
+breaks_by state now next old count from disk out done mid entries place to o after so command rest Memory is_disk (same, quiet) = rw (same, quiet) (memory_breaks old count from disk out done mid entries place (state now) o so command rest)
+breaks_by state now next old count from disk out done mid entries place to o after so command rest Disk is_disk (quiet, pair, text, new, served, report, moments) =
+    rw quiet (disk_breaks old count from disk out done mid entries place (state now) o so command rest pair text new (state next) is_disk served report moments)
+breaks_by state now next old count from disk out done mid entries place to o after so command rest Write is_disk (pair, text, new, served, report, keeps, told, gains) =
+    write_breaks old count from disk out done mid entries place (state now) o so command rest pair text new to (state next) after served report keeps told gains
+breaks_by state now next old count from disk out done mid entries place to o after so command rest Read is_disk broke = absurd broke
+breaks_by state now next old count from disk out done mid entries place to o after so command rest NotDisk is_disk broke = absurd broke
+breaks_by state now next old count from disk out done mid entries place to o after so command rest (Damaged n) is_disk broke = absurd broke
+breaks_by state now next old count from disk out done mid entries place to o after so command rest (Rejected n) is_disk broke = absurd broke
+breaks_by state now next old count from disk out done mid entries place to o after so command rest NotFlow is_disk broke = absurd broke
+breaks_by state now next old count from disk out done mid entries place to o after so command rest BadCheckpoint is_disk broke = absurd broke
+breaks_by state now next old count from disk out done mid entries place to o after so command rest (Torn n) is_disk broke = absurd broke
+breaks_by state now next old count from disk out done mid entries place to o after so command rest TooLong is_disk broke = absurd broke

@@ -1,0 +1,182 @@
+-- One line that is answered, or at which answering broke off.
+use Rattle.std.proofs.Common.{◌≡◌, ◌≢◌, ◌⊎◌, inl, inr, ℕ, ◌+◌, ◌*◌, ◌≤◌, List, [], ◌∷◌, ◌++◌, Option, None, Result, Ok, Err, OnOk, IfErr, length, map, refl, sym, ap, subst, ◌∙◌, arith}
+use Rattle.std.specs.Prelude.{All}
+use Rattle.std.proofs.lemmas.List.{append-nil, length-map}
+use Rattle.std.proofs.lemmas.List.Elements.{All-nil}
+use Rattle.wire_records.specs.Records.{Record}
+use Rattle.wire_records.specs.Commands.{Command, Pair, Place}
+use Rattle.wire_records.specs.declared.version.Version.{Version}
+use Rattle.flow_orders.specs.Outcomes.{Outcome}
+use Rattle.journal_records.specs.Formats.{records_of}
+use Rattle.market_rules.specs.Market.{Market}
+use Rattle.market_history.specs.Histories.{Start}
+use Rattle.curve_ladder.specs.Segments.{segments_of, request_of}
+use Rattle.curve_ladder.proofs.SegmentLemmas.{segments_count}
+use Rattle.order_text.specs.Lines.{IsBlankByte, IsBlank, Asked, Alone, OfLadder, commands_of, AsksLadder, LineAsks, SaysNothing}
+use Rattle.disk_edge.specs.Disks.{DiskState, IsDisk}
+use Rattle.journal_disk.specs.Entries.{Keeps}
+use Rattle.journal_keeping.specs.Starts.{head_of}
+use Rattle.journal_keeping.specs.Keeping.{IsKeptJournal, Runs}
+use Rattle.journal_keeping.specs.Pacing.{asked_of}
+use Rattle.journal_keeping.specs.declared.fault.KeepFault.{KeepFault}
+use Rattle.journal_keeping.specs.declared.fault.KeepFault.TheVariants.{Read, Write, Disk, Memory, NotDisk, Damaged, Rejected, NotFlow, BadCheckpoint, Torn, TooLong}
+use Rattle.journal_keeping.proofs.Serving.{ended}
+use Rattle.journal_keeping.proofs.Turns.{so_none}
+use Rattle.input_lines.specs.Long.{most_line, IsLong}
+use Rattle.line_keeping.specs.Answers.{HasNoAnswer, IsNoCommand, AsksIn, no_command_text, IsLineAnswered, IsLineBegun}
+use Rattle.line_keeping.specs.Outputs.{Output, Gains}
+use Rattle.line_keeping.specs.Private.{AnswersCommands, Breaks, BreaksCommands, AreBegun, Refuses, AnswersLine, BreaksLine}
+use Rattle.line_keeping.proofs.Gaining.{gains_none, gains_wider}
+use Rattle.line_keeping.proofs.Joining.{Pairs, Texts}
+
+pub on_both : {T E : Type 0} (result : Result T E) (P Q R : Type 0) → (P → Q → R) → OnOk result P → OnOk result Q → OnOk result R
+on_both (Ok value) P Q R f p q = f p q
+on_both (Err fault) P Q R f p q = tt
+
+pub if_err : {T E : Type 0} (result : Result T E) (P Q : E → Type 0) → ((fault : E) → P fault → Q fault) → IfErr result P → IfErr result Q
+if_err (Ok value) P Q f p = tt
+if_err (Err fault) P Q f p = f fault p
+
+-- a line that isn't blank has bytes
+pub line_some : (line : List ℕ) → ¬ IsBlank line → 1 ≤ length line
+line_some [] written = absurd (written (All-nil IsBlankByte))
+line_some (byte ∷ line) written = omega arith
+
+-- what a line asks for, with a market's version and tickers
+pub at_market : (market : Market) (version : Version) (tickers : Texts) (line : List ℕ) (asked : Asked) → version ≡ market.version → tickers ≡ market.tickers → LineAsks version tickers line asked → LineAsks market.version market.tickers line asked
+at_market market version tickers line asked v t asks = subst (λ (x : Texts). LineAsks market.version x line asked) t (subst (λ (x : Version). LineAsks x tickers line asked) v asks)
+
+pub nothing_at : (market : Market) (version : Version) (tickers : Texts) (line : List ℕ) → version ≡ market.version → tickers ≡ market.tickers → SaysNothing version tickers line → SaysNothing market.version market.tickers line
+nothing_at market version tickers line v t says = subst (λ (x : Texts). SaysNothing market.version x line) t (subst (λ (x : Version). SaysNothing x tickers line) v says)
+
+-- a ladder has at most 32 orders
+pub ladder_few : (version : Version) (tickers : Texts) (line : List ℕ) (commands : List Command) → LineAsks version tickers line (OfLadder commands) → length commands ≤ 32
+ladder_few version tickers line commands asks =
+    let l = asks.asks in
+    omega (arith, ap length l.commands_are, length-map (map (request_of l.account l.row) (segments_of l.ladder)) (Place None), length-map (segments_of l.ladder) (request_of l.account l.row), (segments_count l.ladder l.lawful).1)
+
+module _ (number : ℕ) (line : List ℕ) (old : Market) (count from : ℕ) (disk : DiskState) (out : Output) where
+  pub line_none : IsDisk disk → HasNoAnswer line → AnswersLine number line old old count count from from disk disk out out
+  line_none is_disk no_answer = record {
+    pairs = [];
+    texts = [];
+    answered = inl (no_answer, refl, refl, refl);
+    added = so_none disk old from None is_disk;
+    counted = omega arith;
+    size = omega arith;
+    place = (omega arith, omega arith);
+    orders = omega arith;
+    gained = gains_none ⊥ out;
+  }
+
+  pub line_refused : (after : Output) → IsDisk disk → IsNoCommand old line → Gains ⊥ out after (no_command_text number ∷ []) → AnswersLine number line old old count count from from disk disk out after
+  line_refused after is_disk none gained = record {
+    pairs = [];
+    texts = no_command_text number ∷ [];
+    answered = inr (inl (none, refl, refl, refl));
+    added = so_none disk old from None is_disk;
+    counted = omega arith;
+    size = omega arith;
+    place = (omega arith, omega arith);
+    orders = omega arith;
+    gained = gained;
+  }
+
+  pub line_asked : (asked : Asked) (new : Market) (entries to : ℕ) (later : DiskState) (after : Output) → AsksIn old line asked → length (commands_of asked) ≤ 32 * length line → AnswersCommands (commands_of asked) old new count entries from to disk later out after
+      → AnswersLine number line old new count entries from to disk later out after
+  line_asked asked new entries to later after asks few answers = record {
+    pairs = answers.pairs;
+    texts = answers.texts;
+    answered = inr (inr (asked, asks, answers.answered));
+    added = answers.added;
+    counted = answers.counted;
+    size = omega (arith, answers.size, few);
+    place = answers.place;
+    orders = answers.orders;
+    gained = answers.gained;
+  }
+
+  -- answering its commands broke off
+  pub line_broke : (asked : Asked) (later : DiskState) (after : Output) (fault : KeepFault) → AsksIn old line asked → BreaksCommands (commands_of asked) old count from disk later out after fault → BreaksLine number line old count from disk later out after fault
+  line_broke asked later after fault asks b = record {
+    breaks = record {
+      pairs = b.pairs;
+      texts = b.texts;
+      market = b.market;
+      begun = inr (inr (asked, b.begun.0, b.begun.1, asks, b.begun.2, b.begun.3));
+      more = b.more;
+      words = b.words;
+      last = b.last;
+      further = inr (inr (asked, b.further.0, b.further.1, asks, b.further.2, b.further.3));
+      runs = b.runs;
+      gained = b.gained;
+      whole = b.whole;
+      is_one = b.is_one;
+    };
+    lacks = λ is. (asks.0, asks.1.written);
+  }
+
+  nothing_runs : IsDisk disk → (begin : Start) (kept : Pairs) → IsKeptJournal begin kept old → Keeps (head_of begin) (map records_of kept) from disk → Runs begin disk disk kept old [] [] 0
+  nothing_runs is_disk begin kept is at = ended begin disk disk kept old from [] [] old ((so_none disk old from None is_disk).kept begin kept is at)
+
+  nothing_keeps : (begin : Start) (kept : Pairs) → IsKeptJournal begin kept old → Keeps (head_of begin) (map records_of kept) from disk → (place : ℕ) × Keeps (head_of begin) (map records_of (kept ++ [])) place disk
+  nothing_keeps begin kept is at = (from, subst (λ (l : Pairs). Keeps (head_of begin) (map records_of l) from disk) (sym (append-nil kept)) at)
+
+  -- memory ran out while it was read
+  pub line_unread : IsDisk disk → ¬ IsLong line → ¬ IsBlank line → BreaksLine number line old count from disk disk out out Memory
+  line_unread is_disk short written = record {
+    breaks = record {
+      pairs = [];
+      texts = [];
+      market = old;
+      begun = inl (refl, refl, refl);
+      more = [];
+      words = [];
+      last = old;
+      further = inl (refl, refl, refl);
+      runs = nothing_runs is_disk;
+      gained = gains_none _ out;
+      whole = λ not. (refl, nothing_keeps);
+      is_one = inl refl;
+    };
+    lacks = λ is. (short, written);
+  }
+
+  -- that it is no command wasn't written
+  pub line_unwritten : (after : Output) (fault : KeepFault) → IsDisk disk → IsNoCommand old line → Refuses number (Err fault) out after → BreaksLine number line old count from disk disk out after fault
+  line_unwritten after Write is_disk none refused = record {
+    breaks = record {
+      pairs = [];
+      texts = no_command_text number ∷ [];
+      market = old;
+      begun = inr (inl (none, refl, refl, refl));
+      more = [];
+      words = no_command_text number ∷ [];
+      last = old;
+      further = inr (inl (none, refl, refl, refl));
+      runs = nothing_runs is_disk;
+      gained = gains_wider (Unit {0}) _ out after (no_command_text number ∷ []) (λ _. refl) refused;
+      whole = λ not. (refl, nothing_keeps);
+      is_one = inr (inr refl);
+    };
+    lacks = λ is. absurd cc;
+  }
+  line_unwritten after Read is_disk none refused = absurd refused
+  line_unwritten after Disk is_disk none refused = absurd refused
+  line_unwritten after Memory is_disk none refused = absurd refused
+  line_unwritten after NotDisk is_disk none refused = absurd refused
+  line_unwritten after (Damaged n) is_disk none refused = absurd refused
+  line_unwritten after (Rejected n) is_disk none refused = absurd refused
+  line_unwritten after NotFlow is_disk none refused = absurd refused
+  line_unwritten after BadCheckpoint is_disk none refused = absurd refused
+  line_unwritten after (Torn n) is_disk none refused = absurd refused
+  line_unwritten after TooLong is_disk none refused = absurd refused
+
+-- the answer to a line that is no command, by whether it was written
+pub ok_refused : (number : ℕ) (result : Result (Unit {0}) KeepFault) (out after : Output) → Refuses number result out after → OnOk result (Gains ⊥ out after (no_command_text number ∷ []))
+ok_refused number (Ok done) out after refused = refused
+ok_refused number (Err fault) out after refused = tt
+
+pub err_refused : (number : ℕ) (result : Result (Unit {0}) KeepFault) (out after : Output) → Refuses number result out after → IfErr result (λ fault. Refuses number (Err fault) out after)
+err_refused number (Ok done) out after refused = tt
+err_refused number (Err fault) out after refused = refused

@@ -1,0 +1,531 @@
+-- What serving lines results in, from what its parts did.
+use Rattle.std.proofs.Common.{◌≡◌, ◌≢◌, ◌⊎◌, ⊎_elim, inl, inr, ℕ, zero, suc, ◌+◌, ◌-◌, ◌*◌, ◌<◌, ◌≤◌, List, [], ◌∷◌, ◌++◌, Option, None, Some, IfSome, IsSome, Result, Ok, Err, OnOk, Contains, length, length-append, length-take, take, drop, get_or, map, refl, sym, ap, subst, ◌∙◌, arith, append_assoc, take-append-drop}
+use Rattle.std.specs.Prelude.{All, ⊤}
+use Rattle.std.proofs.lemmas.List.{append-nil}
+use Rattle.std.proofs.lemmas.List.Elements.{All-nil, Contains-append_left}
+use Rattle.std.proofs.Math.Seq.{take-append-add, take-append_seam}
+use Rattle.wire_records.specs.Records.{Record}
+use Rattle.wire_records.specs.Commands.{Pair}
+use Rattle.word_driver.specs.Does.{IsTaken}
+use Rattle.flow_io.specs.Streams.{Takes, TakesAtMost}
+use Rattle.flow_io.specs.Windows.{WindowState}
+use Rattle.flow_io.proofs.Reading.{Takes-more}
+use Rattle.flow_orders.specs.Outcomes.{Outcome}
+use Rattle.file_units.specs.Inputs.{known}
+use Rattle.file_units.proofs.Gone.{considered, went_well}
+use Rattle.journal_records.specs.Formats.{records_of}
+use Rattle.market_rules.specs.Market.{Market}
+use Rattle.market_snapshot.specs.Checkpoints.{checkpoint_magic, checkpoint_bytes, IsCheckpoint, HasCheckpointMagic}
+use Rattle.market_history.specs.Histories.{Start, market_of, CanStart}
+use Rattle.market_history.proofs.Starting.{magic_on}
+use Rattle.disk_edge.specs.Disks.{DiskState, IsDisk, AtEachMoment}
+use Rattle.disk_edge.proofs.Moments.{weaker, then_more, at_the_end}
+use Rattle.journal_disk.specs.Entries.{IsNewDisk, Keeps}
+use Rattle.journal_disk.specs.Lengths.{HasAtMost, LeavesAtMost, ReachesAtMost}
+use Rattle.line_records.specs.Lines.{IsPiece, AreLines, ended_by_feeds}
+use Rattle.line_records.proofs.Pieces.{lines_after}
+use Rattle.journal_keeping.specs.declared.fault.KeepFault.{KeepFault}
+use Rattle.journal_keeping.specs.declared.fault.KeepFault.TheVariants.{Read, Write, Disk, Memory, NotDisk, Damaged, Rejected, NotFlow, BadCheckpoint, Torn, TooLong}
+use Rattle.journal_keeping.specs.Starts.{head_of}
+use Rattle.journal_keeping.specs.Keeping.{IsKeptJournal, HoldsLegal}
+use Rattle.journal_keeping.specs.Openings.{New, Legal, IsOpening, KeepNone}
+use Rattle.journal_keeping.specs.Lengths.{BringsAtMost, HasYetAtMost}
+use Rattle.journal_keeping.specs.Ended.{IsRefusal, MayBeginAgain}
+use Rattle.journal_keeping.specs.Beginning as keeping
+use Rattle.journal_keeping.specs.Pacing.{asked_of}
+use Rattle.journal_keeping.proofs.Auditing.{none_read}
+use Rattle.journal_keeping.proofs.Begun.{Opens, opened_old, new_again}
+use Rattle.journal_keeping.proofs.Lengths.{last_commit, left_less}
+use Rattle.journal_keeping.proofs.Magic.{at_most}
+use Rattle.journal_keeping.proofs.Serving.{unbegun, opened_first}
+use Rattle.journal_keeping.proofs.Whole.{after_run}
+use Rattle.line_keeping.specs.Answers.{AreLinesAnswered, AreAnsweredInto, AreFirstAnswered}
+use Rattle.line_keeping.specs.Inputs.{start_after, bytes_before, IsBefore, HasLines, HasLinesWithin}
+use Rattle.line_keeping.specs.Outputs.{Output, Gains}
+use Rattle.line_keeping.specs.Keeping.{GoesOnIn, InputBegins, AreServed, Serves, ServesIn}
+use Rattle.line_keeping.specs.Lengths.{GrowsAtMost}
+use Rattle.line_keeping.specs.Ended.{OpensAs, HasAnswered, BreaksOff, KeepsJust, RunsOutAt, ComesTo, LeavesNone}
+use Rattle.line_keeping.specs.Private.{IsBehind, IsBegun, OpensSafely, StaysKept, IsPart, NotBegun, StopAt, AreRead, AreDone, BrokeOff, AnswersOn}
+use Rattle.line_keeping.proofs.Joining.{Pairs, Texts}
+use Rattle.line_keeping.proofs.Gaining.{gains_none, gains_wider}
+use Rattle.line_keeping.proofs.Endings.{less_or_not}
+use Rattle.line_keeping.proofs.Looking.{too_few}
+use Rattle.line_keeping.proofs.NewBegun.{input_begins}
+use Rattle.line_keeping.proofs.Safety.{brought}
+
+-- ---- nothing was answered
+
+-- the magic of a checkpoint has no line feed
+magic_piece : IsPiece checkpoint_magic
+magic_piece (k, inside, is) = not_ten k inside is
+  where
+    not_ten : (k : ℕ) → k < length checkpoint_magic → get_or checkpoint_magic k 10 ≡ 10 → ⊥
+    not_ten zero inside is = omega (arith, is)
+    not_ten (suc zero) inside is = omega (arith, is)
+    not_ten (suc (suc zero)) inside is = omega (arith, is)
+    not_ten (suc (suc (suc zero))) inside is = omega (arith, is)
+    not_ten (suc (suc (suc (suc zero)))) inside is = omega (arith, is)
+    not_ten (suc (suc (suc (suc (suc zero))))) inside is = omega (arith, is)
+    not_ten (suc (suc (suc (suc (suc (suc zero)))))) inside is = omega (arith, is)
+    not_ten (suc (suc (suc (suc (suc (suc (suc zero))))))) inside is = omega (arith, is)
+    not_ten (suc (suc (suc (suc (suc (suc (suc (suc k)))))))) inside is = omega (arith, inside)
+
+-- a part of the magic has no lines
+part_lines : (x rest : List ℕ) → checkpoint_magic ≡ x ++ rest → length x < 8 → HasLines (Unit {0}) x None []
+part_lines x rest e few = (
+  x,
+  (too_few x few, refl),
+  record {
+    ended = [];
+    last = x;
+    whole = refl;
+    pieces = All-nil IsPiece;
+    piece = λ has. magic_piece (subst (λ (l : List ℕ). Contains l 10) (sym e) (Contains-append_left x rest 10 has));
+    all = inl (refl, inl tt);
+  },
+)
+
+part_read : (limit : ℕ) (held : List ℕ) (content left : Option (List ℕ)) (end : DiskState) → IsPart limit held content left end content
+    → IfSome content (λ bytes. (n : ℕ) × IsTaken bytes left n × HasLines (Unit {0}) (take n (take limit bytes)) None [])
+part_read limit held None left end part = tt
+part_read limit held (Some bytes) left end (n, taken, rest, e, few) =
+    (n, taken, part_lines (take n (take limit bytes)) rest e (omega (arith, few, length-take n (take limit bytes))))
+
+pub comes_not_begun : (limit : ℕ) (held : List ℕ) (content left : Option (List ℕ)) (end : DiskState) (out : Output) (fault : KeepFault) → NotBegun limit held content left end fault → ComesTo limit held content left end out out (Err fault)
+comes_not_begun limit held content left end out NotDisk is = (refl, is)
+comes_not_begun limit held content left end out (Damaged place) is = (refl, is)
+comes_not_begun limit held content left end out (Rejected number) is = (refl, is)
+comes_not_begun limit held content left end out NotFlow is = (refl, is.0, is.1, is.2, is.3, is.4, is.5, is.6)
+comes_not_begun limit held content left end out BadCheckpoint is = (refl, is)
+comes_not_begun limit held content left end out Read (inl (begin, old, market, opens, part, place, keeps)) =
+    inl (record {
+      begin = begin;
+      old = old;
+      market = market;
+      before = None;
+      opens = inl (opens, refl);
+      lines = [];
+      are = part_read limit held content left end part;
+      new = [];
+      texts = [];
+      now = market;
+      answered = (refl, refl, refl);
+      journal = subst (λ (l : Pairs). IsKeptJournal begin l market) (sym (append-nil old)) opens.2;
+      place = place;
+      keeps = subst (λ (l : Pairs). Keeps (head_of begin) (map records_of l) place end) (sym (append-nil old)) keeps;
+      gained = gains_none ⊥ out;
+    })
+comes_not_begun limit held content left end out Read (inr not) = inr (not out)
+comes_not_begun limit held content left end out Memory (inl same) = inl (same, refl)
+comes_not_begun limit held content left end out Memory (inr early) = inr (inl (early out))
+comes_not_begun limit held content left end out Disk is = inl (is out)
+comes_not_begun limit held content left end out Write is = absurd is
+comes_not_begun limit held content left end out (Torn place) is = absurd is
+comes_not_begun limit held content left end out TooLong is = absurd is
+
+-- a disk that is refused is so as for `keep`
+pub refusal_alike : (limit : ℕ) (held : List ℕ) (content left : Option (List ℕ)) (end : DiskState) (fault : KeepFault) → NotBegun limit held content left end fault → IsRefusal (Err fault) → keeping.NotBegun limit held content left end fault
+refusal_alike limit held content left end NotDisk is refusal = is
+refusal_alike limit held content left end (Damaged place) is refusal = is
+refusal_alike limit held content left end (Rejected number) is refusal = is
+refusal_alike limit held content left end NotFlow is refusal = absurd refusal
+refusal_alike limit held content left end BadCheckpoint is refusal = absurd refusal
+refusal_alike limit held content left end Read is refusal = absurd refusal
+refusal_alike limit held content left end Memory is refusal = absurd refusal
+refusal_alike limit held content left end Disk is refusal = absurd refusal
+refusal_alike limit held content left end Write is refusal = absurd refusal
+refusal_alike limit held content left end (Torn place) is refusal = absurd refusal
+refusal_alike limit held content left end TooLong is refusal = absurd refusal
+
+-- before the first line
+pub keeps_none : (limit : ℕ) (content : Option (List ℕ)) (Cut : Type 0) (begin : Start) (start next : DiskState) (old : Pairs) (market : Market) (out : Output) → IsDisk next → OpensSafely limit content start next begin old market
+    → ServesIn limit content Cut begin start next old market out out
+keeps_none limit content Cut begin start next old market out is_disk safe = (
+  safe.of,
+  safe.from,
+  safe.before,
+  safe.goes,
+  record {
+    new = [];
+    acknowledged = 0;
+    runs = unbegun safe.of start next old safe.from safe.journal is_disk safe.moments;
+    texts = [];
+    added = inl (refl, refl);
+    answers = [];
+    answered = inl (refl, refl);
+    gained = gains_none Cut out;
+  },
+)
+
+pub may_begin_again : (limit : ℕ) (content : Option (List ℕ)) (Cut : Type 0) (begin : Start) (start end : DiskState) (old : Pairs) (market : Market) (out later : Output) → HoldsLegal start begin old market → IsDisk end
+    → ServesIn limit content Cut begin start end old market out later → MayBeginAgain start end
+may_begin_again limit content Cut begin start end old market out later legal is_disk (of, from, before, goes, serves) =
+    after_run begin of start end old serves.new market from (asked_of serves.new) serves.acknowledged legal is_disk serves.runs
+
+-- ---- a disk that was opened
+
+-- the old entries are a valid journal
+opens_journal : (held : List ℕ) (begin : Start) (old : Pairs) (m : Market) (before : Option Market) → CanStart begin → OpensAs held begin old m before → IsKeptJournal begin old m
+opens_journal held begin old m before starts (inl legal) = legal.0.2
+opens_journal held begin old m before starts (inr new) = subst (λ (l : Pairs). IsKeptJournal begin l m) (sym new.2) (none_read begin m starts new.3)
+
+-- lines can be answered
+pub can_serve : (content now : Option (List ℕ)) (begin : Start) (before : Option Market) (m : Market) (count place : ℕ) (mid : DiskState) → CanStart begin → (IsSome now → IsSome content) → IfSome content (λ held. IsBegun held begin before m count place mid)
+    → IfSome now (λ _. (w : Start) × (old : Pairs) × IsKeptJournal w old m × Keeps (head_of w) (map records_of old) place mid)
+can_serve content None begin before m count place mid starts told begun = tt
+can_serve None (Some bytes) begin before m count place mid starts told begun = absurd (went_well (told refl))
+can_serve (Some held) (Some bytes) begin before m count place mid starts told begun = (begin, begun.0, opens_journal held begin begun.0 m before starts begun.1, begun.3)
+
+-- a disk that keeps no valid journal wasn't opened
+pub none_begun : (content : Option (List ℕ)) (begin : Start) (before : Option Market) (m : Market) (count place : ℕ) (mid : DiskState) (P : Type 0) → IfSome content (λ held. IsBegun held begin before m count place mid) → IfSome content (λ held. KeepNone held → P)
+none_begun None begin before m count place mid P begun = tt
+none_begun (Some held) begin before m count place mid P begun = λ none. absurd (opened_not begun.1 none)
+  where
+    opened_not : OpensAs held begin begun.0 m before → ¬ KeepNone held
+    opened_not (inl legal) none = none.1 begin begun.0 m legal.0
+    opened_not (inr new) none = none.0 new.0
+
+-- how the journal goes on, with the old entries
+module _ (start : DiskState) (v : Start) (old : Pairs) (market : Market) (holds : HoldsLegal start v old market) where
+  begun_is : (limit : ℕ) (content : Option (List ℕ)) (held : List ℕ) (next : DiskState) (of : Start) (before : Option Market) (m : Market) (count place : ℕ) → start.content ≡ Some held → CanStart of → InputBegins limit content before → IsBegun held of before m count place next
+      → GoesOnIn limit content start v market of m before × IsKeptJournal of old m × (count ≡ length old) × Keeps (head_of of) (map records_of old) place next
+  begun_is limit content held next of before m count place told starts begins (other, inl legal, counted, at) =
+      let same = opened_old start v old market holds held told of other m legal.0 in (
+        inl (sym same.0, sym same.2, legal.1),
+        subst (λ (l : Pairs). IsKeptJournal of l m) (sym same.1) legal.0.2,
+        counted ∙ ap length (sym same.1),
+        subst (λ (l : Pairs). Keeps (head_of of) (map records_of l) place next) (sym same.1) at,
+      )
+  begun_is limit content held next of before m count place told starts begins (other, inr new, counted, at) =
+      let none = new_again start v old market holds held told new.0.0 in (
+        inr (subst (λ (o : Option (List ℕ)). IfSome o IsNewDisk) (sym told) new.0.0, new.1, new.3, begins),
+        subst (λ (l : Pairs). IsKeptJournal of l m) (sym none) (none_read of m starts new.3),
+        counted ∙ ap length (new.2 ∙ sym none),
+        subst (λ (l : Pairs). Keeps (head_of of) (map records_of l) place next) (new.2 ∙ sym none) at,
+      )
+
+  pub begun_known : (limit : ℕ) (content : Option (List ℕ)) (next : DiskState) (of : Start) (before : Option Market) (m : Market) (count place : ℕ) → CanStart of → InputBegins limit content before → IfSome start.content (λ held. IsBegun held of before m count place next)
+      → GoesOnIn limit content start v market of m before × IsKeptJournal of old m × (count ≡ length old) × Keeps (head_of of) (map records_of old) place next
+  begun_known limit content next of before m count place starts begins begun =
+      begun_is limit content holds.bytes next of before m count place holds.told starts begins (subst (λ (o : Option (List ℕ)). IfSome o (λ (held : List ℕ). IsBegun held of before m count place next)) holds.told begun)
+
+-- ---- the lines of the input
+
+-- lines are the same if more of the text follows alike
+lines_alike : (More Other : Type 0) (bytes : List ℕ) (lines : Texts) → (More → Other) → (Other → More) → AreLines More bytes lines → AreLines Other bytes lines
+lines_alike More Other bytes lines to from are = record { ended = are.ended; last = are.last; whole = are.whole; pieces = are.pieces; piece = are.piece; all = all are.all }
+  where
+    all : ((lines ≡ are.ended) × (More ⊎ (are.last ≡ []))) ⊎ ((lines ≡ are.ended ++ are.last ∷ []) × (¬ More) × (are.last ≢ [])) → ((lines ≡ are.ended) × (Other ⊎ (are.last ≡ []))) ⊎ ((lines ≡ are.ended ++ are.last ∷ []) × (¬ Other) × (are.last ≢ []))
+    all (inl (is, inl more)) = inl (is, inl (to more))
+    all (inl (is, inr none)) = inl (is, inr none)
+    all (inr (is, not, some)) = inr (is, (λ other. not (from other)), some)
+
+-- the lines that were complete in the first bytes are the first ones
+lines_go_on : (More : Type 0) → More ⊎ (¬ More) → (k : ℕ) (bytes : List ℕ) (read : Texts) → AreLines (Unit {0}) (take k bytes) read → (rest : Texts) × AreLines More bytes (read ++ rest)
+lines_go_on More more k bytes read are =
+    let is = ended_are are.all in
+    let whole : bytes ≡ ended_by_feeds are.ended ++ (are.last ++ drop k bytes) = sym (take-append-drop k bytes) ∙ ap (λ (l : List ℕ). l ++ drop k bytes) are.whole ∙ append_assoc (ended_by_feeds are.ended) are.last (drop k bytes) in
+    let found = lines_after More more bytes (are.last ++ drop k bytes) are.ended whole are.pieces in
+    (found.0, subst (λ (l : Texts). AreLines More bytes (l ++ found.0)) (sym is) found.1)
+  where
+    ended_are : ((read ≡ are.ended) × (Unit {0} ⊎ (are.last ≡ []))) ⊎ ((read ≡ are.ended ++ are.last ∷ []) × (¬ Unit {0}) × (are.last ≢ [])) → read ≡ are.ended
+    ended_are (inl (is, why)) = is
+    ended_are (inr (is, not, some)) = absurd (not tt)
+
+before_is : (before : Option Market) (bytes text : List ℕ) → IfSome before (λ market. IsCheckpoint market (checkpoint_bytes market)) → (before ≡ None → ¬ HasCheckpointMagic bytes) → bytes ≡ bytes_before before ++ text → IsBefore bytes before text
+before_is None bytes text lawful other is = (other refl, sym is)
+before_is (Some market) bytes text lawful other is = (lawful, is)
+
+-- the first bytes don't have the magic if all don't
+none_first : (n : ℕ) (bytes : List ℕ) → ¬ HasCheckpointMagic bytes → ¬ HasCheckpointMagic (take n bytes)
+none_first n bytes none has = none (subst HasCheckpointMagic (take-append-drop n bytes) (magic_on (take n bytes) (drop n bytes) has))
+
+module _ (limit : ℕ) (before : Option Market) (w : WindowState) (content mid left : Option (List ℕ)) (following : IsBehind limit before w content mid) (taken : List ℕ) (takes : Takes mid left taken) where
+  abbrev all : List ℕ
+  all = w.held ++ known taken left
+
+  abbrev seen : List ℕ
+  seen = w.held ++ taken
+
+  abbrev far : ℕ
+  far = w.limit - w.place
+
+  start_few : length (bytes_before before) ≤ limit
+  start_few = omega (arith, following.place, following.limited, following.is_open.within)
+
+  parts : limit ≡ length (bytes_before before) + far
+  parts = omega (arith, start_few, following.place, following.limited)
+
+  module _ (bytes m l : List ℕ) (is_content : content ≡ Some bytes) (is_mid : mid ≡ Some m) (is_left : left ≡ Some l) where
+    whole_is : bytes ≡ bytes_before before ++ all
+    whole_is =
+        let first = subst (λ (o : Option (List ℕ)). Takes o (Some m) (bytes_before before ++ w.held)) is_content (subst (λ (o : Option (List ℕ)). Takes content o (bytes_before before ++ w.held)) is_mid following.takes) in
+        let later = subst (λ (o : Option (List ℕ)). Takes o (Some l) taken) is_mid (subst (λ (o : Option (List ℕ)). Takes mid o taken) is_left takes) in
+        first ∙ append_assoc (bytes_before before) w.held m ∙ ap (λ (k : List ℕ). bytes_before before ++ (w.held ++ k)) later ∙ ap (λ (o : Option (List ℕ)). bytes_before before ++ (w.held ++ known taken o)) (sym is_left)
+
+    within_is : take limit bytes ≡ bytes_before before ++ take far all
+    within_is = ap (take limit) whole_is ∙ ap (λ (n : ℕ). take n (bytes_before before ++ all)) parts ∙ take-append-add (bytes_before before) all far
+
+    none_is : before ≡ None → ¬ HasCheckpointMagic (take limit bytes)
+    none_is is =
+        let first = subst (λ (o : Option (List ℕ)). Takes o (Some m) (bytes_before before ++ w.held)) is_content (subst (λ (o : Option (List ℕ)). Takes content o (bytes_before before ++ w.held)) is_mid following.takes) in
+        let bare : bytes ≡ w.held ++ m = first ∙ ap (λ (o : Option Market). (bytes_before o ++ w.held) ++ m) is in
+        subst (λ (k : List ℕ). ¬ HasCheckpointMagic (take limit k)) (sym bare) (subst (λ (o : Option (List ℕ)). ¬ HasCheckpointMagic (take limit (known w.held o))) is_mid (following.other is))
+
+    size_is : length bytes ≡ length (bytes_before before) + length all
+    size_is = ap length whole_is ∙ length-append (bytes_before before) all
+
+    lines_are : (lines : Texts) → AreLines (far < length all) (take far all) lines → HasLinesWithin limit bytes before lines
+    lines_are lines are = (
+      take far all,
+      before_is before (take limit bytes) (take far all) following.lawful none_is within_is,
+      lines_alike (far < length all) (limit < length bytes) (take far all) lines (λ more. omega (arith, more, parts, size_is)) (λ more. omega (arith, more, parts, size_is)) are,
+    )
+
+    all_known : all ≡ w.held ++ (taken ++ l)
+    all_known = ap (λ (o : Option (List ℕ)). w.held ++ known taken o) is_left
+
+    counts_are : (length (bytes_before before) + length seen) + length l ≡ length bytes
+    counts_are = omega (arith, size_is, ap length all_known, length-append w.held (taken ++ l), length-append taken l, length-append w.held taken)
+
+    taken_is : IsTaken bytes left (length (bytes_before before) + length seen)
+    taken_is = subst (λ (o : Option (List ℕ)). IsTaken bytes o (length (bytes_before before) + length seen)) (sym is_left) counts_are
+
+    read_is : (read : Texts) → AreLines (Unit {0}) (take (length seen) (take far all)) read → (n : ℕ) × IsTaken bytes left n × HasLines (Unit {0}) (take n (take limit bytes)) before read
+    read_is read are =
+        let n = length (bytes_before before) + length seen in
+        let first : take n (take limit bytes) ≡ bytes_before before ++ take (length seen) (take far all) = ap (take n) within_is ∙ take-append-add (bytes_before before) (take far all) (length seen) in
+        (n, taken_is, (take (length seen) (take far all), before_is before (take n (take limit bytes)) (take (length seen) (take far all)) following.lawful (λ is. none_first n (take limit bytes) (none_is is)) first, are))
+
+  -- if the input's content is known
+  if_known : (P : List ℕ → Type 0) → ((bytes m l : List ℕ) → content ≡ Some bytes → mid ≡ Some m → left ≡ Some l → P bytes) → IfSome content P
+  if_known P f = by_cases content mid left refl refl refl
+    where
+      by_cases : (a b c : Option (List ℕ)) → content ≡ a → mid ≡ b → left ≡ c → IfSome a P
+      by_cases None b c x y z = tt
+      by_cases (Some bytes) None c x y z = absurd (subst (λ (o : Option (List ℕ)). Takes o None (bytes_before before ++ w.held)) x (subst (λ (o : Option (List ℕ)). Takes content o (bytes_before before ++ w.held)) y following.takes))
+      by_cases (Some bytes) (Some m) None x y z = absurd (subst (λ (o : Option (List ℕ)). Takes o None taken) y (subst (λ (o : Option (List ℕ)). Takes mid o taken) z takes))
+      by_cases (Some bytes) (Some m) (Some l) x y z = f bytes m l x y z
+
+  -- which lines of the input were answered
+  module _ (market : Market) (count : ℕ) (read : Texts) (line : List ℕ) where
+    abbrev First : Pairs → Texts → List ℕ → Type 0
+    First pairs texts bytes = (lines : Texts) × HasLinesWithin limit bytes before lines × (now : Market) × AreFirstAnswered market count lines pairs texts now
+
+    more_first : (rest : Texts) (pairs : Pairs) (texts : Texts) (new : Market) → AreLinesAnswered market count 1 read pairs texts new → AreFirstAnswered market count (read ++ rest) pairs texts new
+    more_first [] pairs texts new done = inl (subst (λ (l : Texts). AreLinesAnswered market count 1 l pairs texts new) (sym (append-nil read)) done)
+    more_first (next ∷ rest) pairs texts new done = inr (
+      read,
+      next,
+      rest,
+      refl,
+      record {
+        done = pairs;
+        own = texts;
+        next = new;
+        answered = done;
+        more = [];
+        others = [];
+        begun = inl (refl, refl, refl);
+        pairs_are = sym (append-nil pairs);
+        texts_are = sym (append-nil texts);
+      },
+    )
+
+    stopped : (pairs : Pairs) (texts : Texts) (new : Market) → StopAt far all seen left read line → AreAnsweredInto market count read line pairs texts new → IfSome content (First pairs texts)
+    stopped pairs texts new stop into = if_known (First pairs texts) (λ bytes m l x y z. (read ++ line ∷ stop.0, lines_are bytes m l x y z (read ++ line ∷ stop.0) stop.1, new, inr (read, line, stop.0, refl, into)))
+
+    pub first_answered : (result : Result (Unit {0}) KeepFault) (pairs : Pairs) (texts : Texts) (new : Market) → AreRead far all seen left read line result → AreDone market count read line pairs texts new result → IfSome content (First pairs texts)
+    first_answered (Ok done) pairs texts new reads answered = if_known (First pairs texts) (λ bytes m l x y z. (read, lines_are bytes m l x y z read reads.0, new, inl answered))
+    first_answered (Err TooLong) pairs texts new reads answered = if_known (First pairs texts) (λ bytes m l x y z. (read, lines_are bytes m l x y z read reads.0, new, inl answered))
+    first_answered (Err Read) pairs texts new reads answered =
+        let found = lines_go_on (far < length all) (less_or_not far (length all)) (length seen) (take far all) read reads in
+        if_known (First pairs texts) (λ bytes m l x y z. (read ++ found.0, lines_are bytes m l x y z (read ++ found.0) found.1, new, more_first found.0 pairs texts new answered))
+    first_answered (Err Write) pairs texts new reads answered = stopped pairs texts new reads answered
+    first_answered (Err Disk) pairs texts new reads answered = stopped pairs texts new reads answered
+    first_answered (Err Memory) pairs texts new reads answered = stopped pairs texts new reads answered
+    first_answered (Err NotDisk) pairs texts new reads answered = absurd reads
+    first_answered (Err (Damaged n)) pairs texts new reads answered = absurd reads
+    first_answered (Err (Rejected n)) pairs texts new reads answered = absurd reads
+    first_answered (Err NotFlow) pairs texts new reads answered = absurd reads
+    first_answered (Err BadCheckpoint) pairs texts new reads answered = absurd reads
+    first_answered (Err (Torn n)) pairs texts new reads answered = absurd reads
+
+-- ---- lines were answered
+
+-- what it does to the disk and to the output
+pub keeps_served : (limit : ℕ) (content mid left : Option (List ℕ)) (w : WindowState) (of : Start) (before : Option Market) (following : IsBehind limit before w content mid) (result : Result (Unit {0}) KeepFault) (begin : Start) (start begun end : DiskState) (old : Pairs) (market session : Market) (count place : ℕ) (out later : Output)
+    → GoesOnIn limit content start begin market of session before × IsKeptJournal of old session × (count ≡ length old) × Keeps (head_of of) (map records_of old) place begun → Opens of start begun old
+    → AnswersOn w mid left result session count place begun end out later → ServesIn limit content (result ≡ Err Write) begin start end old market out later
+keeps_served limit content mid left w of before following result begin start begun end old market session count place out later is opens on =
+    let all = on.pairs ++ on.more in (
+      of,
+      session,
+      before,
+      is.0,
+      record {
+        new = all;
+        acknowledged = length on.pairs;
+        runs = opened_first of start begun end old session place (asked_of all) all (length on.pairs) opens is.3 (on.runs of old is.1 is.3);
+        texts = on.words;
+        added = inr (subst (λ (n : ℕ). IfSome content (λ bytes. (lines : Texts) × HasLinesWithin limit bytes before lines × (now : Market) × AreFirstAnswered session n lines all on.words now)) is.2
+            (first_answered limit before w content mid left following on.taken on.takes session count on.read on.line result all on.words on.last on.reads on.further));
+        answers = on.texts;
+        answered = inr (subst (λ (n : ℕ). IfSome content (λ bytes. (lines : Texts) × HasLinesWithin limit bytes before lines × (now : Market) × AreFirstAnswered session n lines (take (length on.pairs) all) on.texts now)) is.2
+            (subst (λ (p : Pairs). IfSome content (λ bytes. (lines : Texts) × HasLinesWithin limit bytes before lines × (now : Market) × AreFirstAnswered session count lines p on.texts now)) (sym (take-append_seam on.pairs on.more))
+            (first_answered limit before w content mid left following on.taken on.takes session count on.read on.line result on.pairs on.texts on.market on.reads on.answered)));
+        gained = on.gained;
+      },
+    )
+
+-- what it results in
+module _ (limit : ℕ) (held : List ℕ) (content : Option (List ℕ)) (begun : DiskState) (begin : Start) (before : Option Market) (market : Market) (count place : ℕ) (is : IsBegun held begin before market count place begun) (starts : CanStart begin)
+    (mid left : Option (List ℕ)) (w : WindowState) (following : IsBehind limit before w content mid) (end : DiskState) (out later : Output) where
+  journal : IsKeptJournal begin is.0 market
+  journal = opens_journal held begin is.0 market before starts is.1
+
+  all_answered : (result : Result (Unit {0}) KeepFault) (on : AnswersOn w mid left result market count place begun end out later) (Are : List ℕ → Option Market → Texts → Type 0) → ¬ BrokeOff result → AreLinesAnswered market count 1 on.read on.pairs on.texts on.market
+      → IfSome content (λ bytes. Are bytes before on.read) → HasAnswered held content end out later Are
+  all_answered result on Are whole answered are =
+      let kept = (on.whole (λ e. whole (inr (inl e)))).1 begin is.0 journal is.3 in
+      record {
+        begin = begin;
+        old = is.0;
+        market = market;
+        before = before;
+        opens = is.1;
+        lines = on.read;
+        are = are;
+        new = on.pairs;
+        texts = on.texts;
+        now = on.market;
+        answered = subst (λ (n : ℕ). AreLinesAnswered market n 1 on.read on.pairs on.texts on.market) is.2 answered;
+        journal = on.journal whole begin is.0 journal is.3;
+        place = kept.0;
+        keeps = kept.1;
+        gained = gains_wider (result ≡ Err Write) ⊥ out later on.texts (λ e. whole (inr (inr e))) on.gained;
+      }
+
+  stopped_at : (result : Result (Unit {0}) KeepFault) (on : AnswersOn w mid left result market count place begun end out later) (Cut : Type 0) (At : Start → Pairs → List ℕ → Type 0)
+      → StopAt (w.limit - w.place) (w.held ++ known on.taken left) (w.held ++ on.taken) left on.read on.line → AreAnsweredInto market count on.read on.line on.pairs on.texts on.market → (result ≡ Err Write → Cut) → At begin (is.0 ++ on.pairs) on.line
+      → BreaksOff limit held content left Cut out later At
+  stopped_at result on Cut At stop into cut at = record {
+    begin = begin;
+    old = is.0;
+    market = market;
+    before = before;
+    opens = is.1;
+    read = on.read;
+    line = on.line;
+    more = stop.0;
+    lines = if_known limit before w content mid left following on.taken on.takes _ (λ bytes m l x y z. lines_are limit before w content mid left following on.taken on.takes bytes m l x y z (on.read ++ on.line ∷ stop.0) stop.1);
+    near = if_known limit before w content mid left following on.taken on.takes _ (λ bytes m l x y z. (
+      length (bytes_before before) + length (w.held ++ on.taken),
+      taken_is limit before w content mid left following on.taken on.takes bytes m l x y z,
+      omega (arith, stop.2),
+    ));
+    new = on.pairs;
+    texts = on.texts;
+    now = on.market;
+    answered = subst (λ (n : ℕ). AreAnsweredInto market n on.read on.line on.pairs on.texts on.market) is.2 into;
+    gained = gains_wider (result ≡ Err Write) Cut out later on.texts cut on.gained;
+    at = at;
+  }
+
+  keeps_just : (result : Result (Unit {0}) KeepFault) (on : AnswersOn w mid left result market count place begun end out later) → result ≢ Err Disk → KeepsJust end begin (is.0 ++ on.pairs) on.line
+  keeps_just result on not = (on.whole not).1 begin is.0 journal is.3
+
+  done_whole : (done : Unit {0}) → ¬ BrokeOff (Ok done)
+  done_whole done (inl e) = absurd cc
+  done_whole done (inr (inl e)) = absurd cc
+  done_whole done (inr (inr e)) = absurd cc
+
+  long_whole : ¬ BrokeOff (Err TooLong)
+  long_whole (inl e) = absurd cc
+  long_whole (inr (inl e)) = absurd cc
+  long_whole (inr (inr e)) = absurd cc
+
+  read_whole : ¬ BrokeOff (Err Read)
+  read_whole (inl e) = absurd cc
+  read_whole (inr (inl e)) = absurd cc
+  read_whole (inr (inr e)) = absurd cc
+
+  pub comes_served : (result : Result (Unit {0}) KeepFault) → AnswersOn w mid left result market count place begun end out later → ComesTo limit held content left end out later result
+  comes_served (Ok done) on =
+      all_answered (Ok done) on (λ bytes first lines. HasLinesWithin limit bytes first lines × (length bytes ≤ limit)) (done_whole done) on.answered
+      (if_known limit before w content mid left following on.taken on.takes _ (λ bytes m l x y z. (
+        lines_are limit before w content mid left following on.taken on.takes bytes m l x y z on.read on.reads.0,
+        omega (arith, on.reads.1, size_is limit before w content mid left following on.taken on.takes bytes m l x y z, parts limit before w content mid left following on.taken on.takes),
+      )))
+  comes_served (Err TooLong) on =
+      all_answered (Err TooLong) on (λ bytes first lines. HasLinesWithin limit bytes first lines × (limit < length bytes)) long_whole on.answered
+      (if_known limit before w content mid left following on.taken on.takes _ (λ bytes m l x y z. (
+        lines_are limit before w content mid left following on.taken on.takes bytes m l x y z on.read on.reads.0,
+        omega (arith, on.reads.1, size_is limit before w content mid left following on.taken on.takes bytes m l x y z, parts limit before w content mid left following on.taken on.takes),
+      )))
+  comes_served (Err Read) on =
+      inl (all_answered (Err Read) on (λ bytes first lines. (n : ℕ) × IsTaken bytes left n × HasLines (Unit {0}) (take n (take limit bytes)) first lines) read_whole on.answered
+      (if_known limit before w content mid left following on.taken on.takes _ (λ bytes m l x y z. read_is limit before w content mid left following on.taken on.takes bytes m l x y z on.read on.reads)))
+  comes_served (Err Write) on = stopped_at (Err Write) on (Unit {0}) (KeepsJust end) on.reads on.answered (λ e. tt) (keeps_just (Err Write) on (λ e. absurd cc))
+  comes_served (Err Disk) on = inr (stopped_at (Err Disk) on ⊥ (λ b pairs line. ⊤) on.reads on.answered (λ e. absurd cc) tt)
+  comes_served (Err Memory) on = inr (inr (stopped_at (Err Memory) on ⊥ (RunsOutAt end) on.reads on.answered (λ e. absurd cc) (keeps_just (Err Memory) on (λ e. absurd cc), on.lacks refl)))
+  comes_served (Err NotDisk) on = absurd on.reads
+  comes_served (Err (Damaged n)) on = absurd on.reads
+  comes_served (Err (Rejected n)) on = absurd on.reads
+  comes_served (Err NotFlow) on = absurd on.reads
+  comes_served (Err BadCheckpoint) on = absurd on.reads
+  comes_served (Err (Torn n)) on = absurd on.reads
+
+-- ---- how much was read
+
+module _ (far : ℕ) (all seen : List ℕ) (left : Option (List ℕ)) (read : Texts) (line : List ℕ) where
+  pub not_refusal : (result : Result (Unit {0}) KeepFault) → AreRead far all seen left read line result → ¬ IsRefusal result
+  not_refusal (Ok done) reads refusal = refusal
+  not_refusal (Err Read) reads refusal = refusal
+  not_refusal (Err Write) reads refusal = refusal
+  not_refusal (Err Disk) reads refusal = refusal
+  not_refusal (Err Memory) reads refusal = refusal
+  not_refusal (Err NotDisk) reads refusal = reads
+  not_refusal (Err (Damaged n)) reads refusal = reads
+  not_refusal (Err (Rejected n)) reads refusal = reads
+  not_refusal (Err NotFlow) reads refusal = refusal
+  not_refusal (Err BadCheckpoint) reads refusal = refusal
+  not_refusal (Err (Torn n)) reads refusal = refusal
+  not_refusal (Err TooLong) reads refusal = refusal
+
+  pub leaves_none : (result : Result (Unit {0}) KeepFault) → AreRead far all seen left read line result → LeavesNone result left
+  leaves_none (Ok done) reads = reads.2
+  leaves_none (Err fault) reads = tt
+
+-- at most one byte past the limit was taken
+pub taken_few : (limit : ℕ) (before : Option Market) (w : WindowState) (content mid left : Option (List ℕ)) (taken : List ℕ) → IsBehind limit before w content mid → Takes mid left taken → w.place + (length w.held + length taken) ≤ w.limit + 1 → TakesAtMost content left (limit + 1)
+taken_few limit before w content mid left taken following takes few =
+    at_most content left ((bytes_before before ++ w.held) ++ taken) (limit + 1) (Takes-more content mid left (bytes_before before ++ w.held) taken following.takes takes)
+    (omega (arith, few, following.place, following.limited, length-append (bytes_before before ++ w.held) taken, length-append (bytes_before before) w.held))
+
+-- ---- how long the disk is
+
+-- the window is behind what is before the lines: so many bytes fewer may be served
+yet_after : (limit count : ℕ) (before : Option Market) (w : WindowState) (content after : Option (List ℕ)) → IsBehind limit before w content after → BringsAtMost limit content count → HasYetAtMost (count - length (bytes_before before)) w after
+yet_after limit count before w content after following (inl up) = inl (omega (arith, up, following.limited, following.place, following.is_open.within))
+yet_after limit count before w content after following (inr has) =
+    let less = left_less (bytes_before before ++ w.held) content after has.0 following.takes has.1 in
+    inr (less.0, less.1, omega (arith, has.2, less.2, length-append (bytes_before before) w.held))
+
+grows_by : (limit : ℕ) (begin : Start) (before : Option Market) (w : WindowState) (content after : Option (List ℕ)) → IsBehind limit before w content after → (start mid end : DiskState) → IsDisk mid
+    → ((most : ℕ) → 9 ≤ most → LeavesAtMost most start → AtEachMoment start mid (HasAtMost (most + 2 * length (bytes_before before)))) → (pairs : Pairs) (place : ℕ) → Keeps (head_of begin) (map records_of pairs) place mid
+    → ((count : ℕ) → HasYetAtMost count w after → ReachesAtMost (place + (8421856 * count + 1)) mid end) → GrowsAtMost limit content start end
+grows_by limit begin before w content after following start mid end is_disk within pairs place keeps served = λ most count nine short brings.
+    let size = length (bytes_before before) in
+    let run = within most nine short in
+    let there = at_the_end start mid (HasAtMost (most + 2 * size)) is_disk run in
+    let last = last_commit (head_of begin) (map records_of pairs) place (most + 2 * size) mid is_disk keeps there in
+    let few = brought limit count before w content after following brings in
+    let all = most + 8421856 * count in
+    then_more start mid end (HasAtMost all) (weaker start mid (HasAtMost (most + 2 * size)) (HasAtMost all) (λ image le. omega (arith, le, few)) run)
+    (served (count - size) (yet_after limit count before w content after following brings) all (omega (arith, last, few)) (λ image left. omega (arith, there image left, few)))
+
+pub grows_served : (limit : ℕ) (begin : Start) (before : Option Market) (w : WindowState) (content after : Option (List ℕ)) → IsBehind limit before w content after → (start mid end : DiskState) → IsDisk mid
+    → ((most : ℕ) → 9 ≤ most → LeavesAtMost most start → AtEachMoment start mid (HasAtMost (most + 2 * length (bytes_before before)))) → (held : List ℕ) (market : Market) (count place : ℕ) → IsBegun held begin before market count place mid
+    → ((more : ℕ) → HasYetAtMost more w after → ReachesAtMost (place + (8421856 * more + 1)) mid end) → GrowsAtMost limit content start end
+grows_served limit begin before w content after following start mid end is_disk within held market count place begun served = grows_by limit begin before w content after following start mid end is_disk within begun.0 place begun.3 served

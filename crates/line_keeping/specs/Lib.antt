@@ -1,0 +1,9 @@
+pub mod Answers
+pub mod Inputs
+pub mod Outputs
+pub mod Keeping
+pub mod Ended
+pub mod Making
+pub mod Lengths
+pub mod Private
+pub mod Laws

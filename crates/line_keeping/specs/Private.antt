@@ -1,0 +1,384 @@
+-- For private functions alone: what finding a line, answering it, and opening an input do.
+use Rattle.std.specs.Prelude.{◌≡◌, ◌≢◌, ◌<◌, ◌≤◌, ◌+◌, ◌*◌, ◌-◌, ◌^◌, ◌⊎◌, ℕ, List, [], ◌∷◌, ◌++◌, length, take, map, All, Option, Some, None, IfSome, IsSome, Bool, IsTrue, Result, Ok, Err}
+use Rattle.flow_io.specs.Streams.{Takes}
+use Rattle.flow_io.specs.Windows.{WindowState}
+use Rattle.wire_records.specs.Records.{Record}
+use Rattle.wire_records.specs.Commands.{Command, Answer, Pair}
+use Rattle.wire_records.specs.CommandRecords.{record_of}
+use Rattle.wire_records.specs.Versions.{IsReadAs}
+use Rattle.flow_orders.specs.Outcomes.{Outcome}
+use Rattle.canonical_rule.specs.Canonical.{IsCanonicalOutcome}
+use Rattle.journal_records.specs.Pairs.{IsPair, pair_encoding}
+use Rattle.journal_records.specs.Formats.{records_of}
+use Rattle.market_rules.specs.Market.{Market, IsConsistent}
+use Rattle.market_snapshot.specs.Checkpoints.{checkpoint_magic, checkpoint_bytes, IsCheckpoint, HasCheckpointMagic}
+use Rattle.market_rules.specs.Journal.{Step}
+use Rattle.market_history.specs.Histories.{Start, market_of, CanStart}
+use Rattle.batch_report.specs.Reports.{IsReport}
+use Rattle.file_units.specs.Inputs.{known}
+use Rattle.word_driver.specs.Does.{IsTaken}
+use Rattle.disk_edge.specs.Disks.{DiskState, AtEachMoment}
+use Rattle.journal_disk.specs.Pairs.{RecordPair}
+use Rattle.journal_disk.specs.Entries.{Head, WithOrWithout, Keeps}
+use Rattle.journal_disk.specs.Lengths.{HasAtMost, LeavesAtMost, ReachesAtMost}
+use Rattle.line_records.specs.Lines.{IsPiece, AreLines, ended_by_feeds}
+use Rattle.journal_keeping.specs.Starts.{head_of, BeginsUnsound}
+use Rattle.journal_keeping.specs.Keeping.{IsKeptJournal, HoldsLegal, Runs}
+use Rattle.journal_keeping.specs.Openings.{Legal, IsOpening}
+use Rattle.journal_keeping.specs.Openings as opening
+use Rattle.journal_keeping.specs.Ended.{IsRefused, StaysNew}
+use Rattle.journal_keeping.specs.Beginning.{IsStored, WhileOpening}
+use Rattle.journal_keeping.specs.Pacing.{asked_of, IsInCheckpoint}
+use Rattle.journal_keeping.specs.Private.{KeepsOneMore, SoFar}
+use Rattle.journal_keeping.specs.declared.fault.KeepFault.{KeepFault}
+use Rattle.journal_keeping.specs.declared.fault.KeepFault.TheVariants.{Read, Write, Disk, Memory, NotDisk, Damaged, Rejected, NotFlow, BadCheckpoint, Torn, TooLong}
+use Rattle.input_lines.specs.Finding.{IsOpen, HasEnded}
+use Rattle.line_keeping.specs.Answers.{no_command_text, AreAnswered, IsLineAnswered, IsLineBegun, AreLinesAnswered, AreAnsweredInto, MayRunOut}
+use Rattle.line_keeping.specs.Inputs.{start_after, bytes_before, IsUnopened}
+use Rattle.line_keeping.specs.Making.{HasShownStart}
+use Rattle.line_keeping.specs.Keeping.{GoesOnIn}
+use Rattle.line_keeping.specs.Ended.{OpensAs, IsNotOpened, IsNotBegun, RunsOutEarly}
+use Rattle.line_keeping.specs.Outputs.{Output, Gains}
+
+-- ---- what is before the lines
+
+-- Bytes were taken from a source, which a window holds: whether they begin with the magic of a checkpoint, and if not, no more of the input within the limit makes
+-- them so.
+pub record ShowsStart (old new : WindowState) (before after : Option (List ℕ)) (found : Bool) : Type 0 where
+  pub takes : Takes before after new.held
+  pub limit : new.limit ≡ old.limit
+  pub place : new.place ≡ 0
+  pub is_open : IsOpen new after
+  pub unended : IsTrue found → new.over ≡ None
+  pub magic : IsTrue found → HasCheckpointMagic new.held
+  pub other : ¬ IsTrue found → (¬ HasCheckpointMagic (take new.limit (known new.held after))) × (¬ IsUnopened new.held ⊎ HasEnded new after ⊎ (new.limit ≡ length new.held))
+
+-- the first bytes of an input were taken, and a window holds them
+pub record HasLooked (old now : WindowState) (before rest : Option (List ℕ)) : Type 0 where
+  pub takes : Takes before rest now.held
+  pub limit : now.limit ≡ old.limit
+  pub place : now.place ≡ 0
+  pub is_open : IsOpen now rest
+  pub unended : now.over ≡ None
+
+-- Bytes were taken from a source, which are a part of the magic of a checkpoint.
+pub record ShowsNone (limit : ℕ) (before after : Option (List ℕ)) : Type 0 where
+  pub joined : List ℕ
+  pub takes : Takes before after joined
+  pub within : length joined ≤ limit
+  pub part : (rest : List ℕ) × (checkpoint_magic ≡ joined ++ rest)
+  pub few : length joined < 8
+
+-- ---- commands
+
+-- a window is past what is before the lines of an input, and was filled no further than the limit
+pub record IsBehind (limit : ℕ) (before : Option Market) (window : WindowState) (rest after : Option (List ℕ)) : Type 0 where
+  pub limited : window.limit ≡ limit
+  pub place : window.place ≡ length (bytes_before before)
+  pub is_open : IsOpen window after
+  pub takes : Takes rest after (bytes_before before ++ window.held)
+  pub lawful : IfSome before (λ market. IsCheckpoint market (checkpoint_bytes market))
+  pub other : before ≡ None → ¬ HasCheckpointMagic (take limit (known window.held after))
+
+-- An input was opened: a window is past what is before its lines, this is the market in which the journal of a new disk begins, and its first entry as stored.
+pub record OpensInput (limit : ℕ) (market : Market) (stored : List ℕ) (window : WindowState) (rest after : Option (List ℕ)) : Type 0 where
+  pub before : Option Market
+  pub following : IsBehind limit before window rest after
+  pub market_is : market ≡ market_of (start_after before)
+  pub stored_is : IsStored (start_after before) stored
+  pub shown : IfSome rest (λ bytes. HasShownStart limit bytes after)
+
+-- why an input wasn't opened
+abbrev pub NotOpened : ℕ → Option (List ℕ) → Option (List ℕ) → KeepFault → Type 0
+NotOpened limit content left BadCheckpoint = IfSome content (λ bytes. BeginsUnsound (take limit bytes))
+NotOpened limit content left Read = IfSome content (λ bytes. (n : ℕ) × IsTaken bytes left n × IsUnopened (take n (take limit bytes)))
+NotOpened limit content left Memory = IsInCheckpoint limit content left
+NotOpened limit content left NotFlow = ⊥
+NotOpened limit content left NotDisk = ⊥
+NotOpened limit content left (Damaged place) = ⊥
+NotOpened limit content left (Rejected number) = ⊥
+NotOpened limit content left Disk = ⊥
+NotOpened limit content left Write = ⊥
+NotOpened limit content left (Torn place) = ⊥
+NotOpened limit content left TooLong = ⊥
+
+-- the journal of a disk was opened, with so many entries, and the disk holds nothing after its commit byte; or the disk was new, and was made one that begins so
+abbrev pub IsBegun : List ℕ → Start → Option Market → Market → ℕ → ℕ → DiskState → Type 0
+IsBegun held begin before market count place now =
+    (old : List (Pair Record Outcome)) × OpensAs held begin old market before × (count ≡ length old) × Keeps (head_of begin) (map records_of old) place now
+
+-- The disk and the input were opened: how the journal begins and what is before the lines, what was opened, and what a crash leaves meanwhile.
+pub record HasBegun (limit : ℕ) (start end : DiskState) (window : WindowState) (rest after : Option (List ℕ)) (market : Market) (count place : ℕ) : Type 0 where
+  pub begin : Start
+  pub before : Option Market
+  pub starts : CanStart begin
+  pub following : IsBehind limit before window rest after
+  pub shown : IfSome rest (λ bytes. HasShownStart limit bytes after)
+  pub begun : IfSome start.content (λ held. IsBegun held begin before market count place end)
+  pub moments : (was : Start) (old : List (Pair Record Outcome)) (m : Market) → HoldsLegal start was old m → AtEachMoment start end (WhileOpening begin start old)
+  pub lengths : (most : ℕ) → 9 ≤ most → LeavesAtMost most start → AtEachMoment start end (HasAtMost (most + 2 * length (bytes_before before)))
+
+-- Opening leaves no more than that.
+pub record OpensSafely (limit : ℕ) (content : Option (List ℕ)) (start end : DiskState) (begin : Start) (old : List (Pair Record Outcome)) (market : Market) : Type 0 where
+  pub of : Start
+  pub from : Market
+  pub before : Option Market
+  pub goes : GoesOnIn limit content start begin market of from before
+  pub journal : IsKeptJournal of old from
+  pub moments : AtEachMoment start end (WhileOpening of start old)
+
+-- what a desk needs to begin
+pub record IsReadyToServe (market : Market) (entries place room : ℕ) : Type 0 where
+  pub orders : market.next_order ≤ place + 2 ^ 63
+  pub counted : entries ≤ place
+  pub few : place ≤ 2 ^ 60
+  pub text : 64 ≤ room
+
+-- why nothing was answered, if the disk held these bytes
+module _ (limit : ℕ) (held : List ℕ) (content left : Option (List ℕ)) (end : DiskState) where
+  -- the disk keeps the entries of the valid journal that it held
+  abbrev pub StaysKept : (Option (List ℕ) → Type 0) → Type 0
+  StaysKept Are =
+      (begin : Start) × (old : List (Pair Record Outcome)) × (market : Market) × IsOpening held (Legal begin old market) × Are content
+      × (place : ℕ) × Keeps (head_of begin) (map records_of old) place end
+
+  -- what was taken of the input is a part of the magic of a checkpoint
+  abbrev pub IsPart : Option (List ℕ) → Type 0
+  IsPart input = IfSome input (λ bytes. (n : ℕ) × IsTaken bytes left n × (rest : List ℕ) × (checkpoint_magic ≡ take n (take limit bytes) ++ rest) × (n < 8))
+
+  abbrev pub NotBegun : KeepFault → Type 0
+  NotBegun NotDisk = IsRefused held opening.Foreign end
+  NotBegun (Damaged place) = IsRefused held (opening.Damaged place) end
+  NotBegun (Rejected number) = IsRefused held (opening.Rejected number) end
+  NotBegun NotFlow = StaysKept (λ input. IfSome input (λ bytes. HasCheckpointMagic (take limit bytes)))
+  NotBegun BadCheckpoint = StaysNew BeginsUnsound limit held content end
+  NotBegun Read = StaysKept IsPart ⊎ ((out : Output) → IsNotOpened limit held content left end out out)
+  NotBegun Memory = (left ≡ content) ⊎ ((out : Output) → RunsOutEarly limit held content left end out out)
+  NotBegun Disk = (out : Output) → IsNotBegun limit content left out out
+  NotBegun Write = ⊥
+  NotBegun (Torn place) = ⊥
+  NotBegun TooLong = ⊥
+
+-- what is kept and written may go on: the numbers of orders and entries are below the place on the disk, which has room for so many entries more
+pub record IsReadyFor (market : Market) (entries place left : ℕ) : Type 0 where
+  pub orders : market.next_order ≤ place + 2 ^ 63
+  pub counted : entries ≤ place
+  pub room : place + 263183 * left ≤ 2 ^ 61
+
+-- A disk that keeps entries of a valid journal, which led to this market, keeps these after them: what a crash left meanwhile, and that its content wasn't lost.
+abbrev pub HasAdded : DiskState → DiskState → Market → Market → ℕ → ℕ → List (Pair Record Outcome) → Type 0
+HasAdded start now before market from place new = SoFar start now before market from place None None new
+
+-- a record was answered by one step of the market, and these are the bytes of its entry
+abbrev pub AnswersRecord : Market → Record → Market → List ℕ → Type 0
+AnswersRecord old asked new text =
+    (answer : Answer Outcome) × Step IsReadAs IsCanonicalOutcome old asked answer new × IsPair (record { asked = asked; answer = answer })
+    × (text ≡ pair_encoding (record { asked = asked; answer = answer }))
+
+-- an entry with these bytes led to this market
+abbrev pub LedTo : Market → List ℕ → Type 0
+LedTo new bytes =
+    (old : Market) × IsConsistent old × (entry : Pair Record Outcome) × IsPair entry × Step IsReadAs IsCanonicalOutcome old entry.asked entry.answer new × (bytes ≡ pair_encoding entry)
+
+-- an entry that is one step of the market, and answers the record of a command
+pub record IsServed (command : Command) (old : Market) (pair : Pair Record Outcome) (new : Market) : Type 0 where
+  pub asked : pair.asked ≡ record_of command
+  pub step : Step IsReadAs IsCanonicalOutcome old pair.asked pair.answer new
+  pub fits : IsPair pair
+
+-- a command was served, its entry kept, and its text written
+pub record AnswersCommand (command : Command) (old new : Market) (count from to : ℕ) (disk later : DiskState) (out after : Output) : Type 0 where
+  pub pair : Pair Record Outcome
+  pub text : List ℕ
+  pub served : IsServed command old pair new
+  pub report : IsReport new (count + 1) (records_of pair) text
+  pub keeps : KeepsOneMore pair from to disk later
+  pub told : IsSome later.content → IsSome disk.content
+  pub place : to ≡ from + (5 + length (pair_encoding pair))
+  pub gained : Gains ⊥ out after (text ∷ [])
+
+-- why a command wasn't served, kept and told
+module _ (command : Command) (old : Market) (count from to : ℕ) (disk later : DiskState) (out after : Output) (SameDisk : Type 0) where
+  abbrev pub BreaksCommand : KeepFault → Type 0
+  BreaksCommand Memory = SameDisk × (after ≡ out)
+  BreaksCommand Disk =
+      (after ≡ out) × (pair : Pair Record Outcome) × (text : List ℕ) × (new : Market) × IsServed command old pair new × IsReport new (count + 1) (records_of pair) text
+      × ((head : Head) (pairs : List RecordPair) → Keeps head pairs from disk → AtEachMoment disk later (WithOrWithout head pairs (records_of pair)))
+  BreaksCommand Write =
+      (pair : Pair Record Outcome) × (text : List ℕ) × (new : Market) × IsServed command old pair new × IsReport new (count + 1) (records_of pair) text
+      × KeepsOneMore pair from to disk later × (IsSome later.content → IsSome disk.content) × Gains (Unit {0}) out after (text ∷ [])
+  BreaksCommand Read = ⊥
+  BreaksCommand NotDisk = ⊥
+  BreaksCommand (Damaged place) = ⊥
+  BreaksCommand (Rejected number) = ⊥
+  BreaksCommand NotFlow = ⊥
+  BreaksCommand BadCheckpoint = ⊥
+  BreaksCommand (Torn place) = ⊥
+  BreaksCommand TooLong = ⊥
+
+-- if the content of a disk is known, it keeps some entries up to this place
+abbrev pub KeepsSome : ℕ → DiskState → Type 0
+KeepsSome place disk = IfSome disk.content (λ _. (head : Head) × (pairs : List RecordPair) × Keeps head pairs place disk)
+
+-- several commands were answered, one after the other
+pub record AnswersCommands (commands : List Command) (old new : Market) (count entries from to : ℕ) (disk later : DiskState) (out after : Output) : Type 0 where
+  pub pairs : List (Pair Record Outcome)
+  pub texts : List (List ℕ)
+  pub answered : AreAnswered old count commands pairs texts new
+  pub added : HasAdded disk later old new from to pairs
+  pub stays : KeepsSome from disk → KeepsSome to later
+  pub counted : entries ≡ count + length pairs
+  pub size : length pairs ≡ length commands
+  pub place : (from + length pairs ≤ to) × (to ≤ from + 263183 * length pairs)
+  pub orders : new.next_order ≤ old.next_order + length pairs
+  pub gained : Gains ⊥ out after texts
+
+-- Answering broke off: these entries are acknowledged, and `more` is the one that was being kept, if one was. `Begun` says which entries and texts
+-- are those of a part of what was to be answered.
+pub record Breaks (Begun : List (Pair Record Outcome) → List (List ℕ) → Market → Type 0) (old : Market) (from : ℕ) (disk later : DiskState) (out after : Output) (fault : KeepFault) : Type 0 where
+  pub pairs : List (Pair Record Outcome)
+  pub texts : List (List ℕ)
+  pub market : Market
+  pub begun : Begun pairs texts market
+  pub more : List (Pair Record Outcome)
+  pub words : List (List ℕ)
+  pub last : Market
+  pub further : Begun (pairs ++ more) words last
+  pub runs : (begin : Start) (kept : List (Pair Record Outcome)) → IsKeptJournal begin kept old → Keeps (head_of begin) (map records_of kept) from disk → Runs begin disk later kept old (asked_of (pairs ++ more)) (pairs ++ more) (length pairs)
+  pub gained : Gains (fault ≡ Write) out after texts
+  pub whole : fault ≢ Disk → (more ≡ []) × ((begin : Start) (kept : List (Pair Record Outcome)) → IsKeptJournal begin kept old → Keeps (head_of begin) (map records_of kept) from disk → (place : ℕ) × Keeps (head_of begin) (map records_of (kept ++ pairs)) place later)
+  pub is_one : (fault ≡ Memory) ⊎ (fault ≡ Disk) ⊎ (fault ≡ Write)
+
+-- the entries and texts of the first of these commands
+abbrev pub AreBegun : Market → ℕ → List Command → List (Pair Record Outcome) → List (List ℕ) → Market → Type 0
+AreBegun old count commands pairs texts new = (first : List Command) × (rest : List Command) × (commands ≡ first ++ rest) × AreAnswered old count first pairs texts new
+
+-- answering commands broke off
+abbrev pub BreaksCommands : List Command → Market → ℕ → ℕ → DiskState → DiskState → Output → Output → KeepFault → Type 0
+BreaksCommands commands old count from disk later out after fault = Breaks (AreBegun old count commands) old from disk later out after fault
+
+-- ---- lines
+
+-- it was answered that the line of this number is no command
+abbrev pub Refuses : ℕ → Result (Unit {0}) KeepFault → Output → Output → Type 0
+Refuses number (Ok done) out after = Gains ⊥ out after (no_command_text number ∷ [])
+Refuses number (Err Write) out after = Gains (Unit {0}) out after (no_command_text number ∷ [])
+Refuses number (Err Read) out after = ⊥
+Refuses number (Err Disk) out after = ⊥
+Refuses number (Err Memory) out after = ⊥
+Refuses number (Err NotDisk) out after = ⊥
+Refuses number (Err (Damaged place)) out after = ⊥
+Refuses number (Err (Rejected bad)) out after = ⊥
+Refuses number (Err NotFlow) out after = ⊥
+Refuses number (Err BadCheckpoint) out after = ⊥
+Refuses number (Err (Torn place)) out after = ⊥
+Refuses number (Err TooLong) out after = ⊥
+
+-- a line was answered
+pub record AnswersLine (number : ℕ) (line : List ℕ) (old new : Market) (count entries from to : ℕ) (disk later : DiskState) (out after : Output) : Type 0 where
+  pub pairs : List (Pair Record Outcome)
+  pub texts : List (List ℕ)
+  pub answered : IsLineAnswered old count number line pairs texts new
+  pub added : HasAdded disk later old new from to pairs
+  pub counted : entries ≡ count + length pairs
+  pub size : length pairs ≤ 32 * length line
+  pub place : (from + length pairs ≤ to) × (to ≤ from + 263183 * length pairs)
+  pub orders : new.next_order ≤ old.next_order + length pairs
+  pub gained : Gains ⊥ out after texts
+
+-- answering a line broke off
+pub record BreaksLine (number : ℕ) (line : List ℕ) (old : Market) (count from : ℕ) (disk later : DiskState) (out after : Output) (fault : KeepFault) : Type 0 where
+  pub breaks : Breaks (IsLineBegun old count number line) old from disk later out after fault
+  pub lacks : fault ≡ Memory → MayRunOut line
+
+-- ---- all lines
+
+-- The lines before those that a window holds now were answered: these bytes were taken, and these lines and their entries were so far.
+pub record HasGone (first now : WindowState) (rest left : Option (List ℕ)) (old market : Market) (count entries from place lines : ℕ) (start disk : DiskState) (out later : Output) : Type 0 where
+  pub taken : List ℕ
+  pub takes : Takes rest left taken
+  pub read : List (List ℕ)
+  pub pieces : All IsPiece read
+  pub whole : first.held ++ taken ≡ ended_by_feeds read ++ now.held
+  pub place_is : now.place ≡ first.place + length (ended_by_feeds read)
+  pub limit : now.limit ≡ first.limit
+  pub is_open : IsOpen now left
+  pub number : lines ≡ length read
+  pub pairs : List (Pair Record Outcome)
+  pub texts : List (List ℕ)
+  pub answered : AreLinesAnswered old count 1 read pairs texts market
+  pub added : HasAdded start disk old market from place pairs
+  pub counted : entries ≡ count + length pairs
+  pub gained : Gains ⊥ out later texts
+  pub orders : market.next_order ≤ place + 2 ^ 63
+  pub few : entries ≤ place
+  pub room : place + 263183 * (32 * (now.limit - now.place)) ≤ 2 ^ 61
+
+-- what the lines of the bytes after those that a window held are, by the result: `all` are these bytes, `seen` those that were taken of them
+module _ (limit : ℕ) (all seen : List ℕ) (after : Option (List ℕ)) (read : List (List ℕ)) (line : List ℕ) where
+  -- the lines that were read, one at which it stopped, and more; the source was read no further than 65,538 bytes past that line
+  abbrev pub StopAt : Type 0
+  StopAt =
+      (more : List (List ℕ)) × AreLines (limit < length all) (take limit all) (read ++ line ∷ more)
+      × (length seen ≤ length (ended_by_feeds (read ++ line ∷ [])) + 65538)
+
+  abbrev pub AreRead : Result (Unit {0}) KeepFault → Type 0
+  AreRead (Ok done) = AreLines (limit < length all) (take limit all) read × (length all ≤ limit) × IfSome after (λ left. left ≡ [])
+  AreRead (Err TooLong) = AreLines (limit < length all) (take limit all) read × (limit < length all)
+  AreRead (Err Read) = AreLines (Unit {0}) (take (length seen) (take limit all)) read
+  AreRead (Err Write) = StopAt
+  AreRead (Err Disk) = StopAt
+  AreRead (Err Memory) = StopAt
+  AreRead (Err NotDisk) = ⊥
+  AreRead (Err (Damaged place)) = ⊥
+  AreRead (Err (Rejected number)) = ⊥
+  AreRead (Err NotFlow) = ⊥
+  AreRead (Err BadCheckpoint) = ⊥
+  AreRead (Err (Torn place)) = ⊥
+
+-- which of the lines were answered, by the result: those that were read, or also a part of the one at which it stopped
+module _ (old : Market) (count : ℕ) (read : List (List ℕ)) (line : List ℕ) (pairs : List (Pair Record Outcome)) (texts : List (List ℕ)) (new : Market) where
+  abbrev pub AreDone : Result (Unit {0}) KeepFault → Type 0
+  AreDone (Ok done) = AreLinesAnswered old count 1 read pairs texts new
+  AreDone (Err TooLong) = AreLinesAnswered old count 1 read pairs texts new
+  AreDone (Err Read) = AreLinesAnswered old count 1 read pairs texts new
+  AreDone (Err Write) = AreAnsweredInto old count read line pairs texts new
+  AreDone (Err Disk) = AreAnsweredInto old count read line pairs texts new
+  AreDone (Err Memory) = AreAnsweredInto old count read line pairs texts new
+  AreDone (Err NotDisk) = ⊥
+  AreDone (Err (Damaged place)) = ⊥
+  AreDone (Err (Rejected number)) = ⊥
+  AreDone (Err NotFlow) = ⊥
+  AreDone (Err BadCheckpoint) = ⊥
+  AreDone (Err (Torn place)) = ⊥
+
+-- answering broke off at a line
+abbrev pub BrokeOff : Result (Unit {0}) KeepFault → Type 0
+BrokeOff result = (result ≡ Err Memory) ⊎ (result ≡ Err Disk) ⊎ (result ≡ Err Write)
+
+-- The lines from those that a window held on were answered: these entries are acknowledged, and `more` is the one that was being kept, if one was.
+pub record AnswersOn (window : WindowState) (rest left : Option (List ℕ)) (result : Result (Unit {0}) KeepFault) (old : Market) (count from : ℕ) (start end : DiskState) (out later : Output) : Type 0 where
+  pub taken : List ℕ
+  pub takes : Takes rest left taken
+  pub few : window.place + (length window.held + length taken) ≤ window.limit + 1
+  pub read : List (List ℕ)
+  pub line : List ℕ
+  pub reads : AreRead (window.limit - window.place) (window.held ++ known taken left) (window.held ++ taken) left read line result
+  pub pairs : List (Pair Record Outcome)
+  pub texts : List (List ℕ)
+  pub market : Market
+  pub answered : AreDone old count read line pairs texts market result
+  pub journal : ¬ BrokeOff result → (begin : Start) (kept : List (Pair Record Outcome)) → IsKeptJournal begin kept old → Keeps (head_of begin) (map records_of kept) from start → IsKeptJournal begin (kept ++ pairs) market
+  pub more : List (Pair Record Outcome)
+  pub words : List (List ℕ)
+  pub last : Market
+  pub further : AreDone old count read line (pairs ++ more) words last result
+  pub runs : (begin : Start) (kept : List (Pair Record Outcome)) → IsKeptJournal begin kept old → Keeps (head_of begin) (map records_of kept) from start → Runs begin start end kept old (asked_of (pairs ++ more)) (pairs ++ more) (length pairs)
+  pub gained : Gains (result ≡ Err Write) out later texts
+  pub whole : result ≢ Err Disk → (more ≡ []) × ((begin : Start) (kept : List (Pair Record Outcome)) → IsKeptJournal begin kept old → Keeps (head_of begin) (map records_of kept) from start → (place : ℕ) × Keeps (head_of begin) (map records_of (kept ++ pairs)) place end)
+  pub lacks : result ≡ Err Memory → MayRunOut line
+
+-- how far a crash may leave a disk by now, from the bytes that the window gave up since
+abbrev pub Reaches : WindowState → WindowState → ℕ → ℕ → DiskState → DiskState → Type 0
+Reaches first now from place start disk =
+    (place ≤ from + 8421856 * (now.place - first.place)) × ReachesAtMost (from + (8421856 * (now.place - first.place) + 1)) start disk

@@ -1,0 +1,248 @@
+//! One line: the commands that it asks for are served, kept and answered.
+ghost use Rattle.std.specs.Prelude.{◌≡◌, ◌≢◌, ◌<◌, ◌≤◌, ◌+◌, ◌*◌, ◌^◌, ◌∷◌, ℕ, List, [], length, map, All, Err, IfOk, IfErr, OnOk, OnErr, IfSome, vec_capacity};
+ghost use Rattle.flow_io.specs.Faults.{Blames};
+ghost use Rattle.wire_records.specs.Records.{Record, IsRecord, encoding, most_body};
+ghost use Rattle.wire_records.specs.Commands.{Command as command_value, Pair};
+ghost use Rattle.wire_records.specs.CommandRecords.{HasShortRow};
+ghost use Rattle.wire_records.specs.Views.{command_in};
+ghost use Rattle.flow_orders.specs.Outcomes.{Outcome};
+ghost use Rattle.journal_records.specs.Pairs.{IsPair, pair_encoding};
+ghost use Rattle.journal_records.specs.Formats.{records_of};
+ghost use Rattle.market_rules.specs.Market.{Market, IsConsistent};
+ghost use Rattle.batch_report.specs.Reports.{IsReport};
+ghost use Rattle.line_keeping.specs.Outputs.{output};
+ghost use Rattle.line_keeping.specs.Private.{AnswersRecord, LedTo};
+
+use batch_report::report_entry;
+use disk_edge::Disk;
+use exchange_session::Session;
+use flow_io::Sink;
+use journal_keeping::{KeepFault, Writer};
+use journal_records::{PairFramed, next_pair};
+use order_text::{LineFault, LineRead, ask_line};
+use std::alloc::Global;
+use wire_records::{Command, Framed, MOST_BODY, Memory, next_record, write_command};
+use word_driver::put_number;
+
+// Serves a record, and puts its entry into an empty buffer.
+fn serve_record(session: &mut Session, record: &[u8], pair: &mut Vec<u8>) -> Result<(), Memory>
+    requires record { (asked : Record) × IsRecord most_body asked × (record.now ≡ encoding asked) }
+    requires next { session.old.next_order + 1 < 2 ^ 64 }
+    requires empty { pair.old.items ≡ [] }
+    ensures served { OnOk result ((asked : Record) → IsRecord most_body asked → record.now ≡ encoding asked →
+        AnswersRecord session.old asked session.new pair.new.items) }
+    ensures room { vec_capacity pair.old ≤ vec_capacity pair.new }
+{
+    match next_record(record, MOST_BODY) {
+        Framed::Whole(asked, _) => session.serve(&asked, pair),
+        Framed::End => unreachable!(),
+        Framed::TooLarge(_) => unreachable!(),
+        Framed::Short => unreachable!(),
+    }
+}
+
+// Puts the text of an entry, which led to the market of a session, into an empty buffer, under its number in its journal.
+fn tell(session: &Session, pair: &[u8], number: u64, text: &mut Vec<u8>) -> Result<(), Memory>
+    requires led { LedTo session.now pair.now }
+    requires empty { text.old.items ≡ [] }
+    ensures told { OnOk result ((entry : Pair Record Outcome) → IsPair entry → pair.now ≡ pair_encoding entry → IsReport session.now number (records_of entry) text.new.items) }
+    ensures room { vec_capacity text.old ≤ vec_capacity text.new }
+{
+    match next_pair(pair) {
+        PairFramed::Whole(entry, _) => report_entry(session.market(), &entry, number, text),
+        PairFramed::End => unreachable!(),
+        PairFramed::Broken => unreachable!(),
+    }
+}
+
+// Answers lines: keeps the entries of their commands, and numbers lines and entries. One buffer each is used for all records and texts.
+#[derive(Drop)]
+pub(crate) struct Desk {
+    pub(crate) alloc: Global,
+    pub(crate) writer: Writer,
+    // How many lines were answered.
+    pub(crate) lines: u64,
+    // How many entries the disk keeps.
+    pub(crate) entries: u64,
+    pub(crate) record: Vec<u8>,
+    pub(crate) text: Vec<u8>,
+}
+
+impl Desk {
+    ghost use Rattle.journal_disk.specs.Pairs.{RecordPair};
+    ghost use Rattle.journal_disk.specs.Entries.{Head, Keeps};
+    ghost use Rattle.journal_disk.specs.Lengths.{ReachesAtMost};
+    ghost use Rattle.input_lines.specs.Long.{most_line};
+    ghost use Rattle.line_keeping.specs.Private.{IsReadyFor, IsServed, AnswersCommand, BreaksCommand, AnswersCommands, BreaksCommands, AnswersLine, BreaksLine, Refuses};
+
+    // Serves a command, and gets its entry and the entry's text ready. If memory runs out, the market may be past what is kept.
+    fn serve(&mut self, command: &Command) -> Result<(), Memory>
+        requires short { HasShortRow (command_in command.now) }
+        requires next { self.old.writer.session.next_order + 1 < 2 ^ 64 }
+        requires few { self.old.entries + 1 < 2 ^ 64 }
+        ensures served { OnOk result ((pair : Pair Record Outcome) × IsServed (command_in command.now) self.old.writer.session pair self.new.writer.session
+            × (self.new.writer.pair.items ≡ pair_encoding pair) × IsReport self.new.writer.session (self.old.entries + 1) (records_of pair) self.new.text.items) }
+        ensures appender { self.new.writer.appender ≡ self.old.writer.appender }
+        ensures entries { self.new.entries ≡ self.old.entries }
+        ensures lines { self.new.lines ≡ self.old.lines }
+        ensures room { vec_capacity self.old.text ≤ vec_capacity self.new.text }
+    {
+        // Called for its contract: the market is consistent.
+        let _market = self.writer.session.market();
+        self.record.clear();
+        self.writer.pair.clear();
+        self.text.clear();
+        match write_command(command, &mut self.record) {
+            Ok(()) => {}
+            Err(memory) => return Err(memory),
+        }
+        match serve_record(
+            &mut self.writer.session,
+            &self.record,
+            &mut self.writer.pair,
+        ) {
+            Ok(()) => {}
+            Err(memory) => return Err(memory),
+        }
+        tell(
+            &self.writer.session,
+            &self.writer.pair,
+            self.entries + 1,
+            &mut self.text,
+        )
+    }
+
+    // Serves a command, keeps its entry, and then writes the entry's text.
+    fn answer_command<D: Disk, K: Sink>(
+        &mut self,
+        command: &Command,
+        disk: &mut D,
+        out: &mut K,
+    ) -> Result<(), KeepFault>
+        requires short { HasShortRow (command_in command.now) }
+        requires ready { IsReadyFor self.old.writer.session self.old.entries self.old.writer.appender 0 }
+        requires kept { IfSome (D.state disk.old).content
+            (λ _. (head : Head) × (pairs : List RecordPair) × Keeps head pairs self.old.writer.appender (D.state disk.old)) }
+        ensures answers { OnOk result (AnswersCommand (command_in command.now) self.old.writer.session self.new.writer.session self.old.entries
+            self.old.writer.appender self.new.writer.appender (D.state disk.old) (D.state disk.new)
+            (output K.held K.calls K.faults out.old) (output K.held K.calls K.faults out.new)) }
+        ensures counted { OnOk result (self.new.entries ≡ self.old.entries + 1) }
+        ensures orders { OnOk result (self.new.writer.session.next_order ≤ self.old.writer.session.next_order + 1) }
+        ensures lines { self.new.lines ≡ self.old.lines }
+        ensures room { vec_capacity self.old.text ≤ vec_capacity self.new.text }
+        ensures lengths { ReachesAtMost (self.old.writer.appender + 263184) (D.state disk.old) (D.state disk.new) }
+        ensures broken { IfErr result (BreaksCommand (command_in command.now) self.old.writer.session self.old.entries self.old.writer.appender self.new.writer.appender
+            (D.state disk.old) (D.state disk.new) (output K.held K.calls K.faults out.old) (output K.held K.calls K.faults out.new) (disk.new ≡ disk.old)) }
+        ensures disk_cause { Blames (result ≡ Err KeepFault.Disk) (D.state disk.old).faults (D.state disk.new).faults }
+        ensures out_cause { Blames (result ≡ Err KeepFault.Write) (K.faults out.old) (K.faults out.new) }
+    {
+        match self.serve(command) {
+            Ok(()) => {}
+            Err(_) => return Err(KeepFault::Memory),
+        }
+        match self.writer.appender.append(disk, &self.writer.pair) {
+            Ok(()) => {}
+            Err(_) => return Err(KeepFault::Disk),
+        }
+        self.entries += 1;
+        match out.write(&self.text) {
+            Ok(()) => Ok(()),
+            Err(_) => Err(KeepFault::Write),
+        }
+    }
+
+    // Answers the commands of a line, one after the other.
+    fn answer_commands<D: Disk, K: Sink>(
+        &mut self,
+        commands: &[Command],
+        disk: &mut D,
+        out: &mut K,
+    ) -> Result<(), KeepFault>
+        requires short { All (λ command. HasShortRow (command_in command)) commands.now }
+        requires ready { IsReadyFor self.old.writer.session self.old.entries self.old.writer.appender (length commands.now) }
+        requires kept { IfSome (D.state disk.old).content
+            (λ _. (head : Head) × (pairs : List RecordPair) × Keeps head pairs self.old.writer.appender (D.state disk.old)) }
+        ensures answers { OnOk result (AnswersCommands (map command_in commands.now) self.old.writer.session self.new.writer.session self.old.entries self.new.entries
+            self.old.writer.appender self.new.writer.appender (D.state disk.old) (D.state disk.new)
+            (output K.held K.calls K.faults out.old) (output K.held K.calls K.faults out.new)) }
+        ensures lines { self.new.lines ≡ self.old.lines }
+        ensures room { vec_capacity self.old.text ≤ vec_capacity self.new.text }
+        ensures lengths { ReachesAtMost (self.old.writer.appender + (263183 * length commands.now + 1)) (D.state disk.old) (D.state disk.new) }
+        ensures broken { IfErr result (BreaksCommands (map command_in commands.now) self.old.writer.session self.old.entries self.old.writer.appender
+            (D.state disk.old) (D.state disk.new) (output K.held K.calls K.faults out.old) (output K.held K.calls K.faults out.new)) }
+        ensures disk_cause { Blames (result ≡ Err KeepFault.Disk) (D.state disk.old).faults (D.state disk.new).faults }
+        ensures out_cause { Blames (result ≡ Err KeepFault.Write) (K.faults out.old) (K.faults out.new) }
+    {
+        for command in commands {
+            match self.answer_command(command, disk, out) {
+                Ok(()) => {}
+                Err(fault) => return Err(fault),
+            }
+        }
+        Ok(())
+    }
+
+    // Answers that the line that was counted last is no command.
+    fn refuse<K: Sink>(&mut self, out: &mut K) -> Result<(), KeepFault>
+        requires room { 64 ≤ vec_capacity self.old.text }
+        ensures refuses { Refuses self.old.lines result (output K.held K.calls K.faults out.old) (output K.held K.calls K.faults out.new) }
+        ensures same { (self.new.writer ≡ self.old.writer) × (self.new.lines ≡ self.old.lines) × (self.new.entries ≡ self.old.entries) }
+        ensures room { 64 ≤ vec_capacity self.new.text }
+        ensures out_cause { Blames (result ≡ Err KeepFault.Write) (K.faults out.old) (K.faults out.new) }
+    {
+        self.text.clear();
+        put_number(&mut self.text, b"line ", self.lines, b" is no command\n");
+        match out.write(&self.text) {
+            Ok(()) => Ok(()),
+            Err(_) => Err(KeepFault::Write),
+        }
+    }
+
+    // Answers a line that is too long.
+    pub(crate) fn answer_long<K: Sink>(&mut self, out: &mut K) -> Result<(), KeepFault>
+        requires few { self.old.lines + 1 < 2 ^ 64 }
+        requires room { 64 ≤ vec_capacity self.old.text }
+        ensures refuses { Refuses (self.old.lines + 1) result (output K.held K.calls K.faults out.old) (output K.held K.calls K.faults out.new) }
+        ensures same { (self.new.writer ≡ self.old.writer) × (self.new.lines ≡ self.old.lines + 1) × (self.new.entries ≡ self.old.entries) }
+        ensures room { 64 ≤ vec_capacity self.new.text }
+        ensures out_cause { Blames (result ≡ Err KeepFault.Write) (K.faults out.old) (K.faults out.new) }
+    {
+        self.lines += 1;
+        self.refuse(out)
+    }
+
+    // Answers a line that isn't too long.
+    pub(crate) fn answer_line<D: Disk, K: Sink>(
+        &mut self,
+        line: &[u8],
+        disk: &mut D,
+        out: &mut K,
+    ) -> Result<(), KeepFault>
+        requires short { length line.now ≤ most_line }
+        requires few { self.old.lines + 1 < 2 ^ 64 }
+        requires room { 64 ≤ vec_capacity self.old.text }
+        requires ready { IsReadyFor self.old.writer.session self.old.entries self.old.writer.appender (32 * length line.now) }
+        requires kept { IfSome (D.state disk.old).content
+            (λ _. (head : Head) × (pairs : List RecordPair) × Keeps head pairs self.old.writer.appender (D.state disk.old)) }
+        ensures answers { OnOk result (AnswersLine (self.old.lines + 1) line.now self.old.writer.session self.new.writer.session self.old.entries self.new.entries
+            self.old.writer.appender self.new.writer.appender (D.state disk.old) (D.state disk.new)
+            (output K.held K.calls K.faults out.old) (output K.held K.calls K.faults out.new)) }
+        ensures counted { OnOk result (self.new.lines ≡ self.old.lines + 1) }
+        ensures room { 64 ≤ vec_capacity self.new.text }
+        ensures lengths { ReachesAtMost (self.old.writer.appender + (263183 * (32 * length line.now) + 1)) (D.state disk.old) (D.state disk.new) }
+        ensures broken { IfErr result (BreaksLine (self.old.lines + 1) line.now self.old.writer.session self.old.entries self.old.writer.appender
+            (D.state disk.old) (D.state disk.new) (output K.held K.calls K.faults out.old) (output K.held K.calls K.faults out.new)) }
+        ensures disk_cause { Blames (result ≡ Err KeepFault.Disk) (D.state disk.old).faults (D.state disk.new).faults }
+        ensures out_cause { Blames (result ≡ Err KeepFault.Write) (K.faults out.old) (K.faults out.new) }
+    {
+        self.lines += 1;
+        let market = self.writer.session.market();
+        match ask_line(self.alloc, line, market.version(), market.tickers()) {
+            Ok(LineRead::Blank) => Ok(()),
+            Ok(LineRead::Asks(command)) => self.answer_command(&command, disk, out),
+            Ok(LineRead::Many(commands)) => self.answer_commands(commands.as_slice(), disk, out),
+            Err(LineFault::NoCommand) => self.refuse(out),
+            Err(LineFault::Memory) => Err(KeepFault::Memory),
+        }
+    }
+}
