@@ -82,7 +82,7 @@ def order_bytes(order):
     return struct.pack(TERMS, *terms, len(row)) + b"".join(struct.pack(ENTRY, *entry) for entry in row)
 
 
-def spelled(kept):
+def checkpoint_bytes(kept):
     """The bytes of a market, consistent or not, whose numbers fit their fields."""
     parts = [MAGIC, struct.pack(">BH", kept.version, len(kept.tickers)), *kept.tickers, struct.pack(">I", len(kept.accounts))]
     parts += map(account_bytes, kept.accounts)

@@ -36,22 +36,22 @@ class Object(tuple):
     """The members of an object, each a key and a value, with those of doubled keys."""
 
 
-def fraction(spelling):
+def fraction(digits):
     """A number that isn't whole by its form. One that no float of 64 bits reaches is none at all."""
-    if math.isinf(float(spelling)):
-        raise ValueError(f"the number {spelling} is too large")
-    return float(spelling)
+    if math.isinf(float(digits)):
+        raise ValueError(f"the number {digits} is too large")
+    return float(digits)
 
 
-def whole(spelling):
+def whole(digits):
     """A number without fraction and exponent. If it needs more than 64 bits, or is -0, it isn't whole."""
-    if spelling != "-0" and len(spelling) <= 20 and -(1 << 63) <= int(spelling) < 1 << 64:
-        return int(spelling)
-    return fraction(spelling)
+    if digits != "-0" and len(digits) <= 20 and -(1 << 63) <= int(digits) < 1 << 64:
+        return int(digits)
+    return fraction(digits)
 
 
-def constant(spelling):
-    raise ValueError(f"{spelling} is no JSON")
+def constant(digits):
+    raise ValueError(f"{digits} is no JSON")
 
 
 READER = json.JSONDecoder(object_pairs_hook=Object, parse_float=fraction, parse_int=whole, parse_constant=constant)
@@ -101,8 +101,8 @@ def row(weights, tickers):
         if asset in entries:
             raise ValueError(f"{name} is there twice")
         entries[asset] = number("i", weight)
-    spelled = (number("H", asset) + entries[asset] for asset in sorted(entries))
-    return number("B", len(entries)) + b"".join(spelled)
+    legs = (number("H", asset) + entries[asset] for asset in sorted(entries))
+    return number("B", len(entries)) + b"".join(legs)
 
 
 def field(form, value, tickers):
@@ -136,9 +136,9 @@ def orders_of(points, turns):
 
 def ladder(asked, tickers):
     """The records of a ladder's orders."""
-    account, spelled = number("I", asked["account"]), row(asked["weights"], tickers)
+    account, legs = number("I", asked["account"]), row(asked["weights"], tickers)
     orders = orders_of(asked["points"], asked["turns"])
-    return b"".join(record(7, account + struct.pack(">qqIQ", *order) + spelled) for order in orders)
+    return b"".join(record(7, account + struct.pack(">qqIQ", *order) + legs) for order in orders)
 
 
 def add(ticker, tickers):

@@ -47,8 +47,8 @@ def is_new(front):
 
 def first_checkpoint(file, version):
     """The checkpoint in the first entry of an open file, which is behind the magic, or no bytes if no entry of the file has one."""
-    gate, length, front = file.read(1), int.from_bytes(file.read(4), "big"), file.read(len(checkpoint_file.MAGIC))
-    if gate != OPEN or front != checkpoint_file.MAGIC:
+    commit, length, front = file.read(1), int.from_bytes(file.read(4), "big"), file.read(len(checkpoint_file.MAGIC))
+    if commit != OPEN or front != checkpoint_file.MAGIC:
         file.seek(len(MAGIC))
         return b""
     held = front + file.read(max(0, length - len(front)))
@@ -76,10 +76,10 @@ def kept_pairs(file):
         return
     place = file.tell()
     while True:
-        gate = file.read(1)
-        if not gate:
+        commit = file.read(1)
+        if not commit:
             raise Damaged(place)
-        if gate != OPEN:
+        if commit != OPEN:
             return
         length = int.from_bytes(file.read(4), "big")
         pair = file.read(length) if length <= LONGEST else b""

@@ -81,20 +81,20 @@ def text(value):
     return '"' + "".join(letters) + '"'
 
 
-def spelled(value):
+def json_text(value):
     if isinstance(value, dict):
-        members = [f"{space()}{text(key)}{space()}:{space()}{spelled(value[key])}{space()}" for key in value]
+        members = [f"{space()}{text(key)}{space()}:{space()}{json_text(value[key])}{space()}" for key in value]
         random.shuffle(members)
         if members and random.random() < 0.2:
             members.insert(0, f"{text(random.choice(list(value)))}:{random.choice(FIRST_VALUES)}")
         return "{" + ",".join(members) + "}"
     if isinstance(value, list):
-        return "[" + ",".join(f"{space()}{spelled(each)}{space()}" for each in value) + "]"
+        return "[" + ",".join(f"{space()}{json_text(each)}{space()}" for each in value) + "]"
     return text(value) if isinstance(value, str) else str(value)
 
 
 def line(asked):
-    return f"{space()}{spelled(asked)}{space()}".encode("utf-8")
+    return f"{space()}{json_text(asked)}{space()}".encode("utf-8")
 
 
 def commands(count):
@@ -109,13 +109,13 @@ def commands(count):
 
 def with_fault(asked):
     """A line in which a byte is lost, one is put in, one is another, a part comes twice, or a value is another."""
-    spelling, kind = line(asked), random.randrange(5)
-    first, last = sorted(random.choices(range(len(spelling)), k=2))
+    original, kind = line(asked), random.randrange(5)
+    first, last = sorted(random.choices(range(len(original)), k=2))
     if kind == 4:
         changed = {**asked, random.choice(list(asked)): "VALUE"}
         return json.dumps(changed).replace('"VALUE"', random.choice(VALUES), 1).encode("utf-8")
-    piece = [b"", bytes([random.choice(PIECES)]), bytes([random.choice(PIECES)]), spelling[first:last]][kind]
-    return spelling[:first] + piece + spelling[first + (kind in (0, 2)):]
+    piece = [b"", bytes([random.choice(PIECES)]), bytes([random.choice(PIECES)]), original[first:last]][kind]
+    return original[:first] + piece + original[first + (kind in (0, 2)):]
 
 
 def with_faults(count):

@@ -1,4 +1,5 @@
 """The text of a valid journal, or of the entries of a day, by the formats alone. The samples are made with it, and compared."""
+import re
 import struct
 
 from formats import ACCOUNT, ASSET, CLEARED, DONE, MONEY, ORDER, SKIPPED, UNITS, name_of, records, signed, terms_of
@@ -87,3 +88,9 @@ def legal_line(journal):
     """The line that an audit writes of a valid journal that is complete."""
     replies = [tag for tag, _ in records(journal)[1::2]]
     return b"legal: %d pairs, %d cleared, %d skipped\n" % (len(replies), replies.count(CLEARED), replies.count(SKIPPED))
+
+
+def texts_in(report):
+    """The text of each entry. Its first line begins with the entry's number, and no other line with a digit."""
+    texts = re.split(rb"(?m)^(?=\d)", report)
+    return [text for text in texts if text]
