@@ -6,3 +6,4 @@ pub mod FirstBytes
 pub mod Prefixes
 mod Copying
 mod Written
+pub mod TickersLeft

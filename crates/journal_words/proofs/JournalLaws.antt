@@ -35,7 +35,7 @@ use Rattle.journal_words.specs.Watching.{Watch, Watched, SeesOne, StopsOne, over
 use Rattle.journal_words.specs.Words.{Counts, CountsOne, counting, explaining, telling, audit, explain, report}
 use Rattle.journal_words.specs.Private.{HasRoom}
 use Rattle.journal_words.proofs.LongestPair.{longest}
-use Rattle.journal_words.proofs.SomeText.{some_text}
+use Rattle.batch_report.proofs.SomeText.{some_text}
 
 -- The entry determines what is watched: what is seen, the reason and the text if it is invalid, and the text at the end.
 pub record IsExactWatch {S B : Type 0} (watch : Watch S B) : Type 0 where

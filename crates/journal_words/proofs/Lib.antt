@@ -1,3 +1,2 @@
 mod LongestPair
-mod SomeText
 pub mod JournalLaws

@@ -13,7 +13,7 @@ use Rattle.order_text.specs.Lines.{Asked, commands_of, LineAsks, Leave}
 use Rattle.order_text.proofs.OneAnswers.{one_saying}
 use Rattle.line_keeping.specs.Answers.{AreAnswered}
 use Rattle.line_keeping.proofs.Joining.{Pairs, Texts}
-use Rattle.line_keeping.proofs.TickersLeft.{served_tickers, step_tickers}
+use Rattle.encode_word.proofs.TickersLeft.{served_tickers, step_tickers}
 
 -- commands leave some tickers
 leaves_some : (m : Market) (commands : List Command) → (after : Texts) × Leave m.tickers commands after

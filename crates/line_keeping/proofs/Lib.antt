@@ -15,8 +15,6 @@ pub mod KeptBegun
 pub mod NewBegun
 pub mod Shown
 pub mod Whole
-pub mod TickersLeft
-pub mod SomeText
 pub mod Asking
 pub mod OneInput
 pub mod OneAnswer

@@ -26,7 +26,7 @@ use Rattle.line_keeping.specs.Answers.{no_command_text, AsksIn, AreAnswered, IsL
 use Rattle.line_keeping.specs.Laws.{SomeAnswer}
 use Rattle.line_keeping.proofs.Joining.{Pairs, Texts}
 use Rattle.line_keeping.proofs.Lines.{ladder_few}
-use Rattle.line_keeping.proofs.SomeText.{some_text}
+use Rattle.batch_report.proofs.SomeText.{some_text}
 
 -- what was answered somehow: by entries that fit, which lead to a consistent market and number no more orders than these
 record Found (old : Market) (most : ℕ) (Are : Pairs → Texts → Market → Type 0) : Type 0 where

@@ -25,15 +25,15 @@ use wire_records::{Command, Framed, MOST_BODY, Memory, next_record, write_comman
 use word_driver::put_number;
 
 // Serves a record, and puts its entry into an empty buffer.
-fn serve_record(session: &mut Session, record: &[u8], pair: &mut Vec<u8>) -> Result<(), Memory>
-    requires record { (asked : Record) × IsRecord most_body asked × (record.now ≡ encoding asked) }
+fn serve_record(session: &mut Session, bytes: &[u8], pair: &mut Vec<u8>) -> Result<(), Memory>
+    requires whole { (asked : Record) × IsRecord most_body asked × (bytes.now ≡ encoding asked) }
     requires next { session.old.next_order + 1 < 2 ^ 64 }
     requires empty { pair.old.items ≡ [] }
-    ensures served { OnOk result ((asked : Record) → IsRecord most_body asked → record.now ≡ encoding asked →
+    ensures served { OnOk result ((asked : Record) → IsRecord most_body asked → bytes.now ≡ encoding asked →
         AnswersRecord session.old asked session.new pair.new.items) }
     ensures room { vec_capacity pair.old ≤ vec_capacity pair.new }
 {
-    match next_record(record, MOST_BODY) {
+    match next_record(bytes, MOST_BODY) {
         Framed::Whole(asked, _) => session.serve(&asked, pair),
         Framed::End => unreachable!(),
         Framed::TooLarge(_) => unreachable!(),

@@ -8,19 +8,19 @@ use Rattle.line_keeping.proofs.answering.serve_record.Goals as goal
 
 pub unreachable-requires : goal.unreachable-requires
 unreachable-requires c =
-    let e = sym c.in-End.is ∙ framed_as c.requires.record.0 c.args.record.now c.next_record.result c.requires.record.1 c.requires.record.2 c.next_record.ensures in
+    let e = sym c.in-End.is ∙ framed_as c.requires.whole.0 c.args.bytes.now c.next_record.result c.requires.whole.1 c.requires.whole.2 c.next_record.ensures in
     cc
 
 pub unreachable-requires-in-TooLarge : goal.unreachable-requires-in-TooLarge
 unreachable-requires-in-TooLarge c =
-    let e = sym c.in-TooLarge.is ∙ framed_as c.requires.record.0 c.args.record.now c.next_record.result c.requires.record.1 c.requires.record.2 c.next_record.ensures in
+    let e = sym c.in-TooLarge.is ∙ framed_as c.requires.whole.0 c.args.bytes.now c.next_record.result c.requires.whole.1 c.requires.whole.2 c.next_record.ensures in
     cc
 
 pub returns-clause-served : goal.returns-clause-served
 returns-clause-served c =
     on_ok c.serve.result _ _
     (λ served. λ asked lawful is.
-    let whole = framed_as asked c.args.record.now c.next_record.result lawful is c.next_record.ensures in
+    let whole = framed_as asked c.args.bytes.now c.next_record.result lawful is c.next_record.ensures in
     let same : c.in-Whole.asked ≡ asked = framed_once c.in-Whole.asked asked _ _ (sym c.in-Whole.is ∙ whole) in
     subst (λ (r : Record). AnswersRecord c.args.session.now r c.serve.new.self c.serve.new.out.items) same
     (answers_record c.args.session.now c.in-Whole.asked c.serve.new.self c.serve.new.out.items c.requires.next

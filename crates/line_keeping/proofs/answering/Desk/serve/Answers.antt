@@ -6,8 +6,8 @@ use Rattle.wire_records.proofs.Readings.{command_short}
 use Rattle.line_keeping.proofs.Served.{on_ok}
 use Rattle.line_keeping.proofs.answering.Desk.serve.Goals as goal
 
-pub serve_record-requires-clause-record : goal.serve_record-requires-clause-record
-serve_record-requires-clause-record c = (
+pub serve_record-requires-clause-whole : goal.serve_record-requires-clause-whole
+serve_record-requires-clause-whole c = (
   record_of (command_in c.args.command.now),
   command_short (command_in c.args.command.now) c.in-Ok.ensures.fits c.requires.short,
   c.deref.ensures.value ∙ c.in-Ok.ensures.written ∙ ap (λ (l : List ℕ). l ++ encoding (record_of (command_in c.args.command.now))) c.clear.ensures.items,

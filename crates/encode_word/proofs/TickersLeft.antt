@@ -36,7 +36,7 @@ batch_tickers m (Cleared c) = refl
 batch_tickers m (Skipped s) = refl
 
 -- a market has the tickers of the market that it equals
-made_tickers : (new made : Market) → new ≡ made → new.tickers ≡ made.tickers
+pub made_tickers : (new made : Market) → new ≡ made → new.tickers ≡ made.tickers
 made_tickers new made is = ap (λ (m : Market). m.tickers) is
 
 -- a refused command leaves the tickers
