@@ -49,6 +49,35 @@ fn outcome(
     clear(alloc, search, orders, start, budget).ok()
 }
 
+// Returns whether this is a clearing with these prices, rates, imbalances and gap.
+fn is_cleared(found: &Outcome, expected: Cleared<'_>) -> bool {
+    let (prices, rates, residuals, gap) = expected;
+    match found {
+        Outcome::Cleared(cleared) => {
+            cleared.prices.as_slice() == prices
+                && cleared.rates.as_slice() == rates
+                && cleared.residuals.as_slice() == residuals
+                && cleared.gap == gap
+        }
+        Outcome::Skipped(_) => false,
+    }
+}
+
+// Returns whether these orders clear so from these start prices.
+fn clear_so(
+    alloc: Global,
+    search: Search,
+    orders: &[Order],
+    start: &[i64],
+    budget: u32,
+    expected: Cleared<'_>,
+) -> bool {
+    match outcome(alloc, search, orders, start, budget) {
+        Some(found) => is_cleared(&found, expected),
+        None => false,
+    }
+}
+
 // Returns whether all these orders can be placed, and clear so from these start prices.
 fn get(
     alloc: Global,
@@ -59,17 +88,9 @@ fn get(
     expected: Cleared<'_>,
 ) -> Result<bool, AllocError> {
     let orders = orders_of(alloc, placed)?;
-    let (prices, rates, residuals, gap) = expected;
-    let Some(Outcome::Cleared(cleared)) = outcome(alloc, search, orders.as_slice(), start, budget)
-    else {
-        return Ok(false);
-    };
     Ok(
         orders.len() == placed.len()
-            && cleared.prices.as_slice() == prices
-            && cleared.rates.as_slice() == rates
-            && cleared.residuals.as_slice() == residuals
-            && cleared.gap == gap,
+            && clear_so(alloc, search, orders.as_slice(), start, budget, expected),
     )
 }
 
@@ -178,7 +199,33 @@ const BASKETS: [Placed<'static>; 4] = [
     ((1, 2), (1, 1), 0, &[(0, 1)]),
 ];
 
-// Returns whether all these orders can be placed, and are skipped from prices of 0 with this trace and these dual values.
+// Returns whether this is a skip with this trace and these dual values.
+fn is_skipped(found: &Outcome, trace: &[u8], duals: (i128, i128)) -> bool {
+    match found {
+        Outcome::Cleared(_) => false,
+        Outcome::Skipped(skipped) => {
+            skipped.trace.as_slice() == trace
+                && skipped.start_dual == duals.0
+                && skipped.end_dual == duals.1
+        }
+    }
+}
+
+// Returns whether these orders are skipped so from prices of 0.
+fn skip_so(
+    alloc: Global,
+    orders: &[Order],
+    budget: u32,
+    trace: &[u8],
+    duals: (i128, i128),
+) -> bool {
+    match outcome(alloc, WALKS, orders, &[0, 0], budget) {
+        Some(found) => is_skipped(&found, trace, duals),
+        None => false,
+    }
+}
+
+// Returns whether all these orders can be placed, and are skipped so from prices of 0.
 fn skips(
     alloc: Global,
     placed: &[Placed<'_>],
@@ -187,16 +234,7 @@ fn skips(
     duals: (i128, i128),
 ) -> Result<bool, AllocError> {
     let orders = orders_of(alloc, placed)?;
-    let Some(Outcome::Skipped(skipped)) = outcome(alloc, WALKS, orders.as_slice(), &[0, 0], budget)
-    else {
-        return Ok(false);
-    };
-    Ok(
-        orders.len() == placed.len()
-            && skipped.trace.as_slice() == trace
-            && skipped.start_dual == duals.0
-            && skipped.end_dual == duals.1,
-    )
+    Ok(orders.len() == placed.len() && skip_so(alloc, orders.as_slice(), budget, trace, duals))
 }
 
 #[test]
