@@ -1,6 +1,7 @@
 -- Balances that are read number by number, and how the fields of an `Accounts` are made from them.
-use Rattle.std.specs.Prelude.{◌≡◌, ℕ, ◌+◌, ◌<◌, ◌≤◌, ℤ, pos, List, length, map, take, slice_index_or}
+use Rattle.std.specs.Prelude.{◌≡◌, ℕ, ℤ, List, length, map, take}
 use Rattle.std.specs.List.{All}
+use Rattle.flow_accounts.specs.declared.CreditLine.{CreditLine}
 use Rattle.flow_accounts.specs.declared.Holding.{Holding}
 use Rattle.flow_accounts.specs.Balances.{Account, Credit, Balances, account_count, asset_count, account_of, credit_of}
 use Rattle.flow_accounts.specs.Places.{account_in, credit_line_in, HasSpare, HasSpareCredit}
@@ -24,13 +25,19 @@ pub record AreCreditPlacesOf (count : ℕ) (units places : List ℕ) : Type 0 wh
 -- what the fields hold of one account
 pub record IsHoldingOf (b : Balances) (account : ℕ) (h : Holding) : Type 0 where
   pub held : account_in (asset_count b) h ≡ account_of b account
-  pub credit : credit_line_in (asset_count b) h ≡ credit_of b account
   pub spare : HasSpare (asset_count b) h.units
-  pub spare_credit : HasSpareCredit (asset_count b) h.unit_credits
+
+-- what the fields have of the credits of one account
+pub record IsCreditLineOf (b : Balances) (account : ℕ) (l : CreditLine) : Type 0 where
+  pub credit : credit_line_in (asset_count b) l ≡ credit_of b account
+  pub spare : HasSpareCredit (asset_count b) l.units
 
 -- what the fields hold of the first `count` accounts, in their order
 pub record AreHoldingsOf (b : Balances) (count : ℕ) (holdings : List Holding) : Type 0 where
   pub accounts : map (account_in (asset_count b)) holdings ≡ take count b.accounts
-  pub credits : map (credit_line_in (asset_count b)) holdings ≡ take count b.credits
   pub spare : All (λ (h : Holding). HasSpare (asset_count b) h.units) holdings
-  pub spare_credits : All (λ (h : Holding). HasSpareCredit (asset_count b) h.unit_credits) holdings
+
+-- what the fields have of the credits of the first `count` accounts, in their order
+pub record AreCreditLinesOf (b : Balances) (count : ℕ) (lines : List CreditLine) : Type 0 where
+  pub credits : map (credit_line_in (asset_count b)) lines ≡ take count b.credits
+  pub spare : All (λ (l : CreditLine). HasSpareCredit (asset_count b) l.units) lines

@@ -2,6 +2,7 @@
 -- that there may be. As many places as there are assets are in use, and the others are 0.
 use Rattle.std.specs.Prelude.{◌≡◌, ℕ, ◌≤◌, ℤ, pos, List, length, map, take, slice_index_or}
 use Rattle.std.specs.List.{All}
+use Rattle.flow_accounts.specs.declared.CreditLine.{CreditLine}
 use Rattle.flow_accounts.specs.declared.Holding.{Holding}
 use Rattle.flow_accounts.specs.declared.Accounts.TheInside.{Inside}
 use Rattle.flow_accounts.specs.Balances.{Account, Credit, Balances}
@@ -12,14 +13,14 @@ abbrev pub account_in : ℕ → Holding → Account
 account_in assets h = record { money = h.money; units = take assets h.units }
 
 -- the credit line of an account, whose first places for unit credits are in use
-abbrev pub credit_line_in : ℕ → Holding → Credit
-credit_line_in assets h = record { ticks = h.money_credit; units = take assets h.unit_credits }
+abbrev pub credit_line_in : ℕ → CreditLine → Credit
+credit_line_in assets l = record { ticks = l.money; units = take assets l.units }
 
 -- the balances that the fields represent
 abbrev pub balances_in : Inside → Balances
 balances_in a = record {
   accounts = map (account_in a.assets) a.accounts.items;
-  credits = map (credit_line_in a.assets) a.accounts.items;
+  credits = map (credit_line_in a.assets) a.credits.items;
   totals = record { money = a.total_money; units = take a.assets a.total_units };
 }
 
@@ -39,4 +40,4 @@ pub record AreKept (a : Inside) : Type 0 where
   pub few_assets : a.assets ≤ most_assets
   pub totals : HasSpare a.assets a.total_units
   pub accounts : All (λ h. HasSpare a.assets h.units) a.accounts.items
-  pub credits : All (λ h. HasSpareCredit a.assets h.unit_credits) a.accounts.items
+  pub credits : All (λ l. HasSpareCredit a.assets l.units) a.credits.items

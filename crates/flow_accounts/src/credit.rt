@@ -35,7 +35,7 @@ impl Accounts {
         requires { IsAccount self.now account }
         ensures { result ≡ money_credit_of self.now account }
     {
-        self.accounts[account as usize - 1].money_credit
+        self.credits[account as usize - 1].money
     }
 
     fn unit_credit_held(&self, account: u32, asset: u16) -> u64
@@ -43,7 +43,7 @@ impl Accounts {
         requires asset { IsAsset self.now asset }
         ensures { result ≡ unit_credit_of self.now account asset }
     {
-        self.accounts[account as usize - 1].unit_credits[asset as usize]
+        self.credits[account as usize - 1].units[asset as usize]
     }
 
     /// Gives an account this credit in money, in place of the one that it had. `reserved` is what the account's orders
@@ -163,8 +163,8 @@ impl Accounts {
     {
         // Taken for its contract: the balance and the new credit cover what is reserved.
         let _reserved = reserved;
-        let holding = &mut self.accounts[account as usize - 1];
-        holding.money_credit = ticks;
+        let line = &mut self.credits[account as usize - 1];
+        line.money = ticks;
     }
 
     fn write_unit_credit(&mut self, account: u32, asset: u16, units: u64, reserved: i128)
@@ -175,7 +175,7 @@ impl Accounts {
     {
         // Taken for its contract: the balance and the new credit cover what is reserved.
         let _reserved = reserved;
-        let holding = &mut self.accounts[account as usize - 1];
-        holding.unit_credits[asset as usize] = units;
+        let line = &mut self.credits[account as usize - 1];
+        line.units[asset as usize] = units;
     }
 }

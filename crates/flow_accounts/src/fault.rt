@@ -1,7 +1,7 @@
 ghost use Rattle.std.specs.Prelude.{◌≡◌};
 ghost use Rattle.flow_accounts.specs.declared.fault.AccountFault.TheVariants.{Memory};
 
-use std::alloc::AllocFailed;
+use std::alloc::AllocError;
 
 /// Why a call on accounts refuses. A refused call changes nothing.
 #[derive(Clone, Copy, Debug, PartialEq, Eq)]
@@ -27,10 +27,10 @@ pub enum AccountFault {
     Memory,
 }
 
-impl<T: Drop> From<AllocFailed<T>> for AccountFault {
+impl From<AllocError> for AccountFault {
     ghost from_gives = { λ _ fault. fault ≡ Memory };
 
-    fn from(_failed: AllocFailed<T>) -> AccountFault {
+    fn from(_failed: AllocError) -> AccountFault {
         AccountFault::Memory
     }
 }

@@ -1,7 +1,7 @@
 ghost use Rattle.std.specs.Prelude.{◌≡◌, ◌+◌, ◌<◌, ◌↔◌, IsTrue, IfOk, IfErr, OnOk, OnErr};
 
 use crate::places::{no_credits, no_units};
-use crate::{AccountFault, Accounts, Holding, MOST_ACCOUNTS};
+use crate::{AccountFault, Accounts, CreditLine, Holding, MOST_ACCOUNTS};
 
 impl Accounts {
     ghost use Rattle.flow_accounts.specs.Balances.{account_count, asset_count, add_asset, open_account};
@@ -35,12 +35,16 @@ impl Accounts {
         if self.is_full() {
             return Err(AccountFault::Full);
         }
-        self.accounts.push(Holding {
+        self.accounts.reserve(1)?;
+        self.credits.reserve(1)?;
+        self.accounts.push_reserved(Holding {
             money: 0,
             units: no_units(),
-            money_credit: 0,
-            unit_credits: no_credits(),
-        })?;
+        });
+        self.credits.push_reserved(CreditLine {
+            money: 0,
+            units: no_credits(),
+        });
         Ok(count + 1)
     }
 

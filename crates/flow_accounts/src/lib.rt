@@ -21,9 +21,10 @@
 //! # Costs
 //!
 //! Every call takes the same time however many accounts and assets there are, except that opening an
-//! account sometimes moves all of them to a larger block. An account takes 1,056 bytes, which include
-//! the places for all 64 assets. The block doubles as it grows, so it has up to twice the bytes
-//! of its accounts, and 66 MiB for 65,536 of them; while it is moved, the smaller one is there too.
+//! account sometimes moves all of them to larger blocks. An account takes 1,048 bytes, which include
+//! the places for all 64 assets: 528 for its balances in one block, and 520 for its credits in another.
+//! A block doubles as it grows, so it has up to twice the bytes of its accounts, and both have 66 MiB for 65,536
+//! of them; while a block is moved, the smaller one is there too.
 //! Only [`Accounts::add_account`] and [`Accounts::restore`] allocate.
 //!
 //! [`Accounts::restore`] makes accounts with all their balances at once, read through [`AccountParts`].
@@ -68,17 +69,25 @@ pub const MONEY_LIMIT: i128 = 1 << 100;
 /// The limit of the total of an asset, in units: no deposit takes it above this.
 pub const UNIT_LIMIT: i128 = 1 << 60;
 
-// What an account holds, in grains and in units, and its credits, in whole ticks and in units. As many places for units
-// and for unit credits are in use as there are assets; the others are 0.
+// What an account holds, in grains and in units. As many places for units are in use as there are assets; the others
+// are 0.
 #[derive(Clone, Copy)]
 struct Holding {
     money: i128,
     units: [i64; PLACES],
-    money_credit: u64,
-    unit_credits: [u64; PLACES],
 }
 
-const _: () = prove!(size_of::<Holding>() == 1056);
+// The credits of an account, in whole ticks and in units, apart from its balances, since most commands need only those.
+// As many places for units are in use as there are assets; the others are 0.
+#[derive(Clone, Copy)]
+struct CreditLine {
+    money: u64,
+    units: [u64; PLACES],
+}
+
+const _: () = prove!(size_of::<Holding>() == 528);
+
+const _: () = prove!(size_of::<CreditLine>() == 520);
 
 /// All accounts with their balances, and the totals of deposits less withdrawals.
 ///
@@ -87,6 +96,7 @@ const _: () = prove!(size_of::<Holding>() == 1056);
 #[derive(Drop)]
 pub struct Accounts {
     accounts: Vec<Holding>,
+    credits: Vec<CreditLine>,
     assets: u16,
     total_money: i128,
     total_units: [i64; PLACES],
@@ -116,6 +126,7 @@ impl Accounts {
     {
         Accounts {
             accounts: Vec::new(alloc),
+            credits: Vec::new(alloc),
             assets: 0,
             total_money: 0,
             total_units: places::no_units(),

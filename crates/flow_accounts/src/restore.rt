@@ -2,10 +2,10 @@
 ghost use Rattle.std.specs.Prelude.{◌≡◌, IfOk};
 ghost use Rattle.flow_accounts.specs.Balances.{IsAccount, account_count, asset_count, account_of, credit_of};
 ghost use Rattle.flow_accounts.specs.Lawful.{AreLawful};
-ghost use Rattle.flow_accounts.specs.Parts.{IsHoldingOf, AreHoldingsOf, ArePlacesOf, AreCreditPlacesOf};
+ghost use Rattle.flow_accounts.specs.Parts.{IsHoldingOf, AreHoldingsOf, IsCreditLineOf, AreCreditLinesOf, ArePlacesOf, AreCreditPlacesOf};
 
 use crate::places::{no_credits, no_units};
-use crate::{AccountParts, Accounts, Holding, PLACES};
+use crate::{AccountParts, Accounts, CreditLine, Holding, PLACES};
 use out_of_memory::Memory;
 use std::alloc::{AllocError, Global};
 
@@ -13,15 +13,17 @@ impl Accounts {
     /// Makes accounts with all balances, credits and totals that are read from `parts`. These have to be within the limits,
     /// and no balance below minus its credit.
     ///
-    /// It reads each number once, and allocates once, 1,056 bytes for each account; `Memory` comes only if that allocation
-    /// fails.
+    /// It reads each number once, and allocates twice, together 1,048 bytes for each account; `Memory` comes only if one of
+    /// these allocations fails.
     pub fn restore<P: AccountParts>(alloc: Global, parts: &P) -> Result<Accounts, Memory>
         requires lawful { AreLawful (P.balances parts.now) }
         ensures restored { IfOk result (λ accounts. accounts ≡ P.balances parts.now) }
     {
         let accounts = holdings_of(alloc, parts)?;
+        let credits = credit_lines_of(alloc, parts)?;
         Ok(Accounts {
             accounts,
+            credits,
             assets: parts.asset_count(),
             total_money: parts.total_money(),
             total_units: totals_of(parts),
@@ -29,7 +31,7 @@ impl Accounts {
     }
 }
 
-// Reads what is kept of each account.
+// Reads what each account holds.
 fn holdings_of<P: AccountParts>(alloc: Global, parts: &P) -> Result<Vec<Holding>, AllocError>
     requires lawful { AreLawful (P.balances parts.now) }
     ensures { IfOk result (λ holdings.
@@ -43,7 +45,21 @@ fn holdings_of<P: AccountParts>(alloc: Global, parts: &P) -> Result<Vec<Holding>
     Ok(holdings)
 }
 
-// Reads what is kept of one account.
+// Reads the credits of each account.
+fn credit_lines_of<P: AccountParts>(alloc: Global, parts: &P) -> Result<Vec<CreditLine>, AllocError>
+    requires lawful { AreLawful (P.balances parts.now) }
+    ensures { IfOk result (λ lines.
+        AreCreditLinesOf (P.balances parts.now) (account_count (P.balances parts.now)) lines.items) }
+{
+    let count = parts.account_count();
+    let mut lines = Vec::with_capacity(alloc, count as usize)?;
+    for place in 0..count {
+        lines.push_reserved(credit_line_of(parts, place + 1));
+    }
+    Ok(lines)
+}
+
+// Reads what one account holds.
 fn holding_of<P: AccountParts>(parts: &P, account: u32) -> Holding
     requires lawful { AreLawful (P.balances parts.now) }
     requires account { IsAccount (P.balances parts.now) account }
@@ -52,8 +68,18 @@ fn holding_of<P: AccountParts>(parts: &P, account: u32) -> Holding
     Holding {
         money: parts.money(account).unwrap(),
         units: units_of(parts, account),
-        money_credit: parts.money_credit(account).unwrap(),
-        unit_credits: credits_of(parts, account),
+    }
+}
+
+// Reads the credits of one account.
+fn credit_line_of<P: AccountParts>(parts: &P, account: u32) -> CreditLine
+    requires lawful { AreLawful (P.balances parts.now) }
+    requires account { IsAccount (P.balances parts.now) account }
+    ensures { IsCreditLineOf (P.balances parts.now) account result }
+{
+    CreditLine {
+        money: parts.money_credit(account).unwrap(),
+        units: credits_of(parts, account),
     }
 }
 

@@ -5,7 +5,7 @@ ghost use Rattle.wire_records.specs.Commands.{Plain};
 ghost use Rattle.journal_records.specs.Replies.{answer_record, IsAnswer};
 ghost use Rattle.journal_records.specs.Pairs.{pair_encoding, plain_room};
 
-use wire_fields::{put_u8, put_u16, put_u32, put_u64};
+use wire_fields::{put_bytes, put_u8, put_u16, put_u32, put_u64};
 use wire_records::{MOST_RECORD, Memory, RecordView, Reply, put_head};
 
 // The number of bytes of the longest record of a plain reply.
@@ -28,16 +28,6 @@ pub fn reserve_plain(asked: &RecordView<'_>, out: &mut Vec<u8>) -> Result<(), Me
 {
     out.reserve(asked.bytes().len() + LONGEST_REPLY)?;
     Ok(())
-}
-
-// Appends the command record, by one copy.
-fn put_asked(asked: &RecordView<'_>, out: &mut Vec<u8>)
-    requires { vec_len out.old + plain_room asked.now ≤ vec_capacity out.old }
-    ensures written { out.new.items ≡ out.old.items ++ encoding asked.now }
-    ensures room { vec_len out.new + 13 ≤ vec_capacity out.new }
-    ensures capacity { vec_capacity out.old ≤ vec_capacity out.new }
-{
-    out.extend_from_slice(asked.bytes()).unwrap();
 }
 
 // Appends the record of a reply.
@@ -76,8 +66,8 @@ pub fn write_plain(asked: &RecordView<'_>, reply: &Reply, out: &mut Vec<u8>)
     ensures written { out.new.items
         ≡ out.old.items ++ pair_encoding (record { asked = asked.now; answer = Plain reply.now }) }
     ensures fits { IsAnswer (Plain reply.now) }
-    ensures capacity { vec_capacity out.old ≤ vec_capacity out.new }
+    ensures capacity { vec_capacity out.new ≡ vec_capacity out.old }
 {
-    put_asked(asked, out);
+    put_bytes(out, asked.bytes());
     put_reply(reply, out);
 }

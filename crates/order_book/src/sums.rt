@@ -44,6 +44,9 @@ impl NeedSums {
     pub(crate) fn get(&self, need: Need) -> u128
         ensures { result ≡ sum_in self.now.table need }
     {
+        if self.table.is_empty() {
+            return 0;
+        }
         self.table.get(&need).copied().unwrap_or(0)
     }
 

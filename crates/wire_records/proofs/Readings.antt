@@ -146,6 +146,13 @@ encoded r small tag order until len =
           ]
     ]
 
+-- a body of another length than its tag's is no command's
+pub bad_body : (r : Record) (tag size : ℕ) → r.tag ≡ tag → IsTag tag → tag ≢ 7 → tag ≢ 10 → size ≡ size_of tag → (length r.body ≡ size → ⊥) → IsTag r.tag × EncodesNone r
+bad_body r tag size is named order until size_is other = (
+  (omega arith, omega arith),
+  encodes_none r (λ e. order (sym is ∙ e)) (λ e. until (sym is ∙ e)) (λ e. other (e ∙ ap size_of is ∙ sym size_is)),
+)
+
 -- the order of the tag 7, if the body encodes a request
 pub order_encoded : (r : Record) (request : Request) → r.tag ≡ 7 → EncodesRequest r.body request → Encodes (Place None request) r
 unfolding body_encoding

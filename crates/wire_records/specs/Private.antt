@@ -1,5 +1,5 @@
 -- What the views of requests and of their legs are made of.
-use Rattle.std.specs.Prelude.{◌≡◌, ℕ, ◌+◌, ◌*◌, ◌++◌, List, [], ◌∷◌, length, All, None, Some}
+use Rattle.std.specs.Prelude.{◌≡◌, ◌⊎◌, ℕ, ◌+◌, ◌*◌, ◌++◌, List, [], ◌∷◌, length, All, None, Some}
 use Rattle.std.specs.List.{flat_map}
 use Rattle.std.specs.Int.{cast_signed, w32}
 use Rattle.wire_fields.specs.Numbers.{unsigned, signed, IsUnsigned, IsSigned}
@@ -53,6 +53,14 @@ pub record EncodesUntil (body : List ℕ) (last : ℕ) (request : Request) : Typ
 -- this body encodes no last batch with a request after it
 abbrev pub EncodesNoUntil : List ℕ → Type 0
 EncodesNoUntil body = (last : ℕ) (request : Request) → ¬ EncodesUntil body last request
+
+-- the tag of a command of an account and an amount of ticks, or an account and an order
+abbrev pub IsAccountTag : ℕ → Type 0
+IsAccountTag tag = (tag ≡ 3) ⊎ (tag ≡ 5) ⊎ (tag ≡ 8) ⊎ (tag ≡ 11)
+
+-- the tag of a command of an account, an asset and an amount of units
+abbrev pub IsAssetTag : ℕ → Type 0
+IsAssetTag tag = (tag ≡ 4) ⊎ (tag ≡ 6) ⊎ (tag ≡ 12)
 
 -- the most bytes of the record of a command: exact for an order with this many legs, and 19 for any other command
 abbrev pub room_of : Command → ℕ

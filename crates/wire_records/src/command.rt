@@ -1,6 +1,9 @@
 //! Commands, and which of them a record encodes.
 ghost use Rattle.std.specs.Prelude.{◌≡◌, ◌≢◌, ◌<◌, ◌^◌, ◌++◌, length, IfSome, IfNone};
 ghost use Rattle.wire_fields.specs.Numbers.{unsigned};
+ghost use Rattle.wire_records.specs.CommandRecords.{IsRead};
+ghost use Rattle.wire_records.specs.Views.{reading};
+ghost use Rattle.wire_records.specs.Private.{IsAccountTag, IsAssetTag};
 
 use crate::place::{place_in, until_in};
 use crate::{PlaceView, RecordView};
@@ -196,10 +199,92 @@ fn batch_field(body: &[u8]) -> Option<u32>
     Some(budget)
 }
 
-impl<'a> RecordView<'a> {
-    ghost use Rattle.wire_records.specs.CommandRecords.{IsRead};
-    ghost use Rattle.wire_records.specs.Views.{reading};
+// The command of an account and an amount, or an order, that a record of this tag and body encodes.
+fn account_command<'a>(tag: u8, body: &[u8]) -> Result<CommandView<'a>, BodyFault>
+    requires { IsAccountTag tag }
+    ensures { IsRead (record { tag = tag; body = body.now }) (reading result) }
+{
+    match money_fields(body) {
+        Some((account, amount)) => match tag {
+            3 => Ok(CommandView::DepositMoney {
+                account,
+                ticks: amount,
+            }),
+            5 => Ok(CommandView::WithdrawMoney {
+                account,
+                ticks: amount,
+            }),
+            8 => Ok(CommandView::CancelOrder {
+                account,
+                order: amount,
+            }),
+            _ => Ok(CommandView::SetMoneyCredit {
+                account,
+                ticks: amount,
+            }),
+        },
+        None => Err(BodyFault::BadBody),
+    }
+}
 
+// The command of an account, an asset and an amount that a record of this tag and body encodes.
+fn asset_command<'a>(tag: u8, body: &[u8]) -> Result<CommandView<'a>, BodyFault>
+    requires { IsAssetTag tag }
+    ensures { IsRead (record { tag = tag; body = body.now }) (reading result) }
+{
+    match asset_fields(body) {
+        Some((account, asset, units)) => match tag {
+            4 => Ok(CommandView::DepositAsset {
+                account,
+                asset,
+                units,
+            }),
+            6 => Ok(CommandView::WithdrawAsset {
+                account,
+                asset,
+                units,
+            }),
+            _ => Ok(CommandView::SetUnitCredit {
+                account,
+                asset,
+                units,
+            }),
+        },
+        None => Err(BodyFault::BadBody),
+    }
+}
+
+// The order that a record of this body encodes.
+fn order_command(body: &[u8]) -> Result<CommandView<'_>, BodyFault>
+    ensures { IsRead (record { tag = 7; body = body.now }) (reading result) }
+{
+    match place_in(body) {
+        Some(place) => Ok(CommandView::PlaceOrder(place)),
+        None => Err(BodyFault::BadBody),
+    }
+}
+
+// The order with its last batch that a record of this body encodes.
+fn until_command(body: &[u8]) -> Result<CommandView<'_>, BodyFault>
+    ensures { IsRead (record { tag = 10; body = body.now }) (reading result) }
+{
+    match until_in(body) {
+        Some((last, place)) => Ok(CommandView::PlaceUntil { last, place }),
+        None => Err(BodyFault::BadBody),
+    }
+}
+
+// The batch that a record of this body encodes.
+fn batch_command<'a>(body: &[u8]) -> Result<CommandView<'a>, BodyFault>
+    ensures { IsRead (record { tag = 9; body = body.now }) (reading result) }
+{
+    match batch_field(body) {
+        Some(budget) => Ok(CommandView::RunBatch { budget }),
+        None => Err(BodyFault::BadBody),
+    }
+}
+
+impl<'a> RecordView<'a> {
     /// Returns the command that the record encodes, of any version, with its fields in the borrowed bytes. Constant cost.
     ///
     /// `UnknownTag` exactly if the tag is outside 1 to 12; `BadBody` exactly if it is 1 to 12 and no command of
@@ -212,58 +297,11 @@ impl<'a> RecordView<'a> {
         match self.tag() {
             1 if body.len() == 8 => Ok(CommandView::AddAsset(body)),
             2 if body.is_empty() => Ok(CommandView::OpenAccount),
-            3 => match money_fields(body) {
-                Some((account, ticks)) => Ok(CommandView::DepositMoney { account, ticks }),
-                None => Err(BodyFault::BadBody),
-            },
-            4 => match asset_fields(body) {
-                Some((account, asset, units)) => Ok(CommandView::DepositAsset {
-                    account,
-                    asset,
-                    units,
-                }),
-                None => Err(BodyFault::BadBody),
-            },
-            5 => match money_fields(body) {
-                Some((account, ticks)) => Ok(CommandView::WithdrawMoney { account, ticks }),
-                None => Err(BodyFault::BadBody),
-            },
-            6 => match asset_fields(body) {
-                Some((account, asset, units)) => Ok(CommandView::WithdrawAsset {
-                    account,
-                    asset,
-                    units,
-                }),
-                None => Err(BodyFault::BadBody),
-            },
-            7 => match place_in(body) {
-                Some(place) => Ok(CommandView::PlaceOrder(place)),
-                None => Err(BodyFault::BadBody),
-            },
-            8 => match money_fields(body) {
-                Some((account, order)) => Ok(CommandView::CancelOrder { account, order }),
-                None => Err(BodyFault::BadBody),
-            },
-            9 => match batch_field(body) {
-                Some(budget) => Ok(CommandView::RunBatch { budget }),
-                None => Err(BodyFault::BadBody),
-            },
-            10 => match until_in(body) {
-                Some((last, place)) => Ok(CommandView::PlaceUntil { last, place }),
-                None => Err(BodyFault::BadBody),
-            },
-            11 => match money_fields(body) {
-                Some((account, ticks)) => Ok(CommandView::SetMoneyCredit { account, ticks }),
-                None => Err(BodyFault::BadBody),
-            },
-            12 => match asset_fields(body) {
-                Some((account, asset, units)) => Ok(CommandView::SetUnitCredit {
-                    account,
-                    asset,
-                    units,
-                }),
-                None => Err(BodyFault::BadBody),
-            },
+            7 => order_command(body),
+            9 => batch_command(body),
+            10 => until_command(body),
+            tag @ (3 | 5 | 8 | 11) => account_command(tag, body),
+            tag @ (4 | 6 | 12) => asset_command(tag, body),
             1 | 2 => Err(BodyFault::BadBody),
             _ => Err(BodyFault::UnknownTag),
         }

@@ -10,4 +10,5 @@ unfolding pair_encoding
 returns-clause-written c =
     let asked = encoding c.args.asked.now in
     let answered = encoding (answer_record (Plain c.args.reply.now)) in
-    c.put_reply.ensures.written ∙ ap (λ xs. xs ++ answered) c.put_asked.ensures.written ∙ append_assoc c.args.out.now.items asked answered
+    let written : c.put_bytes.new.out.items ≡ c.args.out.now.items ++ asked = c.put_bytes.ensures.written ∙ ap (λ xs. c.args.out.now.items ++ xs) c.bytes.ensures in
+    c.put_reply.ensures.written ∙ ap (λ xs. xs ++ answered) written ∙ append_assoc c.args.out.now.items asked answered
