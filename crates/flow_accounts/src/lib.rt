@@ -23,8 +23,8 @@
 //! Every call takes the same time however many accounts and assets there are, except that opening an
 //! account sometimes moves all of them to larger blocks. An account takes 1,048 bytes, which include
 //! the places for all 64 assets: 528 for its balances in one block, and 520 for its credits in another.
-//! A block doubles as it grows, so it has up to twice the bytes of its accounts, and both have 66 MiB for 65,536
-//! of them; while a block is moved, the smaller one is there too.
+//! A block doubles as it grows, so it has up to twice the bytes of its accounts; 65,536 of them take 65.5 MiB
+//! in both. While a block is moved, the smaller one is there too.
 //! Only [`Accounts::add_account`] and [`Accounts::restore`] allocate.
 //!
 //! [`Accounts::restore`] makes accounts with all their balances at once, read through [`AccountParts`].

@@ -111,7 +111,7 @@ pub fn flow_limited<S: Source, K: Sink, N: Sink>(
 /// of `run`, `audit`, `explain`, `report`, `statement` and `checkpoint` is that of the market, whatever the length of the input; a
 /// checkpoint is held completely until its market is made. It is a window of 1,029 bytes (`run`) or 263,178, one buffer for an entry
 /// or its text, 1,048 bytes for each account, 72 bytes for each live order besides its legs, and the table of what orders need.
-/// Accounts and orders each are in one block, which doubles as it grows: it has up to twice these bytes, and while it is moved the
+/// Balances, credits and orders each are in one block, which doubles as it grows: it has up to twice these bytes, and while it is moved the
 /// smaller one is there too. At the end `checkpoint` also holds its whole text. `encode` and `resume` hold their whole input.
 ///
 /// Each form but `encode`, `sample` and `resume` writes what is complete before it asks for more: after a read fault the output is
