@@ -5,19 +5,19 @@ ghost use Rattle.wire_fields.specs.Numbers.{unsigned, signed};
 use crate::conversions::{
     i32_bytes, i64_bytes, i128_bytes, u8_bytes, u16_bytes, u32_bytes, u64_bytes,
 };
-use std::mem;
+use core::mem::replace_with;
 
 // Appends the bytes to a vector that is handed in and handed back, so that its length needn't be stored after each byte.
-fn with_bytes(mut out: Vec<u8>, bytes: &[u8]) -> Vec<u8>
+fn with_bytes(mut out: Vec<u8>, bytes: &[u8]) -> (Vec<u8>, ())
     requires { vec_len out + length bytes.now ≤ vec_capacity out }
-    ensures written { result.items ≡ out.items ++ bytes.now }
-    ensures len { vec_len result ≡ vec_len out + length bytes.now }
-    ensures capacity { vec_capacity result ≡ vec_capacity out }
+    ensures written { result.0.items ≡ out.items ++ bytes.now }
+    ensures len { vec_len result.0 ≡ vec_len out + length bytes.now }
+    ensures capacity { vec_capacity result.0 ≡ vec_capacity out }
 {
     for byte in bytes {
         out.push_reserved(*byte);
     }
-    out
+    (out, ())
 }
 
 /// Appends the bytes. `out` has the capacity for them, so nothing is allocated.
@@ -27,9 +27,7 @@ pub fn put_bytes(out: &mut Vec<u8>, bytes: &[u8])
     ensures len { vec_len out.new ≡ vec_len out.old + length bytes.now }
     ensures capacity { vec_capacity out.new ≡ vec_capacity out.old }
 {
-    let alloc = *out.allocator();
-    let taken = mem::replace(out, Vec::new(alloc));
-    *out = with_bytes(taken, bytes);
+    replace_with(out, bytes, with_bytes);
 }
 
 /// Appends the one byte of an unsigned number. `out` has the capacity for it, so nothing is allocated.

@@ -1,12 +1,11 @@
 -- The body of a command by its fields is that part by part, and its fields fit where the parts do.
 use Rattle.std.proofs.Common.{◌≡◌, ℕ, List, [], ◌∷◌, ◌++◌, length, append_assoc, refl, sym, ap, ◌∙◌, None, Some}
-use Rattle.std.specs.Prelude.{All}
 use Rattle.std.specs.List.{flat_map, AllByRecursion}
 use Rattle.std.proofs.lemmas.List.{append-nil}
-use Rattle.std.proofs.lemmas.List.Elements.{All-nil, All-from_recursion, recursion_from_All}
+use Rattle.std.proofs.lemmas.List.Elements.{All-from_recursion, recursion_from_All}
 use Rattle.wire_fields.specs.Numbers.{unsigned, signed}
 use Rattle.weight_rows.specs.declared.entries.Entry.{Entry}
-use Rattle.wire_records.specs.Fields.{Field, field_bytes, FitsField}
+use Rattle.wire_records.specs.Fields.{field_bytes, FitsField}
 use Rattle.wire_records.specs.Commands.{Request, Command, AddAsset, OpenAccount, DepositMoney, DepositAsset, WithdrawMoney, WithdrawAsset, Place, CancelOrder, RunBatch, SetMoneyCredit, SetUnitCredit}
 use Rattle.wire_records.specs.CommandRecords.{entry_fields, request_fields, fields_of, body_of, IsCommand}
 use Rattle.wire_records.specs.Bodies.{entry_encoding, request_encoding, body_encoding, IsEntry, IsRequest, FitsCommand}

@@ -1,9 +1,9 @@
 -- Bytes as a number and what follows it.
-use Rattle.std.proofs.Common.{◌≡◌, ◌+◌, ◌<◌, ℕ, ℤ, List, ◌++◌, length, take, drop, length-drop, sym, ap, ◌∙◌, arith}
+use Rattle.std.proofs.Common.{◌≡◌, ◌+◌, ◌<◌, ℕ, List, ◌++◌, length, take, drop, length-drop, sym, ap, ◌∙◌, arith}
 use Rattle.std.proofs.lemmas.List.{take-append-drop, length-take-le}
 use Rattle.std.proofs.lemmas.List.Elements.{All-take, All-drop}
-use Rattle.wire_fields.specs.Numbers.{unsigned, signed, IsUnsigned, IsSigned}
-use Rattle.wire_fields.proofs.Encoding.{unsigned_complete, signed_complete}
+use Rattle.wire_fields.specs.Numbers.{unsigned, IsUnsigned}
+use Rattle.wire_fields.proofs.Encoding.{unsigned_complete}
 use Rattle.wire_records.specs.Records.{AreBytes}
 
 -- bytes are a number, if they have its size
@@ -15,13 +15,5 @@ pub prefix_number : (size n : ℕ) (bytes : List ℕ) → length bytes ≡ size 
 prefix_number size n bytes len small =
     let rest = drop size bytes in
     let found = unsigned_complete size (take size bytes) (length-take-le size bytes (omega (arith, len))) (All-take (λ b. b < 256) size bytes small) in
-    let left : length rest ≡ n = length-drop size bytes ∙ omega (arith, len) in
-    (found.0, rest, found.1, left, All-drop (λ b. b < 256) size bytes small, sym (take-append-drop size bytes) ∙ ap (λ xs. xs ++ rest) (sym found.2))
-
--- bytes are a signed number and a rest, if they have as many
-pub prefix_signed : (size n : ℕ) (bytes : List ℕ) → 0 < size → length bytes ≡ size + n → AreBytes bytes → (z : ℤ) × (rest : List ℕ) × IsSigned size z × (length rest ≡ n) × AreBytes rest × (bytes ≡ signed size z ++ rest)
-prefix_signed size n bytes some len small =
-    let rest = drop size bytes in
-    let found = signed_complete size (take size bytes) some (length-take-le size bytes (omega (arith, len))) (All-take (λ b. b < 256) size bytes small) in
     let left : length rest ≡ n = length-drop size bytes ∙ omega (arith, len) in
     (found.0, rest, found.1, left, All-drop (λ b. b < 256) size bytes small, sym (take-append-drop size bytes) ∙ ap (λ xs. xs ++ rest) (sym found.2))

@@ -4,10 +4,9 @@ use Rattle.std.proofs.lemmas.List.{append-nil}
 use Rattle.wire_fields.specs.Numbers.{unsigned, signed}
 use Rattle.wire_fields.proofs.Encoding.{length-unsigned, length-signed, unsigned_unique, signed_unique}
 use Rattle.weight_rows.specs.declared.entries.Entry.{Entry}
-use Rattle.wire_records.specs.declared.place.Numbers.{Numbers}
 use Rattle.wire_records.specs.Commands.{Request}
 use Rattle.wire_records.specs.Bodies.{entry_encoding, request_encoding, IsEntry, IsRequest}
-use Rattle.wire_records.specs.Private.{FitNumbers, numbers_and}
+use Rattle.wire_records.specs.Private.{Numbers, FitNumbers, numbers_and}
 use Rattle.wire_records.proofs.CodeLaws.{counted_unique, counted_size}
 
 -- legs with the same parts are the same

@@ -1,16 +1,19 @@
 -- Which bytes encode a request.
-use Rattle.std.proofs.Common.{◌≡◌, ◌≢◌, ◌+◌, ◌-◌, ◌*◌, ◌<◌, ℕ, List, ◌++◌, inl, inr, ◌⊎◌, length, length-append, lit<, refl, sym, ap, ◌∙◌, arith}
+use Rattle.std.proofs.Common.{◌≡◌, ◌≢◌, ◌+◌, ◌-◌, ◌*◌, ◌<◌, ◌≤◌, ℕ, List, ◌++◌, inl, inr, ◌⊎◌, length, length-append, drop, length-drop, w64, refl, sym, ap, ◌∙◌, arith}
 use Rattle.std.proofs.lemmas.Bool.{cases_lt, cases_eq}
-use Rattle.wire_fields.specs.Numbers.{unsigned, signed, IsUnsigned}
+use Rattle.std.proofs.lemmas.List.{drop-drop}
+use Rattle.std.proofs.lemmas.List.Elements.{All-drop}
+use Rattle.wire_fields.specs.Numbers.{unsigned, signed, IsUnsigned, IsSigned}
+use Rattle.byte_places.specs.Places.{unsigned_at, signed_at}
+use Rattle.byte_places.proofs.Digits.{IsEncodedAt, unsigned_encoded, signed_encoded_8, begins_with}
 use Rattle.wire_fields.proofs.Encoding.{length-unsigned, unsigned_unique}
 use Rattle.weight_rows.specs.declared.entries.Entry.{Entry}
-use Rattle.wire_records.specs.declared.place.Numbers.{Numbers}
 use Rattle.wire_records.specs.Records.{AreBytes}
 use Rattle.wire_records.specs.Commands.{Request}
 use Rattle.wire_records.specs.Bodies.{request_encoding, entry_encoding}
-use Rattle.wire_records.specs.Private.{FitNumbers, numbers_and, entries_in, EncodeEntries, EncodesRequest, EncodesNoRequest, EncodesUntil, EncodesNoUntil}
+use Rattle.wire_records.specs.Private.{Numbers, FitNumbers, numbers_and, entries_in, request_in, HoldRequest, EncodeEntries, EncodesRequest, EncodesNoRequest, EncodesUntil, EncodesNoUntil}
 use Rattle.wire_records.proofs.CodeLaws.{counted_size}
-use Rattle.wire_records.proofs.Fields.{prefix_number, prefix_signed}
+use Rattle.wire_records.proofs.Fields.{prefix_number}
 use Rattle.wire_records.proofs.Requests.{numbers_of, fit_numbers, numbers_unique, entry_size, request_size}
 use Rattle.wire_records.proofs.Entries.{entries_encoded, length-entries}
 
@@ -40,58 +43,69 @@ request_found n bytes body fit whole size encodes =
       encoded = whole ∙ ap (λ xs. unsigned 4 n.account ++ (signed 8 n.low ++ (signed 8 n.high ++ (unsigned 4 n.rate ++ (unsigned 8 n.cap ++ xs))))) following;
     }
 
--- a length, split into the next number's bytes and what follows them
-apart : (len a b c n : ℕ) → len ≡ a + n → a ≡ b + c → len ≡ b + (c + n)
-apart len a b c n whole parts = omega (arith, whole, parts)
-
--- The numbers at the beginning of bytes, and so many bytes after them.
-record HasNumbers (body : List ℕ) (more : ℕ) : Type 0 where
-  numbers : Numbers
-  rest : List ℕ
-  fit : FitNumbers numbers
-  size : length rest ≡ more
-  small : AreBytes rest
-  whole : body ≡ numbers_and numbers rest
+-- what follows a number at its place, once that is known to be encoded there
+after : {A : Type 0} (Fits : A → Type 0) (encode : A → List ℕ) (size place : ℕ) (bytes : List ℕ) (value : A) → IsEncodedAt Fits encode size place bytes value → drop place bytes ≡ encode value ++ drop (place + size) bytes
+after Fits encode size place bytes value at =
+    begins_with Fits encode size place bytes (drop place bytes) value at refl ∙ ap (λ xs. encode value ++ xs) (drop-drop size place bytes)
 
 -- numbers that were read one after the other
 joined : (n : Numbers) (body a b c d e rest : List ℕ) → body ≡ unsigned 4 n.account ++ a → a ≡ signed 8 n.low ++ b → b ≡ signed 8 n.high ++ c → c ≡ unsigned 4 n.rate ++ d → d ≡ unsigned 8 n.cap ++ e → e ≡ unsigned 1 n.count ++ rest → body ≡ numbers_and n rest
 joined n body a b c d e rest of_body of_a of_b of_c of_d of_e =
     rw (of_body, of_a, of_b, of_c, of_d, of_e) refl
 
--- bytes begin with the numbers, if they are enough
-has_numbers : (body : List ℕ) (more : ℕ) → length body ≡ 33 + more → AreBytes body → HasNumbers body more
-has_numbers body more len small =
-    let account = prefix_number 4 (29 + more) body (apart (length body) 33 4 29 more len refl) small in
-    let low = prefix_signed 8 (21 + more) account.1 (lit< tt) (apart (length account.1) 29 8 21 more account.3 refl) account.4 in
-    let high = prefix_signed 8 (13 + more) low.1 (lit< tt) (apart (length low.1) 21 8 13 more low.3 refl) low.4 in
-    let rate = prefix_number 4 (9 + more) high.1 (apart (length high.1) 13 4 9 more high.3 refl) high.4 in
-    let cap = prefix_number 8 (1 + more) rate.1 (apart (length rate.1) 9 8 1 more rate.3 refl) rate.4 in
-    let count = prefix_number 1 more cap.1 cap.3 cap.4 in
-    let n : Numbers = record { account = account.0; low = low.0; high = high.0; rate = rate.0; cap = cap.0; count = count.0 } in
-    record {
-      numbers = n;
-      rest = count.1;
-      fit = record { account = account.2; low = low.2; high = high.2; rate = rate.2; cap = cap.2; count = count.2 };
-      size = count.3;
-      small = count.4;
-      whole = joined n body account.1 low.1 high.1 rate.1 cap.1 count.1 account.5 low.5 high.5 rate.5 cap.5 count.5;
-    }
+-- the numbers at the beginning of bytes
+abbrev pub numbers_in : List ℕ → Numbers
+numbers_in bytes = record {
+  account = unsigned_at 4 0 bytes;
+  low = signed_at w64 4 bytes;
+  high = signed_at w64 12 bytes;
+  rate = unsigned_at 4 20 bytes;
+  cap = unsigned_at 8 24 bytes;
+  count = unsigned_at 1 32 bytes;
+}
 
--- whether bytes with enough for the numbers encode a request
-numbers_told : (body : List ℕ) (more : ℕ) → HasNumbers body more → ((request : Request) × EncodesRequest body request) ⊎ EncodesNoRequest body
-numbers_told body more found =
-    let n = found.numbers in
-    elim (cases_eq (length found.rest) (6 * n.count)) [
-      | inl size ↦ inl (request_of n (entries_in found.rest), request_found n found.rest body found.fit found.whole size (entries_encoded n.count found.rest size found.small))
-      | inr other ↦ inr (none-from_other n found.rest body found.fit found.whole other)
-    ]
+-- bytes begin with the numbers, if they are enough
+pub numbers_there : (bytes : List ℕ) → 33 ≤ length bytes → AreBytes bytes → FitNumbers (numbers_in bytes) × (bytes ≡ numbers_and (numbers_in bytes) (drop 33 bytes))
+numbers_there bytes enough small =
+    let account = unsigned_encoded 4 0 bytes (omega arith) small in
+    let low = signed_encoded_8 4 bytes (omega arith) small in
+    let high = signed_encoded_8 12 bytes (omega arith) small in
+    let rate = unsigned_encoded 4 20 bytes (omega arith) small in
+    let cap = unsigned_encoded 8 24 bytes (omega arith) small in
+    let count = unsigned_encoded 1 32 bytes (omega arith) small in (
+      record { account = account.fits; low = low.fits; high = high.fits; rate = rate.fits; cap = cap.fits; count = count.fits },
+      joined (numbers_in bytes) bytes (drop 4 bytes) (drop 12 bytes) (drop 20 bytes) (drop 24 bytes) (drop 32 bytes) (drop 33 bytes)
+          (after (IsUnsigned 4) (unsigned 4) 4 0 bytes _ account) (after (IsSigned 8) (signed 8) 8 4 bytes _ low) (after (IsSigned 8) (signed 8) 8 12 bytes _ high)
+          (after (IsUnsigned 4) (unsigned 4) 4 20 bytes _ rate) (after (IsUnsigned 8) (unsigned 8) 8 24 bytes _ cap) (after (IsUnsigned 1) (unsigned 1) 1 32 bytes _ count),
+    )
+
+-- what follows the numbers are the legs
+pub row_there : (bytes : List ℕ) → HoldRequest bytes → EncodeEntries (drop 33 bytes) (entries_in (drop 33 bytes))
+row_there bytes holds =
+    entries_encoded (unsigned_at 1 32 bytes) (drop 33 bytes) (omega (arith, holds.size, length-drop 33 bytes)) (All-drop (λ n. n < 256) 33 bytes holds.small)
+
+-- the bytes encode the request at their places
+pub request_there : (bytes : List ℕ) → HoldRequest bytes → EncodesRequest bytes (request_in bytes)
+request_there bytes holds =
+    let there = numbers_there bytes (omega (arith, holds.size)) holds.small in
+    request_found (numbers_in bytes) (drop 33 bytes) bytes there.0 there.1 (omega (arith, holds.size, length-drop 33 bytes)) (row_there bytes holds)
+
+-- other bytes encode none
+pub none_there : (bytes : List ℕ) → AreBytes bytes → 33 ≤ length bytes → length bytes ≢ 33 + 6 * unsigned_at 1 32 bytes → EncodesNoRequest bytes
+none_there bytes small enough other =
+    let there = numbers_there bytes enough small in
+    none-from_other (numbers_in bytes) (drop 33 bytes) bytes there.0 there.1 (λ left. other (omega (arith, left, length-drop 33 bytes, enough)))
 
 -- whether bytes encode a request
 pub request_told : (body : List ℕ) → AreBytes body → ((request : Request) × EncodesRequest body request) ⊎ EncodesNoRequest body
 request_told body small =
     elim (cases_lt (length body) 33) [
       | inl few ↦ inr (none-from_few body few)
-      | inr enough ↦ let more = length body - 33 in numbers_told body more (has_numbers body more (omega arith) small)
+      | inr enough ↦
+          elim (cases_eq (length body) (33 + 6 * unsigned_at 1 32 body)) [
+            | inl size ↦ inl (request_in body, request_there body (record { small = small; size = size }))
+            | inr other ↦ inr (none_there body small enough other)
+          ]
     ]
 
 -- four bytes are a last batch, and what follows them is a request or isn't

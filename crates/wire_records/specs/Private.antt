@@ -1,10 +1,11 @@
 -- What the views of requests and of their legs are made of.
-use Rattle.std.specs.Prelude.{◌≡◌, ◌⊎◌, ℕ, ◌+◌, ◌*◌, ◌++◌, List, [], ◌∷◌, length, All, None, Some}
+use Rattle.std.specs.Prelude.{◌≡◌, ◌⊎◌, ℕ, ◌+◌, ◌*◌, ◌++◌, ℤ, List, [], ◌∷◌, length, drop, All, None, Some}
 use Rattle.std.specs.List.{flat_map}
-use Rattle.std.specs.Int.{cast_signed, w32}
+use Rattle.std.specs.Int.{cast_signed, w32, w64}
 use Rattle.wire_fields.specs.Numbers.{unsigned, signed, IsUnsigned, IsSigned}
+use Rattle.byte_places.specs.Places.{unsigned_at, signed_at}
 use Rattle.weight_rows.specs.declared.entries.Entry.{Entry}
-use Rattle.wire_records.specs.declared.place.Numbers.{Numbers}
+use Rattle.wire_records.specs.Records.{AreBytes}
 use Rattle.wire_records.specs.Commands.{Request, Command, Place}
 use Rattle.wire_records.specs.Bodies.{entry_encoding, request_encoding, IsEntry, IsRequest}
 
@@ -22,7 +23,32 @@ pub record EncodeEntries (bytes : List ℕ) (row : List Entry) : Type 0 where
   pub fit : All IsEntry row
   pub encoded : bytes ≡ flat_map entry_encoding row
 
--- the numbers of a request, and how many legs it has, are in the ranges of their fields
+-- the request that bytes encode: each of its numbers is at a place of its own, and the legs follow them
+abbrev pub request_in : List ℕ → Request
+request_in bytes = record {
+  account = unsigned_at 4 0 bytes;
+  low = signed_at w64 4 bytes;
+  high = signed_at w64 12 bytes;
+  rate = unsigned_at 4 20 bytes;
+  cap = unsigned_at 8 24 bytes;
+  row = entries_in (drop 33 bytes);
+}
+
+-- bytes that a request is read from: its numbers, and six bytes for each leg that they state
+pub record HoldRequest (bytes : List ℕ) : Type 0 where
+  pub small : AreBytes bytes
+  pub size : length bytes ≡ 33 + 6 * unsigned_at 1 32 bytes
+
+-- the numbers of a request, and how many legs it has
+pub record Numbers : Type 0 where
+  pub account : ℕ
+  pub low : ℤ
+  pub high : ℤ
+  pub rate : ℕ
+  pub cap : ℕ
+  pub count : ℕ
+
+-- they are in the ranges of their fields
 pub record FitNumbers (n : Numbers) : Type 0 where
   pub account : IsUnsigned 4 n.account
   pub low : IsSigned 8 n.low

@@ -5,10 +5,11 @@ ghost use Rattle.weight_rows.specs.declared.faults.RowFault.{RowFault};
 ghost use Rattle.weight_rows.specs.Rows.{IsWeightVector, most_entries};
 ghost use Rattle.weight_rows.specs.Faults.{IsFaultOf};
 ghost use Rattle.wire_records.specs.Bodies.{entry_encoding, IsEntry};
-ghost use Rattle.wire_records.specs.Private.{FitNumbers, numbers_and, EncodesRequest, EncodesNoRequest, EncodesUntil, EncodesNoUntil};
+ghost use Rattle.wire_records.specs.Private.{EncodesRequest, EncodesNoRequest, EncodesUntil, EncodesNoUntil};
 
 use crate::Memory;
 use crate::record::as_bytes;
+use byte_places::{i64_at, u8_at, u32_at, u64_at};
 use std::alloc::Global;
 use std::marker::Model;
 use weight_rows::{Entry, EntryList, MOST_ENTRIES, RowFault, place_fault};
@@ -16,6 +17,20 @@ use wire_fields::Cursor;
 
 // The bytes of a leg.
 const ENTRY: usize = 6;
+
+// The places of the numbers of a request in its bytes, the first of which is the account, of the count of its legs, and of
+// the first leg.
+const LOW: usize = 4;
+
+const HIGH: usize = 12;
+
+const RATE: usize = 20;
+
+const CAP: usize = 24;
+
+const COUNT: usize = 32;
+
+const ROW: usize = 33;
 
 /// Legs in borrowed bytes, in the order in which they are there. They may be a weight vector or not. Contracts see them as
 /// the list of the legs. A record has at most 255 of them.
@@ -111,25 +126,23 @@ impl<'a> RowView<'a> {
     }
 }
 
-/// The order that a command asks for, with its legs in borrowed bytes. The limits are in whole ticks per unit of
-/// the portfolio, rate and cap in whole units of it, each any number of its width. Contracts see it as these numbers
-/// and the list of the legs. Each of its calls is of constant cost.
+/// The order that a command asks for, in borrowed bytes. The limits are in whole ticks per unit of the portfolio, rate
+/// and cap in whole units of it, each any number of its width. Contracts see it as these numbers and the list of the
+/// legs. Each of its calls is of constant cost: a number is read from its place when it is asked for.
 #[derive(Drop)]
 pub struct PlaceView<'a> {
-    account: u32,
-    low: i64,
-    high: i64,
-    rate: u32,
-    cap: u64,
-    row: RowView<'a>,
+    bytes: &'a [u8],
 }
 
 impl<'a> Model for PlaceView<'a> {
     ghost use Rattle.wire_records.specs.Commands.{Request};
+    ghost use Rattle.wire_records.specs.Private.{request_in, HoldRequest};
 
     ghost Value = { Request };
 
-    ghost view = { λ p. record { account = p.account; low = p.low; high = p.high; rate = p.rate; cap = p.cap; row = p.row } };
+    ghost view = { λ p. request_in p.bytes.now };
+
+    ghost invariant = { λ p. HoldRequest p.bytes.now };
 }
 
 impl<'a> PlaceView<'a> {
@@ -137,76 +150,45 @@ impl<'a> PlaceView<'a> {
     pub fn account(&self) -> u32
         ensures { result ≡ self.now.account }
     {
-        self.account
+        u32_at(self.bytes, 0)
     }
 
     /// Returns the limit up to which the order buys at its full rate, in ticks.
     pub fn low(&self) -> i64
         ensures { result ≡ self.now.low }
     {
-        self.low
+        i64_at(self.bytes, LOW)
     }
 
     /// Returns the limit from which on the order buys nothing, in ticks.
     pub fn high(&self) -> i64
         ensures { result ≡ self.now.high }
     {
-        self.high
+        i64_at(self.bytes, HIGH)
     }
 
     /// Returns the most units of the portfolio that are bought in a batch.
     pub fn rate(&self) -> u32
         ensures { result ≡ self.now.rate }
     {
-        self.rate
+        u32_at(self.bytes, RATE)
     }
 
     /// Returns the most units of the portfolio that are bought in all.
     pub fn cap(&self) -> u64
         ensures { result ≡ self.now.cap }
     {
-        self.cap
+        u64_at(self.bytes, CAP)
     }
 
     /// Returns the legs: which assets one unit of the portfolio has, with what weights.
     pub fn row(&self) -> RowView<'a>
         ensures { result ≡ self.now.row }
     {
-        let row = &self.row;
-        RowView { bytes: row.bytes }
+        RowView {
+            bytes: &self.bytes[ROW..],
+        }
     }
-}
-
-// The numbers of a request, and how many legs follow.
-#[derive(Drop)]
-struct Numbers {
-    account: u32,
-    low: i64,
-    high: i64,
-    rate: u32,
-    cap: u64,
-    count: u8,
-}
-
-fn take_numbers(cursor: &mut Cursor<'_>) -> Option<Numbers>
-    ensures found { IfSome result (λ n. cursor.old ≡ numbers_and n cursor.new) }
-    ensures fit { IfSome result (λ n. FitNumbers n) }
-    ensures few { IfNone result (length cursor.old < 33) }
-{
-    let account = cursor.take_u32()?;
-    let low = cursor.take_i64()?;
-    let high = cursor.take_i64()?;
-    let rate = cursor.take_u32()?;
-    let cap = cursor.take_u64()?;
-    let count = cursor.take_u8()?;
-    Some(Numbers {
-        account,
-        low,
-        high,
-        rate,
-        cap,
-        count,
-    })
 }
 
 // The request that a body encodes, or `None` if it encodes none. Its legs aren't looked at, except for how many bytes
@@ -215,20 +197,15 @@ pub(crate) fn place_in(body: &[u8]) -> Option<PlaceView<'_>>
     ensures found { IfSome result (λ place. EncodesRequest body.now place) }
     ensures none { IfNone result (EncodesNoRequest body.now) }
 {
-    let mut cursor = Cursor::new(body);
-    let numbers = take_numbers(&mut cursor)?;
-    let bytes = as_bytes(cursor.take(ENTRY * usize::from(numbers.count))?);
-    if !cursor.is_empty() {
+    let bytes = as_bytes(body);
+    if bytes.len() < ROW {
         return None;
     }
-    Some(PlaceView {
-        account: numbers.account,
-        low: numbers.low,
-        high: numbers.high,
-        rate: numbers.rate,
-        cap: numbers.cap,
-        row: RowView { bytes },
-    })
+    let legs = usize::from(u8_at(bytes, COUNT));
+    if bytes.len() != ROW + ENTRY * legs {
+        return None;
+    }
+    Some(PlaceView { bytes })
 }
 
 // The last batch, and the request after it, that a body encodes, or `None` if it encodes none.
