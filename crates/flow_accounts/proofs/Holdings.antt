@@ -2,13 +2,14 @@
 use Rattle.std.proofs.Common.{◌≡◌, ◌≢◌, ℕ, ◌-◌, ◌^◌, ◌<◌, ℤ, pos, ◌+ℤ◌, ◌≤ℤ◌, ◌<ℤ◌, length, take, get_or, set, refl, ap, sym, subst, ◌∙◌, arith, Some, None}
 use Rattle.std.proofs.lemmas.Int.{ints}
 use Rattle.std.proofs.Math.Seq.{take-set-lt}
-use Rattle.std.proofs.lemmas.List.{map-set, get_or-map, get_or-take, get_or-set_other, length-set, length-map}
+use Rattle.std.proofs.lemmas.List.{map-set, get_or-map, get_or-take, get_or-set_other, get_or_default, length-set, length-map}
 use Rattle.std.proofs.lemmas.List.Elements.{All-set}
 use Rattle.std.specs.Vec.{with_item}
-use Rattle.flow_accounts.specs.declared.CreditLine.{CreditLine}
+use Rattle.flow_accounts.specs.declared.credit_lines.CreditLine.{CreditLine}
 use Rattle.flow_accounts.specs.declared.Holding.{Holding}
 use Rattle.flow_accounts.specs.declared.Accounts.TheInside.{Inside}
 use Rattle.flow_accounts.specs.Balances.{Account, Credit, Balances, IsAccount, IsAsset, asset_count, account_of, credit_of, credit_in, empty_account, no_credit, money_of, units_of, money_credit_of, unit_credit_of, money_with_credit, units_with_credit, move_balance, set_credit}
+use Rattle.flow_accounts.specs.NoCredit.{no_line}
 use Rattle.flow_accounts.specs.Answers.{AcceptsCredit}
 use Rattle.flow_accounts.specs.Lawful.{AreLawful, IsLawfulAccount, IsMoneyBalance, IsUnitBalance}
 use Rattle.flow_accounts.specs.Places.{account_in, credit_line_in, balances_in, HasSpare, HasSpareCredit, AreKept}
@@ -25,15 +26,21 @@ abbrev pub written : Inside → ℕ → Holding → Inside
 written a account h = record a { accounts = with_item a.accounts (account - 1) h }
 
 -- the credits of an account that is there have their place
-line_within : (a : Inside) (account : ℕ) → AreKept a → IsAccount (balances_in a) account → account - 1 < length a.credits.items
+line_within : (a : Inside) (account : ℕ) → AreKept a → IsAccount (balances_in a) account → account - 1 < length a.credits
 line_within a account kept there =
     let counts = length-map a.accounts.items (account_in a.assets) in
-    let lines = length-map a.credits.items (credit_line_in a.assets) in
+    let lines = length-map a.credits (credit_line_in a.assets) in
     omega (arith, kept.lawful.one_credit_each)
+
+-- the credit line of an account that is there, at any default
+pub line_read : (a : Inside) (b : Balances) (account : ℕ) → AreKept a → balances_in a ≡ b → IsAccount b account → get_or a.credits (account - 1) no_line ≡ get_or a.credits (account - 1) (get_or a.credits (account - 1) no_line)
+line_read a b account kept view_is there =
+    let line = get_or a.credits (account - 1) no_line in
+    get_or_default a.credits (account - 1) no_line line (line_within a account kept (subst (λ (b : Balances). IsAccount b account) (sym view_is) there))
 
 -- the fields after the credits of one account were written
 abbrev pub credited : Inside → ℕ → CreditLine → Inside
-credited a account l = record a { credits = with_item a.credits (account - 1) l }
+credited a account l = record a { credits = set a.credits (account - 1) l }
 
 module _ (a : Inside) (account : ℕ) (h : Holding) (kept : AreKept a) (there : IsAccount (balances_in a) account) (read : h ≡ get_or a.accounts.items (account - 1) h) where
   -- what was read is the account
@@ -87,10 +94,10 @@ module _ (a : Inside) (account : ℕ) (h : Holding) (kept : AreKept a) (there : 
       (rw (map-set, account_of-in, take-set-lt, get_or-take, is) refl)
       (lawful-move_units (balances_in a) account asset x kept.lawful there is_asset within fits)
 
-module _ (a : Inside) (account : ℕ) (l : CreditLine) (kept : AreKept a) (there : IsAccount (balances_in a) account) (read : l ≡ get_or a.credits.items (account - 1) l) where
+module _ (a : Inside) (account : ℕ) (l : CreditLine) (kept : AreKept a) (there : IsAccount (balances_in a) account) (read : l ≡ get_or a.credits (account - 1) l) where
   -- what was read is the credit line
   credit_of-in : credit_of (balances_in a) account ≡ credit_line_in a.assets l
-  credit_of-in = get_or-map (credit_line_in a.assets) a.credits.items (account - 1) l (no_credit 0) (line_within a account kept there) ∙ ap (credit_line_in a.assets) (sym read)
+  credit_of-in = get_or-map (credit_line_in a.assets) a.credits (account - 1) l (no_credit 0) (line_within a account kept there) ∙ ap (credit_line_in a.assets) (sym read)
 
   spare_credit_read : HasSpareCredit a.assets l.units
   spare_credit_read = subst (λ (x : CreditLine). HasSpareCredit a.assets x.units) (sym read) (kept.credits (account - 1) l (line_within a account kept there))
@@ -103,7 +110,7 @@ module _ (a : Inside) (account : ℕ) (l : CreditLine) (kept : AreKept a) (there
       few_assets = kept.few_assets;
       totals = kept.totals;
       accounts = kept.accounts;
-      credits = All-set (λ x. HasSpareCredit a.assets x.units) a.credits.items (account - 1) new spare kept.credits;
+      credits = All-set (λ x. HasSpareCredit a.assets x.units) a.credits (account - 1) new spare kept.credits;
     };
     shown = shown;
   }
@@ -162,7 +169,7 @@ module _ (a : Inside) (b : Balances) (account : ℕ) (h : Holding) (kept : AreKe
       let shown : IsUnitBalance (get_or (take a.assets h.units) asset (pos 0) +ℤ x) = subst (λ (o : Account). IsUnitBalance (get_or o.units asset (pos 0) +ℤ x)) (account_of-in a account h kept there read) (units_after (balances_in a) account asset x kept.lawful there is_asset within fits) in
       (unit_before a account h kept there read asset is_asset, rw get_or-take at shown)) there is_asset within fits
 
-module _ (a : Inside) (b : Balances) (account : ℕ) (l : CreditLine) (kept : AreKept a) (view_is : balances_in a ≡ b) (there : IsAccount b account) (read : l ≡ get_or a.credits.items (account - 1) l) where
+module _ (a : Inside) (b : Balances) (account : ℕ) (l : CreditLine) (kept : AreKept a) (view_is : balances_in a ≡ b) (there : IsAccount b account) (read : l ≡ get_or a.credits (account - 1) l) where
   pub given_money_credit : (ticks : ℕ) (reserved : ℤ) → pos 0 ≤ℤ reserved → AcceptsCredit b account None ticks reserved → StandsFor (credited a account (record l { money = ticks })) (set_credit b account None ticks)
   given_money_credit ticks reserved positive accepted =
       let P : Balances → Type 0 = λ b. IsAccount b account → AcceptsCredit b account None ticks reserved → StandsFor (credited a account (record l { money = ticks })) (set_credit b account None ticks) in

@@ -11,3 +11,4 @@ pub mod Standing
 pub mod ListLemmas
 pub mod SumsKept
 pub mod Totals
+pub mod StoredLines

@@ -3,7 +3,7 @@ use Rattle.std.proofs.Common.{◌≡◌, ◌≢◌, ◌∙◌, ℕ, ◌+◌, ◌
 use Rattle.std.specs.Prelude.{SomeIff}
 use Rattle.std.proofs.lemmas.List.{get_or-set_other, get_or-set_same, length-set, map_push, take-set, take_all, take_more, take_more_same}
 use Rattle.std.proofs.lemmas.List.Elements.{All-push}
-use Rattle.flow_accounts.specs.declared.CreditLine.{CreditLine}
+use Rattle.flow_accounts.specs.declared.credit_lines.CreditLine.{CreditLine}
 use Rattle.flow_accounts.specs.declared.Holding.{Holding}
 use Rattle.flow_accounts.specs.declared.Accounts.TheInside.{Inside}
 use Rattle.flow_accounts.specs.Balances.{Balances, account_count, asset_count, empty_account, no_credit}
@@ -52,7 +52,7 @@ module _ (b : Balances) (lawful : AreLawful b) where
       }
 
   -- all accounts and the totals are read
-  pub all_restored : (a : Inside) → a.assets ≡ asset_count b → a.total_money ≡ b.totals.money → ArePlacesOf (asset_count b) b.totals.units a.total_units → AreHoldingsOf b (account_count b) a.accounts.items → AreCreditLinesOf b (account_count b) a.credits.items → StandsFor a b
+  pub all_restored : (a : Inside) → a.assets ≡ asset_count b → a.total_money ≡ b.totals.money → ArePlacesOf (asset_count b) b.totals.units a.total_units → AreHoldingsOf b (account_count b) a.accounts.items → AreCreditLinesOf b (account_count b) a.credits → StandsFor a b
   all_restored a assets money totals holdings lines =
       let shown : balances_in a ≡ b =
       rw (assets, money, holdings.accounts, lines.credits, totals.first, take_all (account_count b) b.accounts (omega arith), take_all (account_count b) b.credits (omega (arith, lawful.one_credit_each)), take_all (asset_count b) b.totals.units (omega arith)) refl in

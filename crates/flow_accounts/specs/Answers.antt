@@ -1,6 +1,6 @@
 -- Which result a call has. The causes of a call's faults and of its acceptance exclude one another, and one of them
 -- always holds: so each result comes exactly if its cause holds. Only opening an account may run out of memory besides.
-use Rattle.std.specs.Prelude.{◌≡◌, ℕ, ◌<◌, ◌≤◌, ℤ, pos, ◌+ℤ◌, ◌-ℤ◌, ◌≤ℤ◌, ◌<ℤ◌, Option, Some, None}
+use Rattle.std.specs.Prelude.{◌≡◌, ℕ, ◌<◌, ◌≤◌, ℤ, ◌+ℤ◌, ◌-ℤ◌, ◌≤ℤ◌, ◌<ℤ◌, Option}
 use Rattle.flow_accounts.specs.declared.fault.AccountFault.{AccountFault}
 use Rattle.flow_accounts.specs.declared.fault.AccountFault.TheVariants.{NoAccount, NoAsset, Zero, TotalLimit, Full, NotFree, CreditLimit, InUse, Memory}
 use Rattle.flow_accounts.specs.Balances.{Balances, IsAccount, IsKind, account_count, value_of, balance_of, total_of}

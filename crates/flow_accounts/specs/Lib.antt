@@ -5,5 +5,7 @@ pub mod Fits
 pub mod Lawful
 pub mod Laws
 pub mod Parts
+pub mod NoCredit
+pub mod CreditLines
 pub mod Places
 pub mod Sums

@@ -1,7 +1,7 @@
 -- Balances that are read number by number, and how the fields of an `Accounts` are made from them.
 use Rattle.std.specs.Prelude.{◌≡◌, ℕ, ℤ, List, length, map, take}
 use Rattle.std.specs.List.{All}
-use Rattle.flow_accounts.specs.declared.CreditLine.{CreditLine}
+use Rattle.flow_accounts.specs.declared.credit_lines.CreditLine.{CreditLine}
 use Rattle.flow_accounts.specs.declared.Holding.{Holding}
 use Rattle.flow_accounts.specs.Balances.{Account, Credit, Balances, account_count, asset_count, account_of, credit_of}
 use Rattle.flow_accounts.specs.Places.{account_in, credit_line_in, HasSpare, HasSpareCredit}

@@ -2,7 +2,7 @@
 -- that there may be. As many places as there are assets are in use, and the others are 0.
 use Rattle.std.specs.Prelude.{◌≡◌, ℕ, ◌≤◌, ℤ, pos, List, length, map, take, slice_index_or}
 use Rattle.std.specs.List.{All}
-use Rattle.flow_accounts.specs.declared.CreditLine.{CreditLine}
+use Rattle.flow_accounts.specs.declared.credit_lines.CreditLine.{CreditLine}
 use Rattle.flow_accounts.specs.declared.Holding.{Holding}
 use Rattle.flow_accounts.specs.declared.Accounts.TheInside.{Inside}
 use Rattle.flow_accounts.specs.Balances.{Account, Credit, Balances}
@@ -20,7 +20,7 @@ credit_line_in assets l = record { ticks = l.money; units = take assets l.units 
 abbrev pub balances_in : Inside → Balances
 balances_in a = record {
   accounts = map (account_in a.assets) a.accounts.items;
-  credits = map (credit_line_in a.assets) a.credits.items;
+  credits = map (credit_line_in a.assets) a.credits;
   totals = record { money = a.total_money; units = take a.assets a.total_units };
 }
 
@@ -40,4 +40,4 @@ pub record AreKept (a : Inside) : Type 0 where
   pub few_assets : a.assets ≤ most_assets
   pub totals : HasSpare a.assets a.total_units
   pub accounts : All (λ h. HasSpare a.assets h.units) a.accounts.items
-  pub credits : All (λ l. HasSpareCredit a.assets l.units) a.credits.items
+  pub credits : All (λ l. HasSpareCredit a.assets l.units) a.credits

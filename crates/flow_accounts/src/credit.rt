@@ -35,7 +35,7 @@ impl Accounts {
         requires { IsAccount self.now account }
         ensures { result ≡ money_credit_of self.now account }
     {
-        self.credits[account as usize - 1].money
+        self.credits.money(account as usize - 1)
     }
 
     fn unit_credit_held(&self, account: u32, asset: u16) -> u64
@@ -43,7 +43,7 @@ impl Accounts {
         requires asset { IsAsset self.now asset }
         ensures { result ≡ unit_credit_of self.now account asset }
     {
-        self.credits[account as usize - 1].units[asset as usize]
+        self.credits.units(account as usize - 1, asset)
     }
 
     /// Gives an account this credit in money, in place of the one that it had. `reserved` is what the account's orders
@@ -52,6 +52,8 @@ impl Accounts {
     /// The first of these that holds refuses it, and then nothing changes: `NoAccount` if the account isn't there;
     /// `CreditLimit` for more than 2^40 ticks; `InUse` if the credit is below what is reserved less the balance, which
     /// `InUse` carries, in grains.
+    ///
+    /// The cost is constant on average: the credits of the accounts before this one are stored first, if they aren't yet.
     pub fn set_money_credit(
         &mut self,
         account: u32,
@@ -77,6 +79,8 @@ impl Accounts {
     /// The first of these that holds refuses it, and then nothing changes: `NoAccount` and `NoAsset` if the account
     /// or the asset isn't there; `CreditLimit` for more than 2^40 units; `InUse` if the credit is below what is
     /// reserved less the balance, which `InUse` carries, in units.
+    ///
+    /// The cost is constant on average: the credits of the accounts before this one are stored first, if they aren't yet.
     pub fn set_unit_credit(
         &mut self,
         account: u32,
@@ -163,8 +167,7 @@ impl Accounts {
     {
         // Taken for its contract: the balance and the new credit cover what is reserved.
         let _reserved = reserved;
-        let line = &mut self.credits[account as usize - 1];
-        line.money = ticks;
+        self.credits.set_money(account as usize - 1, ticks);
     }
 
     fn write_unit_credit(&mut self, account: u32, asset: u16, units: u64, reserved: i128)
@@ -175,7 +178,6 @@ impl Accounts {
     {
         // Taken for its contract: the balance and the new credit cover what is reserved.
         let _reserved = reserved;
-        let line = &mut self.credits[account as usize - 1];
-        line.units[asset as usize] = units;
+        self.credits.set_units(account as usize - 1, asset, units);
     }
 }

@@ -1,7 +1,7 @@
 ghost use Rattle.std.specs.Prelude.{◌≡◌, ◌+◌, ◌<◌, ◌↔◌, IsTrue, IfOk, IfErr, OnOk, OnErr};
 
-use crate::places::{no_credits, no_units};
-use crate::{AccountFault, Accounts, CreditLine, Holding, MOST_ACCOUNTS};
+use crate::places::no_units;
+use crate::{AccountFault, Accounts, Holding, MOST_ACCOUNTS};
 
 impl Accounts {
     ghost use Rattle.flow_accounts.specs.Balances.{account_count, asset_count, add_asset, open_account};
@@ -36,14 +36,10 @@ impl Accounts {
             return Err(AccountFault::Full);
         }
         self.accounts.reserve(1)?;
-        self.credits.reserve(1)?;
+        self.credits.add()?;
         self.accounts.push_reserved(Holding {
             money: 0,
             units: no_units(),
-        });
-        self.credits.push_reserved(CreditLine {
-            money: 0,
-            units: no_credits(),
         });
         Ok(count + 1)
     }

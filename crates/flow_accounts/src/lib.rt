@@ -20,9 +20,13 @@
 //!
 //! # Costs
 //!
-//! Every call takes the same time however many accounts and assets there are, except that opening an
-//! account sometimes moves all of them to larger blocks. An account takes 1,048 bytes, which include
-//! the places for all 64 assets: 528 for its balances in one block, and 520 for its credits in another.
+//! Every call takes the same time however many accounts and assets there are, with two exceptions. Opening an
+//! account sometimes moves all of them to larger blocks. Setting a credit stores the credits of the accounts
+//! before its own that aren't stored yet, each of them once, so a call takes the same time on average.
+//!
+//! An account takes 1,048 bytes, which include the places for all 64 assets: 528 for its balances in one block, and
+//! 520 for its credits in another. The second block has a place for each account, but isn't touched after the last
+//! account that was given credit; a system that gives a program its pages when they are touched gives none for that part.
 //! A block doubles as it grows, so it has up to twice the bytes of its accounts; 65,536 of them take 65.5 MiB
 //! in both. While a block is moved, the smaller one is there too.
 //! Only [`Accounts::add_account`] and [`Accounts::restore`] allocate.
@@ -33,6 +37,7 @@
 ghost use Rattle.std.specs.Prelude.{◌≡◌, SomeIff};
 
 mod credit;
+mod credit_lines;
 mod deposits;
 mod fault;
 mod growth;
@@ -43,6 +48,7 @@ mod restore;
 mod settlement;
 mod withdrawals;
 
+use credit_lines::CreditLines;
 pub use fault::AccountFault;
 pub use out_of_memory::Memory;
 pub use parts::AccountParts;
@@ -77,17 +83,7 @@ struct Holding {
     units: [i64; PLACES],
 }
 
-// The credits of an account, in whole ticks and in units, apart from its balances, since most commands need only those.
-// As many places for units are in use as there are assets; the others are 0.
-#[derive(Clone, Copy)]
-struct CreditLine {
-    money: u64,
-    units: [u64; PLACES],
-}
-
 const _: () = prove!(size_of::<Holding>() == 528);
-
-const _: () = prove!(size_of::<CreditLine>() == 520);
 
 /// All accounts with their balances, and the totals of deposits less withdrawals.
 ///
@@ -96,7 +92,7 @@ const _: () = prove!(size_of::<CreditLine>() == 520);
 #[derive(Drop)]
 pub struct Accounts {
     accounts: Vec<Holding>,
-    credits: Vec<CreditLine>,
+    credits: CreditLines,
     assets: u16,
     total_money: i128,
     total_units: [i64; PLACES],
@@ -126,7 +122,7 @@ impl Accounts {
     {
         Accounts {
             accounts: Vec::new(alloc),
-            credits: Vec::new(alloc),
+            credits: CreditLines::new(alloc),
             assets: 0,
             total_money: 0,
             total_units: places::no_units(),

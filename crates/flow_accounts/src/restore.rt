@@ -4,8 +4,9 @@ ghost use Rattle.flow_accounts.specs.Balances.{IsAccount, account_count, asset_c
 ghost use Rattle.flow_accounts.specs.Lawful.{AreLawful};
 ghost use Rattle.flow_accounts.specs.Parts.{IsHoldingOf, AreHoldingsOf, IsCreditLineOf, AreCreditLinesOf, ArePlacesOf, AreCreditPlacesOf};
 
+use crate::credit_lines::{CreditLine, CreditLines};
 use crate::places::{no_credits, no_units};
-use crate::{AccountParts, Accounts, CreditLine, Holding, PLACES};
+use crate::{AccountParts, Accounts, Holding, PLACES};
 use out_of_memory::Memory;
 use std::alloc::{AllocError, Global};
 
@@ -46,15 +47,15 @@ fn holdings_of<P: AccountParts>(alloc: Global, parts: &P) -> Result<Vec<Holding>
 }
 
 // Reads the credits of each account.
-fn credit_lines_of<P: AccountParts>(alloc: Global, parts: &P) -> Result<Vec<CreditLine>, AllocError>
+fn credit_lines_of<P: AccountParts>(alloc: Global, parts: &P) -> Result<CreditLines, AllocError>
     requires lawful { AreLawful (P.balances parts.now) }
     ensures { IfOk result (λ lines.
-        AreCreditLinesOf (P.balances parts.now) (account_count (P.balances parts.now)) lines.items) }
+        AreCreditLinesOf (P.balances parts.now) (account_count (P.balances parts.now)) lines) }
 {
     let count = parts.account_count();
-    let mut lines = Vec::with_capacity(alloc, count as usize)?;
+    let mut lines = CreditLines::with_room(alloc, count)?;
     for place in 0..count {
-        lines.push_reserved(credit_line_of(parts, place + 1));
+        lines.push(credit_line_of(parts, place + 1))?;
     }
     Ok(lines)
 }

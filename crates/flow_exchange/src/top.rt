@@ -106,8 +106,9 @@ pub fn flow_limited<S: Source, K: Sink, N: Sink>(
 ///
 /// On every status but `Done` one line is written to `notes`, standard error; a fault there changes nothing.
 ///
-/// A command of `run`, but a batch, costs the same however many accounts and orders there are, a cancel on average: it leaves a
-/// gap, and gaps are closed together, in one pass over the book, once they are more than the live orders or a batch is held. Memory
+/// A command of `run`, but a batch, costs the same however many accounts and orders there are, a cancel and a credit on average. A
+/// cancel leaves a gap, and gaps are closed together, in one pass over the book, once they are more than the live orders or a batch is
+/// held. A credit stores the credits of the accounts before its own that aren't stored yet, each of them once. Memory
 /// of `run`, `audit`, `explain`, `report`, `statement` and `checkpoint` is that of the market, whatever the length of the input; a
 /// checkpoint is held completely until its market is made. It is a window of 1,029 bytes (`run`) or 263,178, one buffer for an entry
 /// or its text, 1,048 bytes for each account, 72 bytes for each live order besides its legs, and the table of what orders need.

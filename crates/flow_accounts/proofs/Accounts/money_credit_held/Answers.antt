@@ -1,5 +1,9 @@
-use Rattle.flow_accounts.proofs.Holdings.{money_credit_read}
+use Rattle.std.proofs.Common.{◌-◌, get_or, ◌∙◌}
+use Rattle.flow_accounts.specs.NoCredit.{no_line}
+use Rattle.flow_accounts.proofs.Holdings.{line_read, money_credit_read}
 use Rattle.flow_accounts.proofs.Accounts.money_credit_held.Goals as goal
 
 pub returns : goal.returns
-returns c = money_credit_read c.self.inside _ c.args.account c.index.result.now c.self.invariant c.self.view_is c.requires c.index.ensures
+returns c =
+    let line = get_or c.self.inside.credits (c.args.account - 1) no_line in
+    c.money.ensures ∙ money_credit_read c.self.inside _ c.args.account line c.self.invariant c.self.view_is c.requires (line_read c.self.inside _ c.args.account c.self.invariant c.self.view_is c.requires)

@@ -1,5 +1,4 @@
-use Rattle.std.proofs.Common.{arith, subst, sym, ◌≡◌, ◌++◌, ◌∷◌, [], List}
-use Rattle.flow_accounts.specs.Parts.{AreHoldingsOf}
+use Rattle.std.proofs.Common.{arith}
 use Rattle.flow_accounts.proofs.Restoring.{holding_added}
 use Rattle.flow_accounts.proofs.restore.holdings_of.Goals as goal
 
