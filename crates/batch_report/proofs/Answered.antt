@@ -1,7 +1,7 @@
--- Which commands are answered by Done, and which by the number of an order.
-use Rattle.std.proofs.Common.{◌≡◌, ◌++◌, ℕ, List, codes, decimal, refl, Result, Ok, Err, Option, Some, None, sym, subst, ◌∙◌}
+-- Records that were accepted are commands, and what an entry's answer tells.
+use Rattle.std.proofs.Common.{◌≡◌, ◌++◌, ℕ, List, codes, decimal, refl, Result, Ok, Err, sym, subst, ◌∙◌}
 use Rattle.wire_records.specs.Records.{Record}
-use Rattle.wire_records.specs.Commands.{Command, AddAsset, OpenAccount, Place, RunBatch, Answer, Plain, Batch}
+use Rattle.wire_records.specs.Commands.{Command, Answer, Plain, Batch}
 use Rattle.wire_records.specs.Versions.{IsReadAs}
 use Rattle.wire_records.specs.declared.command.BodyFault.{BodyFault}
 use Rattle.wire_records.specs.declared.reply.Reply.TheVariants.{Done, Asset, Account, Order, Refused}
@@ -9,7 +9,7 @@ use Rattle.wire_records.specs.declared.reply.Refusal.{Refusal}
 use Rattle.wire_records.proofs.Readings.{reading_unique}
 use Rattle.flow_orders.specs.Outcomes.{Outcome, IsAdmissibleOutcome}
 use Rattle.market_rules.specs.Market.{Market}
-use Rattle.market_rules.specs.Step.{Answers, Serves, ServesRead, refusal_of}
+use Rattle.market_rules.specs.Step.{ServesRead, refusal_of}
 use Rattle.journal_records.specs.Replies.{EncodesAnswer}
 use Rattle.journal_records.proofs.Encoded.{answer_unique}
 use Rattle.market_rules.specs.Journal.{Step}
@@ -18,7 +18,7 @@ use Rattle.batch_audit.specs.Legal.{IsLegalPair}
 use Rattle.pair_text.specs.Texts.{◌then◌}
 use Rattle.batch_report.specs.Reports.{Tells, IsReport}
 use Rattle.pair_text.proofs.Joining.{joined}
-use Rattle.batch_report.specs.Private.{IsAnswered, IsDone, IsPlacing}
+use Rattle.batch_report.specs.Private.{IsAnswered, IsAccepted}
 
 -- the answer is Done
 abbrev says_done : Answer Outcome → Type 0
@@ -37,38 +37,9 @@ says_order (Plain (Order order)) = Unit {0}
 says_order (Plain (Refused refusal)) = ⊥
 says_order (Batch number outcome) = ⊥
 
--- a command that is answered by Done is one that is done
-done_answers : (m : Market) (c : Command) (first : Option Refusal) (a : Answer Outcome) (n : Market) → says_done a → Answers IsAdmissibleOutcome m c first a n → IsDone c
-done_answers m c (Some refusal) a n says answers = absurd (subst says_done answers.0 says)
-done_answers m (AddAsset ticker) None a n says answers = absurd (subst says_done answers.0 says)
-done_answers m OpenAccount None a n says answers = absurd (subst says_done answers.0 says)
-done_answers m (RunBatch budget) None a n says answers = absurd (subst says_done answers.2.0 says)
-done_answers m (Place last request) None a n says answers = absurd (subst says_done answers.0 says)
-done_answers m command None a n says answers = tt
-
-order_answers : (m : Market) (c : Command) (first : Option Refusal) (a : Answer Outcome) (n : Market) → says_order a → Answers IsAdmissibleOutcome m c first a n → IsPlacing c
-order_answers m c (Some refusal) a n says answers = absurd (subst says_order answers.0 says)
-order_answers m (RunBatch budget) None a n says answers = absurd (subst says_order answers.2.0 says)
-order_answers m (Place last request) None a n says answers = tt
-order_answers m command None a n says answers = absurd (subst says_order answers.0 says)
-
--- the command that a record is read as is the one that is served
-served_by : (old new : Market) (asked : Record) (read : Result Command BodyFault) (a : Answer Outcome) (c : Command) → ((refusal : Refusal) → a ≡ Plain (Refused refusal) → ⊥)
-    → IsReadAs old.version asked read → ServesRead IsAdmissibleOutcome old read a new → IsReadAs old.version asked (Ok c) → Serves IsAdmissibleOutcome old c a new
-served_by old new asked (Ok d) a c plain encoded serves seen =
-    let same : d ≡ c = (let both = reading_unique old.version asked (Ok d) (Ok c) encoded seen in cc) in
-    subst (λ (x : Command). Serves IsAdmissibleOutcome old x a new) same serves
-served_by old new asked (Err why) a c plain encoded serves seen = absurd (plain (refusal_of why) serves.0)
-
 -- what a record is read as in the version of the market after its step is what it is read as in that of the market before
 read_before : (old new : Market) (asked : Record) (a : Answer Outcome) (read : Result Command BodyFault) → Step IsReadAs IsAdmissibleOutcome old asked a new → IsReadAs new.version asked read → IsReadAs old.version asked read
 read_before old new asked a read step seen = subst (λ version. IsReadAs version asked read) (step_version IsAdmissibleOutcome IsReadAs old asked a new step) seen
-
-served : (new : Market) (asked : Record) (c : Command) (a : Answer Outcome) → ((refusal : Refusal) → a ≡ Plain (Refused refusal) → ⊥) → IsReadAs new.version asked (Ok c)
-    → (answered : IsAnswered new asked a) → Serves IsAdmissibleOutcome answered.0 c a new
-served new asked c a plain seen answered =
-    let step = answered.1 in
-    served_by answered.0 new asked step.read a c plain step.encoded step.served (read_before answered.0 new asked a (Ok c) step seen)
 
 -- a record that is read as no command is answered by a refusal only
 unserved_by : (old new : Market) (asked : Record) (read : Result Command BodyFault) (a : Answer Outcome) (why : BodyFault) → ((refusal : Refusal) → a ≡ Plain (Refused refusal) → ⊥)
@@ -83,26 +54,12 @@ done_plain refusal same = subst says_done same tt
 pub order_plain : (number : ℕ) (refusal : Refusal) → ◌≡◌ {A = Answer Outcome} (Plain (Order number)) (Plain (Refused refusal)) → ⊥
 order_plain number refusal same = subst says_order same tt
 
-pub done_command : (new : Market) (asked : Record) (c : Command) → IsReadAs new.version asked (Ok c) → IsAnswered new asked (Plain Done) → IsDone c
-done_command new asked c seen answered =
-    let serves = served new asked c (Plain Done) done_plain seen answered in
-    done_answers answered.0 c serves.first (Plain Done) new tt serves.answered
-
-pub placing_command : (new : Market) (asked : Record) (c : Command) (number : ℕ) → IsReadAs new.version asked (Ok c) → IsAnswered new asked (Plain (Order number)) → IsPlacing c
-placing_command new asked c number seen answered =
-    let serves = served new asked c (Plain (Order number)) (order_plain number) seen answered in
-    order_answers answered.0 c serves.first (Plain (Order number)) new tt serves.answered
-
--- a record that is read as no command is refused
-pub done_is_read : (new : Market) (asked : Record) (why : BodyFault) → IsReadAs new.version asked (Err why) → IsAnswered new asked (Plain Done) → ⊥
-done_is_read new asked why seen answered =
-    let step = answered.1 in
-    unserved_by answered.0 new asked step.read (Plain Done) why done_plain step.encoded step.served (read_before answered.0 new asked (Plain Done) (Err why) step seen)
-
-pub order_is_read : (new : Market) (asked : Record) (why : BodyFault) (number : ℕ) → IsReadAs new.version asked (Err why) → IsAnswered new asked (Plain (Order number)) → ⊥
-order_is_read new asked why number seen answered =
-    let step = answered.1 in
-    unserved_by answered.0 new asked step.read (Plain (Order number)) why (order_plain number) step.encoded step.served (read_before answered.0 new asked (Plain (Order number)) (Err why) step seen)
+-- a record that is accepted is read as a command
+pub accepted_is_read : (new : Market) (asked : Record) (why : BodyFault) → IsAccepted new asked → IsReadAs new.version asked (Err why) → ⊥
+accepted_is_read new asked why accepted seen =
+    let old = accepted.2.0 in
+    let step = accepted.2.1 in
+    unserved_by old new asked step.read accepted.0 why accepted.1 step.encoded step.served (read_before old new asked accepted.0 (Err why) step seen)
 
 -- the answer that a valid entry's second record encodes is that of its first
 pub answered : (pair : Record × Record) (asked told : Record) (a : Answer Outcome) (new : Market) → asked ≡ pair.0 → told ≡ pair.1 → EncodesAnswer told a

@@ -1,5 +1,5 @@
 -- The text of an entry of a journal. Numbers are plain decimal; prices, gaps and dual values are in grains, limits in ticks.
-use Rattle.std.specs.Prelude.{◌≡◌, ℕ, List, length, codes, decimal, Option, Ok}
+use Rattle.std.specs.Prelude.{[], ◌≡◌, ℕ, List, length, codes, decimal, Option, Ok}
 use Rattle.std.specs.Fmt.{signed_decimal}
 use Rattle.std.specs.List.{flat_map, range_with_len}
 use Rattle.wire_records.specs.Records.{Record}
@@ -55,41 +55,32 @@ skipped_line batch s =
     codes "batch " then decimal batch then codes " skipped moves " then decimal (length s.trace)
     then codes " duals " then signed_decimal s.start_dual then codes " " then signed_decimal s.end_dual then codes "\n"
 
--- the text of a command that was done, in one line without its end; no other command has one
-abbrev pub TellsDone : List (List ℕ) → Command → List ℕ → Type 0
-TellsDone tickers (DepositMoney account ticks) text = text ≡ money_text (codes "deposit") account ticks
-TellsDone tickers (DepositAsset account asset units) text = text ≡ units_text (codes "deposit") tickers account asset units
-TellsDone tickers (WithdrawMoney account ticks) text = text ≡ money_text (codes "withdraw") account ticks
-TellsDone tickers (WithdrawAsset account asset units) text = text ≡ units_text (codes "withdraw") tickers account asset units
-TellsDone tickers (CancelOrder account number) text = text ≡ codes "cancel order " then decimal number
-TellsDone tickers (AddAsset ticker) text = ⊥
-TellsDone tickers OpenAccount text = ⊥
-TellsDone tickers (Place last request) text = ⊥
-TellsDone tickers (RunBatch budget) text = ⊥
-TellsDone tickers (SetMoneyCredit account ticks) text = text ≡ money_text (codes "credit") account ticks
-TellsDone tickers (SetUnitCredit account asset units) text = text ≡ units_text (codes "credit") tickers account asset units
+-- the text of a command that was accepted, in one line without its end, with the number that its order got; a new asset, a new account and a
+-- batch are told by what they are answered, and have none
+abbrev pub command_text : List (List ℕ) → ℕ → Command → List ℕ
+command_text tickers order (AddAsset ticker) = []
+command_text tickers order OpenAccount = []
+command_text tickers order (DepositMoney account ticks) = money_text (codes "deposit") account ticks
+command_text tickers order (DepositAsset account asset units) = units_text (codes "deposit") tickers account asset units
+command_text tickers order (WithdrawMoney account ticks) = money_text (codes "withdraw") account ticks
+command_text tickers order (WithdrawAsset account asset units) = units_text (codes "withdraw") tickers account asset units
+command_text tickers order (Place last request) = order_text tickers order last request
+command_text tickers order (CancelOrder account number) = codes "cancel order " then decimal number
+command_text tickers order (RunBatch budget) = []
+command_text tickers order (SetMoneyCredit account ticks) = money_text (codes "credit") account ticks
+command_text tickers order (SetUnitCredit account asset units) = units_text (codes "credit") tickers account asset units
 
--- the text of a command that placed the order of a number, in one line without its end; no other command has one
-abbrev pub TellsPlacing : List (List ℕ) → ℕ → Command → List ℕ → Type 0
-TellsPlacing tickers order (Place last request) text = text ≡ order_text tickers order last request
-TellsPlacing tickers order (AddAsset ticker) text = ⊥
-TellsPlacing tickers order OpenAccount text = ⊥
-TellsPlacing tickers order (DepositMoney account ticks) text = ⊥
-TellsPlacing tickers order (DepositAsset account asset units) text = ⊥
-TellsPlacing tickers order (WithdrawMoney account ticks) text = ⊥
-TellsPlacing tickers order (WithdrawAsset account asset units) text = ⊥
-TellsPlacing tickers order (CancelOrder account number) text = ⊥
-TellsPlacing tickers order (RunBatch budget) text = ⊥
-TellsPlacing tickers order (SetMoneyCredit account ticks) text = ⊥
-TellsPlacing tickers order (SetUnitCredit account asset units) text = ⊥
+-- the line of the command that a record is read as in the version of a market, under its tickers, with the number that its order got
+abbrev pub TellsCommand : Market → Record → ℕ → List ℕ → Type 0
+TellsCommand market asked order text = (command : Command) × IsReadAs market.version asked (Ok command) × (text ≡ command_text market.tickers order command then codes "\n")
 
 -- the text of a record and its answer, which follows the entry's number: with the command that the record is read as in
 -- the version of the market after the entry, and under that market's tickers
 abbrev pub Tells : Market → Record → Answer Outcome → List ℕ → Type 0
-Tells market asked (Plain Done) text = (command : Command) × (line : List ℕ) × IsReadAs market.version asked (Ok command) × TellsDone market.tickers command line × (text ≡ line then codes "\n")
+Tells market asked (Plain Done) text = TellsCommand market asked 0 text
 Tells market asked (Plain (Asset asset)) text = text ≡ codes "asset " then decimal asset then codes " " then asset_name market.tickers asset then codes "\n"
 Tells market asked (Plain (Account account)) text = text ≡ codes "account " then decimal account then codes "\n"
-Tells market asked (Plain (Order order)) text = (command : Command) × (line : List ℕ) × IsReadAs market.version asked (Ok command) × TellsPlacing market.tickers order command line × (text ≡ line then codes "\n")
+Tells market asked (Plain (Order order)) text = TellsCommand market asked order text
 Tells market asked (Plain (Refused refusal)) text = text ≡ codes "refused " then decimal (code_of refusal) then codes "\n"
 Tells market asked (Batch batch (Cleared c)) text = text ≡ cleared_lines market.tickers batch c
 Tells market asked (Batch batch (Skipped s)) text = text ≡ skipped_line batch s

@@ -2,12 +2,11 @@
 ghost use Rattle.std.specs.Prelude.{◌≡◌, ◌++◌, ℕ, List, Ok, OnOk, codes, decimal};
 ghost use Rattle.wire_records.specs.Commands.{Plain};
 ghost use Rattle.wire_records.specs.Refusals.{code_of};
-ghost use Rattle.wire_records.specs.declared.reply.Reply.TheVariants as reply;
 ghost use Rattle.wire_records.specs.Versions.{IsReadAs};
 ghost use Rattle.wire_records.specs.Views.{command_of};
 ghost use Rattle.pair_text.specs.Texts.{◌then◌, asset_name};
-ghost use Rattle.batch_report.specs.Reports.{money_text, units_text, numbers_text, order_text, TellsDone, TellsPlacing, Tells};
-ghost use Rattle.batch_report.specs.Private.{IsAnswered, IsDone, IsPlacing};
+ghost use Rattle.batch_report.specs.Reports.{money_text, units_text, numbers_text, order_text, command_text, TellsCommand, Tells};
+ghost use Rattle.batch_report.specs.Private.{IsAnswered, IsAccepted};
 
 use market_core::Market;
 use pair_text::Text;
@@ -42,82 +41,6 @@ fn put_units(
     out.put_number(b" units ", units)
 }
 
-// Appends a command that was done, without the end of its line.
-fn put_command(
-    tickers: &TickerTable,
-    command: &CommandView<'_>,
-    out: &mut Text,
-) -> Result<(), Memory>
-    requires { IsDone (command_of command.now) }
-    ensures before { out.new.before ≡ out.old.before }
-    ensures put { OnOk result ((line : List ℕ) × TellsDone tickers.now (command_of command.now) line
-        × (out.new.text ≡ out.old.text ++ line)) }
-{
-    match *command {
-        CommandView::DepositMoney { account, ticks } => put_money(b"deposit", account, ticks, out),
-        CommandView::DepositAsset {
-            account,
-            asset,
-            units,
-        } => put_units(b"deposit", tickers, account, asset, units, out),
-        CommandView::WithdrawMoney { account, ticks } => {
-            put_money(b"withdraw", account, ticks, out)
-        }
-        CommandView::WithdrawAsset {
-            account,
-            asset,
-            units,
-        } => put_units(b"withdraw", tickers, account, asset, units, out),
-        CommandView::CancelOrder { order, .. } => out.put_number(b"cancel order ", order),
-        CommandView::SetMoneyCredit { account, ticks } => put_money(b"credit", account, ticks, out),
-        CommandView::SetUnitCredit {
-            account,
-            asset,
-            units,
-        } => put_units(b"credit", tickers, account, asset, units, out),
-        CommandView::AddAsset(_) => unreachable!(),
-        CommandView::OpenAccount => unreachable!(),
-        CommandView::PlaceOrder(_) => unreachable!(),
-        CommandView::RunBatch { .. } => unreachable!(),
-        CommandView::PlaceUntil { .. } => unreachable!(),
-    }
-}
-
-// Returns the command of a record that was answered by `Done`.
-fn done_command<'a>(market: &Market, asked: &RecordView<'a>) -> CommandView<'a>
-    requires { IsAnswered market.now asked.now (Plain reply.Done) }
-    ensures read { IsReadAs market.now.version asked.now (Ok (command_of result)) }
-    ensures done { IsDone (command_of result) }
-{
-    match market.read(asked) {
-        Ok(command) => command,
-        Err(_) => unreachable!(),
-    }
-}
-
-// Returns the command of a record that was answered by an order's number.
-fn placing_command<'a>(market: &Market, asked: &RecordView<'a>) -> CommandView<'a>
-    requires { (number : ℕ) × IsAnswered market.now asked.now (Plain (reply.Order number)) }
-    ensures read { IsReadAs market.now.version asked.now (Ok (command_of result)) }
-    ensures placing { IsPlacing (command_of result) }
-{
-    match market.read(asked) {
-        Ok(command) => command,
-        Err(_) => unreachable!(),
-    }
-}
-
-// Appends the line of a command that was done.
-fn put_done(market: &Market, asked: &RecordView<'_>, out: &mut Text) -> Result<(), Memory>
-    requires { IsAnswered market.now asked.now (Plain reply.Done) }
-    ensures before { out.new.before ≡ out.old.before }
-    ensures put { OnOk result ((text : List ℕ) × Tells market.now asked.now (Plain reply.Done) text
-        × (out.new.text ≡ out.old.text ++ text)) }
-{
-    put_command(market.tickers(), &done_command(market, asked), out)?;
-    out.put(b"\n")
-}
-
 // Appends an order's number, and the numbers of its request.
 fn put_numbers(place: &PlaceView<'_>, order: u64, out: &mut Text) -> Result<(), Memory>
     ensures before { out.new.before ≡ out.old.before }
@@ -147,51 +70,74 @@ fn put_order(
     out.put_entries(tickers, &place.row())
 }
 
-// Appends the order that a command places, under its number.
-fn put_placing(
+// Appends a command that was accepted, without the end of its line, with the number that its order got.
+fn put_command(
     tickers: &TickerTable,
     command: &CommandView<'_>,
     order: u64,
     out: &mut Text,
 ) -> Result<(), Memory>
-    requires { IsPlacing (command_of command.now) }
     ensures before { out.new.before ≡ out.old.before }
-    ensures put { OnOk result ((line : List ℕ) × TellsPlacing tickers.now order (command_of command.now) line
-        × (out.new.text ≡ out.old.text ++ line)) }
+    ensures put { OnOk result (out.new.text ≡ out.old.text ++ command_text tickers.now order (command_of command.now)) }
 {
     match *command {
+        CommandView::DepositMoney { account, ticks } => put_money(b"deposit", account, ticks, out),
+        CommandView::DepositAsset {
+            account,
+            asset,
+            units,
+        } => put_units(b"deposit", tickers, account, asset, units, out),
+        CommandView::WithdrawMoney { account, ticks } => {
+            put_money(b"withdraw", account, ticks, out)
+        }
+        CommandView::WithdrawAsset {
+            account,
+            asset,
+            units,
+        } => put_units(b"withdraw", tickers, account, asset, units, out),
         CommandView::PlaceOrder(ref place) => put_order(tickers, None, place, order, out),
+        CommandView::CancelOrder { order, .. } => out.put_number(b"cancel order ", order),
         CommandView::PlaceUntil { last, ref place } => {
             put_order(tickers, Some(last), place, order, out)
         }
-        CommandView::AddAsset(_) => unreachable!(),
-        CommandView::OpenAccount => unreachable!(),
-        CommandView::DepositMoney { .. } => unreachable!(),
-        CommandView::DepositAsset { .. } => unreachable!(),
-        CommandView::WithdrawMoney { .. } => unreachable!(),
-        CommandView::WithdrawAsset { .. } => unreachable!(),
-        CommandView::CancelOrder { .. } => unreachable!(),
-        CommandView::RunBatch { .. } => unreachable!(),
-        CommandView::SetMoneyCredit { .. } => unreachable!(),
-        CommandView::SetUnitCredit { .. } => unreachable!(),
+        CommandView::SetMoneyCredit { account, ticks } => put_money(b"credit", account, ticks, out),
+        CommandView::SetUnitCredit {
+            account,
+            asset,
+            units,
+        } => put_units(b"credit", tickers, account, asset, units, out),
+        CommandView::AddAsset(_) => Ok(()),
+        CommandView::OpenAccount => Ok(()),
+        CommandView::RunBatch { .. } => Ok(()),
     }
 }
 
-// Appends the line of an order.
-fn put_placed(
+// Returns the command of a record that was accepted.
+fn accepted_command<'a>(market: &Market, asked: &RecordView<'a>) -> CommandView<'a>
+    requires { IsAccepted market.now asked.now }
+    ensures { IsReadAs market.now.version asked.now (Ok (command_of result)) }
+{
+    match market.read(asked) {
+        Ok(command) => command,
+        Err(_) => unreachable!(),
+    }
+}
+
+// Appends the line of a command that was accepted, with the number that its order got.
+fn put_accepted(
     market: &Market,
     asked: &RecordView<'_>,
     order: u64,
     out: &mut Text,
 ) -> Result<(), Memory>
-    requires { IsAnswered market.now asked.now (Plain (reply.Order order)) }
+    requires { IsAccepted market.now asked.now }
     ensures before { out.new.before ≡ out.old.before }
-    ensures put { OnOk result ((text : List ℕ) × Tells market.now asked.now (Plain (reply.Order order)) text
+    ensures put { OnOk result ((text : List ℕ) × TellsCommand market.now asked.now order text
         × (out.new.text ≡ out.old.text ++ text)) }
 {
-    put_placing(
+    put_command(
         market.tickers(),
-        &placing_command(market, asked),
+        &accepted_command(market, asked),
         order,
         out,
     )?;
@@ -240,10 +186,10 @@ pub(crate) fn put_plain(
         × (out.new.text ≡ out.old.text ++ text)) }
 {
     match told {
-        Reply::Done => put_done(market, asked, out),
+        Reply::Done => put_accepted(market, asked, 0, out),
         Reply::Asset(asset) => put_asset(market.tickers(), asset, out),
         Reply::Account(account) => put_account(account, out),
-        Reply::Order(order) => put_placed(market, asked, order, out),
+        Reply::Order(order) => put_accepted(market, asked, order, out),
         Reply::Refused(refusal) => put_refused(refusal, out),
     }
 }
