@@ -9,8 +9,9 @@ ghost use Rattle.flow_orders.specs.Outcomes.{residuals_of};
 ghost use Rattle.flow_orders.specs.Residuals.{residual_in};
 ghost use Rattle.flow_orders.specs.Trades.{Trade, trades, staying, going_on, paid};
 ghost use Rattle.order_book.specs.Book.{HasOrder, without};
+ghost use Rattle.market_rules.specs.Step.{ordered};
 ghost use Rattle.statement_rules.specs.Views.{Adds, Clears};
-ghost use Rattle.statement_rules.specs.Holdings.{changed, ordered, after};
+ghost use Rattle.statement_rules.specs.Holdings.{changed, after};
 ghost use Rattle.account_statement.specs.Telling.{holding_of};
 ghost use Rattle.account_statement.specs.Private.{event_of, AreAlike, MayPlace, MayChange, MayTake, MayClear, rates_for, fills_for, trades_for};
 

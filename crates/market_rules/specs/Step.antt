@@ -35,10 +35,11 @@ abbrev pub ◌unless◌else◌ : Refusal → Type 0 → (Option Refusal → Type
 abbrev pub accept : Option Refusal → Type 0
 accept first = first ≡ None
 
--- the order that a request places: limits in grains, nothing filled, and the last batch in which it trades, or 0 if it has none
-abbrev pub placed : Market → Option ℕ → Request → Order
-placed market last r = record {
-  number = market.next_order;
+-- the order that is placed on a request under a number: limits in grains, nothing filled, and the last batch in which it trades, or 0 if it
+-- has none
+abbrev pub ordered : ℕ → Option ℕ → Request → Order
+ordered number last r = record {
+  number = number;
   account = r.account;
   low = price_of_ticks r.low;
   high = price_of_ticks r.high;
@@ -48,6 +49,10 @@ placed market last r = record {
   row = r.row;
   last = unwrap_or last 0;
 }
+
+-- the same under the next number of a market, for the proofs
+abbrev pub placed : Market → Option ℕ → Request → Order
+placed m last r = ordered m.next_order last r
 
 -- its account, credit included, has what the order needs beside what the account's other orders need, of money and of each asset
 abbrev pub IsAffordable : Market → Order → Type 0
@@ -102,7 +107,7 @@ FirstRefusal m (Place last r) =
     BadLimits unless AreLimits r.low r.high else
     BadRate unless IsFrom1To most_rate r.rate else
     BadCap unless IsFrom1To most_cap r.cap else
-    BadLast unless IfSome last (λ batch. m.batches < batch) else RefusesRow m (placed m last r)
+    BadLast unless IfSome last (λ batch. m.batches < batch) else RefusesRow m (ordered m.next_order last r)
 FirstRefusal m (CancelOrder account number) =
     NoAccount unless IsAccount m.balances account else
     NoOrder unless HasOrder m.orders account number else accept
@@ -149,7 +154,7 @@ Accepts Rule m (DepositMoney account ticks) = gives (Plain reply.Done) (record m
 Accepts Rule m (DepositAsset account asset units) = gives (Plain reply.Done) (record m { balances = change_balance m.balances account (Some asset) (value_of (Some asset) units) })
 Accepts Rule m (WithdrawMoney account ticks) = gives (Plain reply.Done) (record m { balances = change_balance m.balances account None (neg_ℤ (value_of None ticks)) })
 Accepts Rule m (WithdrawAsset account asset units) = gives (Plain reply.Done) (record m { balances = change_balance m.balances account (Some asset) (neg_ℤ (value_of (Some asset) units)) })
-Accepts Rule m (Place last r) = gives (Plain (reply.Order m.next_order)) (record m { orders = m.orders ++ placed m last r ∷ []; next_order = m.next_order + 1 })
+Accepts Rule m (Place last r) = gives (Plain (reply.Order m.next_order)) (record m { orders = m.orders ++ ordered m.next_order last r ∷ []; next_order = m.next_order + 1 })
 Accepts Rule m (CancelOrder account number) = gives (Plain reply.Done) (record m { orders = without m.orders number })
 Accepts Rule m (RunBatch budget) = holds_batch Rule m budget
 Accepts Rule m (SetMoneyCredit account ticks) = gives (Plain reply.Done) (record m { balances = set_credit m.balances account None ticks })

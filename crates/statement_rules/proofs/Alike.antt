@@ -11,7 +11,8 @@ use Rattle.flow_accounts.specs.Balances.{IsAsset, value_of}
 use Rattle.market_rules.specs.Market.{Market}
 use Rattle.pair_text.specs.Texts.{◌then◌, asset_name}
 use Rattle.statement_rules.specs.Views.{Event, Adds, Opens, Deposits, Withdraws, Credits, Places, Cancels, Refuses, Clears, Skips}
-use Rattle.statement_rules.specs.Holdings.{Holding, changed, ordered, after, IsHeld}
+use Rattle.market_rules.specs.Step.{ordered}
+use Rattle.statement_rules.specs.Holdings.{Holding, changed, after, IsHeld}
 use Rattle.statement_rules.specs.Statements.{event_lines, lines_from, asset_line, amount_line, placed_line, cost_line, end_lines, reserved_balance}
 use Rattle.statement_rules.specs.Laws.{HoldingsTellAlike}
 

@@ -1,14 +1,14 @@
 -- What an account has, as its view alone says.
-use Rattle.std.specs.Prelude.{◌≡◌, ℕ, ◌<◌, ◌==◌, Bool, true, false, if◌then◌else◌, ℤ, pos, neg_ℤ, ◌+ℤ◌, ◌-ℤ◌, List, [], ◌∷◌, ◌++◌, length, Option, Some, None, unwrap_or}
+use Rattle.std.specs.Prelude.{◌≡◌, ℕ, ◌<◌, ◌==◌, Bool, true, false, if◌then◌else◌, ℤ, pos, neg_ℤ, ◌+ℤ◌, ◌-ℤ◌, List, [], ◌∷◌, ◌++◌, length, Option, Some, None}
 use Rattle.std.specs.List.{filter}
 use Rattle.list_sums.specs.Sums.{int_sum_by}
-use Rattle.wire_records.specs.Commands.{Request}
 use Rattle.flow_accounts.specs.Balances.{IsAsset, value_of, balance_of}
-use Rattle.flow_orders.specs.Orders.{Order, price_of_ticks}
+use Rattle.flow_orders.specs.Orders.{Order}
 use Rattle.flow_orders.specs.Outcomes.{trades_of}
 use Rattle.flow_orders.specs.Trades.{paid, received, staying, going_on}
 use Rattle.order_book.specs.Book.{without}
 use Rattle.market_rules.specs.Market.{Market}
+use Rattle.market_rules.specs.Step.{ordered}
 use Rattle.statement_rules.specs.Views.{Event, Adds, Opens, Deposits, Withdraws, Credits, Places, Cancels, Refuses, Clears, Skips, is_there}
 
 -- the tickers that were added, whether the account was opened, its money in grains, its units of each asset, and its live orders
@@ -27,20 +27,6 @@ nothing = record { tickers = []; is_open = false; money = pos 0; units = λ asse
 abbrev pub changed : Holding → Option ℕ → ℤ → Holding
 changed h None amount = record h { money = h.money +ℤ amount }
 changed h (Some named) amount = record h { units = λ asset. if asset == named then h.units asset +ℤ amount else h.units asset }
-
--- the order that was placed on a request under a number, with its last batch, or 0 if it has none
-abbrev pub ordered : ℕ → Option ℕ → Request → Order
-ordered number last r = record {
-  number = number;
-  account = r.account;
-  low = price_of_ticks r.low;
-  high = price_of_ticks r.high;
-  rate = r.rate;
-  cap = r.cap;
-  filled = 0;
-  row = r.row;
-  last = unwrap_or last 0;
-}
 
 -- what the account has after an event: nothing of an asset that is added; credits and refusals change nothing; a batch that clears takes
 -- what its trades cost and brings their units, and any batch removes the orders whose last batch it was
