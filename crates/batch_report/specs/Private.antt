@@ -17,6 +17,6 @@ fill_at fills place = slice_index_or fills place (record { order = 0; rate = 0 }
 abbrev pub IsAnswered : Market → Record → Answer Outcome → Type 0
 IsAnswered new asked answer = (old : Market) × Step IsReadAs IsAdmissibleOutcome old asked answer new
 
--- the same, and the answer is no refusal
+-- a step of some market answers the record, by no refusal, and this is the market after it
 abbrev pub IsAccepted : Market → Record → Type 0
 IsAccepted new asked = (answer : Answer Outcome) × ((refusal : Refusal) → ¬ ◌≡◌ {A = Answer Outcome} answer (Plain (Refused refusal))) × IsAnswered new asked answer

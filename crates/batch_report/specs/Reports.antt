@@ -56,7 +56,7 @@ skipped_line batch s =
     then codes " duals " then signed_decimal s.start_dual then codes " " then signed_decimal s.end_dual then codes "\n"
 
 -- the text of a command that was accepted, in one line without its end, with the number that its order got; a new asset, a new account and a
--- batch are told by what they are answered, and have none
+-- batch are told by what they are answered, so nothing is here, and no valid entry has it
 abbrev pub command_text : List (List ℕ) → ℕ → Command → List ℕ
 command_text tickers order (AddAsset ticker) = []
 command_text tickers order OpenAccount = []
@@ -70,7 +70,8 @@ command_text tickers order (RunBatch budget) = []
 command_text tickers order (SetMoneyCredit account ticks) = money_text (codes "credit") account ticks
 command_text tickers order (SetUnitCredit account asset units) = units_text (codes "credit") tickers account asset units
 
--- the line of the command that a record is read as in the version of a market, under its tickers, with the number that its order got
+-- the line of the command that a record is read as in the version of a market, under its tickers, with the number that its order got, or 0
+-- where no order was placed
 abbrev pub TellsCommand : Market → Record → ℕ → List ℕ → Type 0
 TellsCommand market asked order text = (command : Command) × IsReadAs market.version asked (Ok command) × (text ≡ command_text market.tickers order command then codes "\n")
 

@@ -99,7 +99,7 @@ impl Session {
     /// record's body has at most 1,024 bytes, and the number that the next order gets is below 2^64 - 1; so the entry
     /// is one that a journal may have.
     ///
-    /// The cost is that of the record, however many accounts and orders there are, for a cancel on average. A batch
+    /// The cost is that of the record, however many accounts and orders there are, for a cancel or a credit on average. A batch
     /// also closes the gaps that cancelled orders left, goes over all live orders, and for each move of a price over
     /// those with a leg of its asset.
     ///

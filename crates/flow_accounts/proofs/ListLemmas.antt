@@ -1,7 +1,5 @@
 -- What a change of a list leaves at each place.
-use Rattle.std.proofs.Common.{◌≡◌, ℕ, zero, suc, ◌≤◌, ℤ, pos, List, [], ◌∷◌, ◌++◌, map, replicate, get_or, set, refl, sym, subst, ⊎_elim}
-use Rattle.std.proofs.lemmas.Bool.{cases_lt}
-use Rattle.std.proofs.lemmas.List.{get_or-replicate, get_or_past, length-replicate}
+use Rattle.std.proofs.Common.{◌≡◌, ℕ, zero, suc, ℤ, pos, List, [], ◌∷◌, ◌++◌, map, replicate, get_or, set, refl}
 
 -- a function of the element at any place, also past the end
 module _ {X Y : Type 0} (g : X → Y) where
@@ -23,9 +21,15 @@ module _ {X Y : Type 0} (g : X → Y) where
   get_or-set_kept (x ∷ xs) (suc k) y d zero same = refl
   get_or-set_kept (x ∷ xs) (suc k) y d (suc i) same = get_or-set_kept xs k y d i same
 
--- zeros are 0 at each place, and past their end
+-- any number of one value: it is read at each place, and past the end
+pub any_of_one : {X : Type 0} (n k : ℕ) (d : X) → get_or (replicate n d) k d ≡ d
+any_of_one zero k d = refl
+any_of_one (suc n) zero d = refl
+any_of_one (suc n) (suc k) d = any_of_one n k d
+
+-- zeros
 pub zero_at : (n k : ℕ) → get_or (replicate n (pos 0)) k (pos 0) ≡ pos 0
-zero_at n k = ⊎_elim (λ below. get_or-replicate n k (pos 0) (pos 0) below) (λ past. get_or_past (replicate n (pos 0)) k (pos 0) (subst (λ m. m ≤ k) (sym (length-replicate n (pos 0))) past)) (cases_lt k n)
+zero_at n k = any_of_one n k (pos 0)
 
 -- a zero that is pushed changes no element
 pub zero_pushed : (xs : List ℤ) (k : ℕ) → get_or (xs ++ pos 0 ∷ []) k (pos 0) ≡ get_or xs k (pos 0)

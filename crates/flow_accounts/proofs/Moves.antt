@@ -1,8 +1,7 @@
 -- What each operation on balances changes.
-use Rattle.std.proofs.Common.{◌≡◌, ◌≢◌, ℕ, ◌+◌, ◌-◌, ◌<◌, ◌≤◌, ℤ, pos, ◌+ℤ◌, List, [], ◌∷◌, ◌++◌, replicate, length, get_or, set, refl, ap, sym, subst, ⊎_elim, ◌∙◌, arith, Some}
-use Rattle.std.proofs.lemmas.Bool.{cases_lt}
+use Rattle.std.proofs.Common.{◌≡◌, ◌≢◌, ℕ, ◌+◌, ◌-◌, ◌<◌, ℤ, pos, ◌+ℤ◌, List, [], ◌∷◌, ◌++◌, replicate, length, get_or, set, refl, ap, sym, subst, ◌∙◌, arith, Some}
 use Rattle.std.proofs.lemmas.Int.{ints}
-use Rattle.std.proofs.lemmas.List.{get_or-set_same, get_or-set_other, get_or_push, get_or_past, get_or-replicate, length-replicate, length-set, length-map, length_push}
+use Rattle.std.proofs.lemmas.List.{get_or-set_same, get_or-set_other, get_or_push, get_or_past, length-set, length-map, length_push}
 use Rattle.std.specs.List.{All}
 use Rattle.flow_accounts.specs.Balances.{Account, Credit, Balances, IsAccount, IsAsset, account_count, asset_count, empty_account, no_credit, with_asset, with_credit_place, account_of, credit_of, credit_in, units_in, total_units_of, open_account, add_asset}
 use Rattle.flow_accounts.specs.Changes.{KeepsBalances}
@@ -10,7 +9,7 @@ use Rattle.flow_accounts.specs.Lawful.{AreLawful, IsLawfulAccount, IsLawfulCredi
 use Rattle.flow_accounts.specs.Laws.{AccountsOpenEmpty, AssetsStartAtZero, MoneyMoves, UnitsMove, MoneyChanges, UnitsChange}
 use Rattle.flow_accounts.proofs.Balance.{lawful_account, lawful_credit}
 use Rattle.list_sums.proofs.SumLemmas.{int_sum_by-push, int_sum_by-set, int_sum_by-set_same, int_sum_by-map_same, int_sum_by-zeros}
-use Rattle.flow_accounts.proofs.ListLemmas.{get_or-push_same, get_or-map_same, get_or-set_kept, zero_at, zero_pushed}
+use Rattle.flow_accounts.proofs.ListLemmas.{any_of_one, get_or-push_same, get_or-map_same, get_or-set_kept, zero_at, zero_pushed}
 
 -- an account that is there has its place
 place : (b : Balances) (account : ℕ) → IsAccount b account → account - 1 < length b.accounts
@@ -103,9 +102,7 @@ units_change b account asset amount lawful there is_asset =
 
 -- zeros are 0 at each place, and past their end
 pub none_at : (n k : ℕ) → ◌≡◌ {A = ℕ} (get_or (replicate n 0) k 0) 0
-none_at n k =
-    let none : ℕ = 0 in
-    ⊎_elim (λ below. get_or-replicate n k none none below) (λ past. get_or_past (replicate n none) k none (subst (λ m. m ≤ k) (sym (length-replicate n none)) past)) (cases_lt k n)
+none_at n k = any_of_one n k 0
 
 -- opening an account changes no balance and no credit
 pub opened_kept : (b : Balances) → KeepsBalances b (open_account b)

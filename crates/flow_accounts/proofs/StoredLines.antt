@@ -1,51 +1,23 @@
 -- The lines of all accounts while some of them are stored.
-use Rattle.std.proofs.Common.{◌≡◌, ◌+◌, ◌-◌, ◌≤◌, ◌<◌, ℕ, zero, suc, List, [], ◌∷◌, ◌++◌, Vec, vec_len, length, length-append, append_assoc, replicate, get_or, set, refl, sym, ap, ◌∙◌, arith}
-use Rattle.std.proofs.lemmas.List.{length-replicate}
+use Rattle.std.proofs.Common.{◌≡◌, ◌+◌, ◌-◌, ◌≤◌, ◌<◌, ℕ, List, ◌++◌, Vec, vec_len, length, length-append, append_assoc, replicate, get_or, set, refl, sym, ap, ◌∙◌, arith}
+use Rattle.std.proofs.lemmas.List.{length-replicate, get_or_append_left, get_or-append_right, set-append_left, replicate-append-replicate}
 use Rattle.std.specs.Vec.{with_item}
 use Rattle.std.specs.Global.{Global}
 use Rattle.flow_accounts.specs.declared.credit_lines.CreditLine.{CreditLine}
 use Rattle.flow_accounts.specs.declared.credit_lines.CreditLines.TheInside.{Inside}
 use Rattle.flow_accounts.specs.NoCredit.{no_line}
 use Rattle.flow_accounts.specs.CreditLines.{lines_in, AreStored}
+use Rattle.flow_accounts.proofs.ListLemmas.{any_of_one}
 
--- any number of one value, read at any place
-any_of_one : {X : Type 0} (n k : ℕ) (d : X) → get_or (replicate n d) k d ≡ d
-any_of_one zero k d = refl
-any_of_one (suc n) zero d = refl
-any_of_one (suc n) (suc k) d = any_of_one n k d
-
--- behind a list, the same
+-- behind a list, where one value stands any number of times, that value is read at any place
 pub behind : {X : Type 0} (xs : List X) (n k : ℕ) (d : X) → length xs ≤ k → get_or (xs ++ replicate n d) k d ≡ d
-behind [] n k d past = any_of_one n k d
-behind (x ∷ xs) n zero d past = absurd (omega (arith, past))
-behind (x ∷ xs) n (suc k) d past = behind xs n k d (omega (arith, past))
-
--- in a list that others follow
-pub within : {X : Type 0} (xs ys : List X) (k : ℕ) (d : X) → k < length xs → get_or (xs ++ ys) k d ≡ get_or xs k d
-within [] ys k d there = absurd (omega (arith, there))
-within (x ∷ xs) ys zero d there = refl
-within (x ∷ xs) ys (suc k) d there = within xs ys k d (omega (arith, there))
-
-pub set_within : {X : Type 0} (xs ys : List X) (k : ℕ) (x : X) → k < length xs → set (xs ++ ys) k x ≡ set xs k x ++ ys
-set_within [] ys k x there = absurd (omega (arith, there))
-set_within (y ∷ xs) ys zero x there = refl
-set_within (y ∷ xs) ys (suc k) x there = ap (λ zs. y ∷ zs) (set_within xs ys k x (omega (arith, there)))
-
--- one more of a value
-pub one_more : {X : Type 0} (n : ℕ) (d : X) → replicate n d ++ d ∷ [] ≡ replicate (suc n) d
-one_more zero d = refl
-one_more (suc n) d = ap (λ xs. d ∷ xs) (one_more n d)
-
--- so many and so many of a value
-pub together : {X : Type 0} (m n : ℕ) (d : X) → replicate m d ++ replicate n d ≡ replicate (m + n) d
-together zero n d = ap (λ k. replicate k d) (let e : n ≡ 0 + n = omega arith in e)
-together (suc m) n d = ap (λ xs. d ∷ xs) (together m n d) ∙ ap (λ k. replicate k d) (let e : suc (m + n) ≡ suc m + n = omega arith in e)
+behind xs n k d past = get_or-append_right xs (replicate n d) (length xs) k d refl past ∙ any_of_one n (k - length xs) d
 
 -- the lines are the same if more of them are stored
 stored_more : (xs : List CreditLine) (n m count : ℕ) → n + m ≤ count → (xs ++ replicate m no_line) ++ replicate (count - (n + m)) no_line ≡ xs ++ replicate (count - n) no_line
 stored_more xs n m count few =
     let rest : m + (count - (n + m)) ≡ count - n = omega (arith, few) in
-    append_assoc xs (replicate m no_line) (replicate (count - (n + m)) no_line) ∙ ap (λ ys. xs ++ ys) (together m (count - (n + m)) no_line ∙ ap (λ k. replicate k no_line) rest)
+    append_assoc xs (replicate m no_line) (replicate (count - (n + m)) no_line) ∙ ap (λ ys. xs ++ ys) (replicate-append-replicate m (count - (n + m)) no_line ∙ ap (λ k. replicate k no_line) rest)
 
 -- A line is written once it is stored.
 pub record IsWritten (c : Inside) (grown : Vec CreditLine Global) (place : ℕ) (new : CreditLine) : Type 0 where
@@ -66,7 +38,7 @@ is_written c grown place new kept there stored =
     let same : grown.items ++ replicate (c.count - vec_len grown) no_line ≡ lines_in c =
     ap (λ ys. ys ++ replicate (c.count - vec_len grown) no_line) stored ∙ ap (λ k. (xs ++ replicate m no_line) ++ replicate (c.count - k) no_line) (grown.ok.0 ∙ grown_len) ∙ stored_more xs n m c.count few in
     record {
-      written = sym (set_within grown.items (replicate (c.count - vec_len grown) no_line) place new here) ∙ ap (λ ys. set ys place new) same;
-      read = sym (within grown.items (replicate (c.count - vec_len grown) no_line) place no_line here) ∙ ap (λ ys. get_or ys place no_line) same;
+      written = sym (set-append_left grown.items (replicate (c.count - vec_len grown) no_line) place new here) ∙ ap (λ ys. set ys place new) same;
+      read = sym (get_or_append_left grown.items (replicate (c.count - vec_len grown) no_line) no_line place here) ∙ ap (λ ys. get_or ys place no_line) same;
       there = here;
     }

@@ -8,7 +8,7 @@ use Rattle.flow_accounts.specs.NoCredit.{no_line}
 abbrev pub lines_in : Inside → List CreditLine
 lines_in c = c.stored.items ++ replicate (c.count - vec_len c.stored) no_line
 
--- no more lines are stored than there are accounts, and all could be
+-- no more lines are stored than there are accounts, and there is room for all
 pub record AreStored (c : Inside) : Type 0 where
   pub few : vec_len c.stored ≤ c.count
   pub room : c.count ≤ vec_capacity c.stored

@@ -22,11 +22,11 @@
 //!
 //! Every call takes the same time however many accounts and assets there are, with two exceptions. Opening an
 //! account sometimes moves all of them to larger blocks. Setting a credit stores the credits of the accounts
-//! before its own that aren't stored yet, each of them once, so a call takes the same time on average.
+//! up to its own that aren't stored yet, each of them once, so a call takes the same time on average.
 //!
 //! An account takes 1,048 bytes, which include the places for all 64 assets: 528 for its balances in one block, and
-//! 520 for its credits in another. The second block has a place for each account, but isn't touched after the last
-//! account that was given credit; a system that gives a program its pages when they are touched gives none for that part.
+//! 520 for its credits in another. The second block has a place for each account, but nothing is written there after the
+//! last account that was given credit; most systems give next to no memory for what isn't written.
 //! A block doubles as it grows, so it has up to twice the bytes of its accounts; 65,536 of them take 65.5 MiB
 //! in both. While a block is moved, the smaller one is there too.
 //! Only [`Accounts::add_account`] and [`Accounts::restore`] allocate.

@@ -127,7 +127,7 @@ impl Market {
     ///
     /// The cost is that of the command's own fields, however many accounts and orders there are. For a cancel that is
     /// the average cost: the gaps that cancelled orders leave are closed together, at the latest when there are as many
-    /// gaps as live orders.
+    /// gaps as live orders. So it is for a credit: the credits of the accounts before its own are stored first, each once.
     #[inline(always)]
     pub fn apply(&mut self, command: &CommandView<'_>) -> Result<Reply, Memory>
         requires command { IsCommand (command_of command.now) }

@@ -35,8 +35,8 @@ abbrev pub ◌unless◌else◌ : Refusal → Type 0 → (Option Refusal → Type
 abbrev pub accept : Option Refusal → Type 0
 accept first = first ≡ None
 
--- the order that is placed on a request under a number: limits in grains, nothing filled, and the last batch in which it trades, or 0 if it
--- has none
+-- the order that is placed on a request under a number: its limits in grains, nothing filled, and the last batch in which it trades, 0 if
+-- it has none
 abbrev pub ordered : ℕ → Option ℕ → Request → Order
 ordered number last r = record {
   number = number;
@@ -50,7 +50,7 @@ ordered number last r = record {
   last = unwrap_or last 0;
 }
 
--- the same under the next number of a market, for the proofs
+-- the same under a market's next number, for the contracts and proofs of the market's own calls
 abbrev pub placed : Market → Option ℕ → Request → Order
 placed m last r = ordered m.next_order last r
 

@@ -1,13 +1,35 @@
 -- Requests from their encodings.
 use Rattle.std.proofs.Common.{◌≡◌, ◌+◌, ◌*◌, ℕ, ℤ, List, [], ◌++◌, length, length-append, append_assoc, sym, ap, ◌∙◌, arith}
 use Rattle.std.proofs.lemmas.List.{append-nil}
-use Rattle.wire_fields.specs.Numbers.{unsigned, signed}
+use Rattle.wire_fields.specs.Numbers.{unsigned, signed, IsUnsigned, IsSigned}
 use Rattle.wire_fields.proofs.Encoding.{length-unsigned, length-signed, unsigned_unique, signed_unique}
 use Rattle.weight_rows.specs.declared.entries.Entry.{Entry}
 use Rattle.wire_records.specs.Commands.{Request}
 use Rattle.wire_records.specs.Bodies.{entry_encoding, request_encoding, IsEntry, IsRequest}
-use Rattle.wire_records.specs.Private.{Numbers, FitNumbers, numbers_and}
 use Rattle.wire_records.proofs.CodeLaws.{counted_unique, counted_size}
+
+-- the numbers of a request, and how many legs it has
+pub record Numbers : Type 0 where
+  pub account : ℕ
+  pub low : ℤ
+  pub high : ℤ
+  pub rate : ℕ
+  pub cap : ℕ
+  pub count : ℕ
+
+-- they are in the ranges of their fields
+pub record FitNumbers (n : Numbers) : Type 0 where
+  pub account : IsUnsigned 4 n.account
+  pub low : IsSigned 8 n.low
+  pub high : IsSigned 8 n.high
+  pub rate : IsUnsigned 4 n.rate
+  pub cap : IsUnsigned 8 n.cap
+  pub count : IsUnsigned 1 n.count
+
+-- the encoding of the numbers of a request, and the bytes after it
+abbrev pub numbers_and : Numbers → List ℕ → List ℕ
+numbers_and n rest =
+    unsigned 4 n.account ++ (signed 8 n.low ++ (signed 8 n.high ++ (unsigned 4 n.rate ++ (unsigned 8 n.cap ++ (unsigned 1 n.count ++ rest)))))
 
 -- legs with the same parts are the same
 pub same_entry : (e f : Entry) → e.asset ≡ f.asset → e.weight ≡ f.weight → e ≡ f

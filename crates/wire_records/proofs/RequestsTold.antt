@@ -11,10 +11,10 @@ use Rattle.weight_rows.specs.declared.entries.Entry.{Entry}
 use Rattle.wire_records.specs.Records.{AreBytes}
 use Rattle.wire_records.specs.Commands.{Request}
 use Rattle.wire_records.specs.Bodies.{request_encoding, entry_encoding}
-use Rattle.wire_records.specs.Private.{Numbers, FitNumbers, numbers_and, entries_in, request_in, HoldRequest, EncodeEntries, EncodesRequest, EncodesNoRequest, EncodesUntil, EncodesNoUntil}
+use Rattle.wire_records.specs.Private.{entries_in, request_in, HoldRequest, EncodeEntries, EncodesRequest, EncodesNoRequest, EncodesUntil, EncodesNoUntil}
 use Rattle.wire_records.proofs.CodeLaws.{counted_size}
 use Rattle.wire_records.proofs.Fields.{prefix_number}
-use Rattle.wire_records.proofs.Requests.{numbers_of, fit_numbers, numbers_unique, entry_size, request_size}
+use Rattle.wire_records.proofs.Requests.{Numbers, FitNumbers, numbers_and, numbers_of, fit_numbers, numbers_unique, entry_size, request_size}
 use Rattle.wire_records.proofs.Entries.{entries_encoded, length-entries}
 
 -- the request of these numbers and legs

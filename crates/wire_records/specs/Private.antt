@@ -1,8 +1,8 @@
 -- What the views of requests and of their legs are made of.
-use Rattle.std.specs.Prelude.{◌≡◌, ◌⊎◌, ℕ, ◌+◌, ◌*◌, ◌++◌, ℤ, List, [], ◌∷◌, length, drop, All, None, Some}
+use Rattle.std.specs.Prelude.{◌≡◌, ◌⊎◌, ℕ, ◌+◌, ◌*◌, ◌++◌, List, [], ◌∷◌, length, drop, All, None, Some}
 use Rattle.std.specs.List.{flat_map}
 use Rattle.std.specs.Int.{cast_signed, w32, w64}
-use Rattle.wire_fields.specs.Numbers.{unsigned, signed, IsUnsigned, IsSigned}
+use Rattle.wire_fields.specs.Numbers.{unsigned, IsUnsigned}
 use Rattle.byte_places.specs.Places.{unsigned_at, signed_at}
 use Rattle.weight_rows.specs.declared.entries.Entry.{Entry}
 use Rattle.wire_records.specs.Records.{AreBytes}
@@ -38,29 +38,6 @@ request_in bytes = record {
 pub record HoldRequest (bytes : List ℕ) : Type 0 where
   pub small : AreBytes bytes
   pub size : length bytes ≡ 33 + 6 * unsigned_at 1 32 bytes
-
--- the numbers of a request, and how many legs it has
-pub record Numbers : Type 0 where
-  pub account : ℕ
-  pub low : ℤ
-  pub high : ℤ
-  pub rate : ℕ
-  pub cap : ℕ
-  pub count : ℕ
-
--- they are in the ranges of their fields
-pub record FitNumbers (n : Numbers) : Type 0 where
-  pub account : IsUnsigned 4 n.account
-  pub low : IsSigned 8 n.low
-  pub high : IsSigned 8 n.high
-  pub rate : IsUnsigned 4 n.rate
-  pub cap : IsUnsigned 8 n.cap
-  pub count : IsUnsigned 1 n.count
-
--- the encoding of the numbers of a request, and the bytes after it
-abbrev pub numbers_and : Numbers → List ℕ → List ℕ
-numbers_and n rest =
-    unsigned 4 n.account ++ (signed 8 n.low ++ (signed 8 n.high ++ (unsigned 4 n.rate ++ (unsigned 8 n.cap ++ (unsigned 1 n.count ++ rest)))))
 
 -- this body encodes this request
 pub record EncodesRequest (body : List ℕ) (request : Request) : Type 0 where

@@ -1,8 +1,8 @@
 //! The records of a command file, read in place: framing, commands, and the names of replies.
 //!
 //! A record is a tag, a length and a body. [`next_record`] takes one off the beginning of borrowed bytes,
-//! and [`RecordView::command`] says which command it encodes; neither copies or allocates anything. The legs
-//! of an order are read in place too, one by one, through a [`RowView`].
+//! and [`RecordView::command`] says which command it encodes; neither copies or allocates anything. The numbers
+//! of an order are read in place too, through a [`PlaceView`], and its legs one by one, through a [`RowView`].
 //! [`command_version`] looks at the magic before the first record, and says which version it is of. [`write_command`]
 //! writes the one record of a command. The laws of all encodings, and of files as a whole, are in [`laws`].
 #![tactic(auto)]

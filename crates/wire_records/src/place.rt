@@ -1,5 +1,5 @@
 //! The order that a command asks for, in borrowed bytes.
-ghost use Rattle.std.specs.Prelude.{◌≡◌, ◌+◌, ◌<◌, ◌≤◌, ◌^◌, ◌↔◌, ◌++◌, ℕ, List, length, slice_get, IfSome, IfNone, IfOk, IsNone, Option, Some};
+ghost use Rattle.std.specs.Prelude.{◌≡◌, ◌≤◌, ◌↔◌, ◌++◌, ℕ, List, length, slice_get, IfSome, IfNone, IfOk, IsNone, Option, Some};
 ghost use Rattle.weight_rows.specs.declared.entries.Entry.{Entry};
 ghost use Rattle.weight_rows.specs.declared.faults.RowFault.{RowFault};
 ghost use Rattle.weight_rows.specs.Rows.{IsWeightVector, most_entries};
@@ -18,8 +18,9 @@ use wire_fields::Cursor;
 // The bytes of a leg.
 const ENTRY: usize = 6;
 
-// The places of the numbers of a request in its bytes, the first of which is the account, of the count of its legs, and of
-// the first leg.
+// Where the numbers of a request, the count of its legs, and the legs are in its bytes.
+const ACCOUNT: usize = 0;
+
 const LOW: usize = 4;
 
 const HIGH: usize = 12;
@@ -150,7 +151,7 @@ impl<'a> PlaceView<'a> {
     pub fn account(&self) -> u32
         ensures { result ≡ self.now.account }
     {
-        u32_at(self.bytes, 0)
+        u32_at(self.bytes, ACCOUNT)
     }
 
     /// Returns the limit up to which the order buys at its full rate, in ticks.
