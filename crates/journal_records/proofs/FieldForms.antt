@@ -1,6 +1,5 @@
 -- The body of an answer by its fields is that part by part, and its fields fit where the parts do.
 use Rattle.std.proofs.Common.{◌≡◌, ℕ, ℤ, List, [], ◌∷◌, ◌++◌, length, map, append_assoc, refl, sym, ap, ◌∙◌}
-use Rattle.std.specs.Prelude.{All}
 use Rattle.std.specs.List.{flat_map, AllByRecursion}
 use Rattle.std.proofs.lemmas.Grind.{flat_map-append}
 use Rattle.std.proofs.lemmas.List.{append-nil}
@@ -13,7 +12,7 @@ use Rattle.wire_records.specs.Commands.{Plain, Batch}
 use Rattle.wire_records.specs.Refusals.{code_of}
 use Rattle.wire_records.proofs.Codes.{code_of-byte}
 use Rattle.flow_orders.specs.Outcomes.{Fill, Clearing, Skipping, Cleared, Skipped}
-use Rattle.wire_records.specs.Fields.{Field, Unsigned, Signed, Bytes, field_bytes, FitsField}
+use Rattle.wire_records.specs.Fields.{Field, Unsigned, Signed, field_bytes, FitsField}
 use Rattle.journal_records.specs.Replies.{fill_fields, fields_of, answer_body, IsAnswer}
 use Rattle.journal_records.specs.Bodies.{reply_tag, reply_body, fill_encoding, clearing_encoding, skipping_encoding, IsReply, IsFill, IsClearing, IsSkipping}
 

@@ -5,6 +5,7 @@ ghost use Rattle.wire_records.specs.Commands.{Plain};
 ghost use Rattle.journal_records.specs.Replies.{answer_record, IsAnswer};
 ghost use Rattle.journal_records.specs.Pairs.{pair_encoding, plain_room};
 
+use core::mem::replace_with;
 use wire_fields::{put_bytes, put_u8, put_u16, put_u32, put_u64};
 use wire_records::{MOST_RECORD, Memory, RecordView, Reply, put_head};
 
@@ -31,6 +32,7 @@ pub fn reserve_plain(asked: &RecordView<'_>, out: &mut Vec<u8>) -> Result<(), Me
 }
 
 // Appends the record of a reply.
+#[inline(always)]
 #[tactic(auto, using(crate::proofs::FieldForms::reply_fits))]
 fn put_reply(reply: &Reply, out: &mut Vec<u8>)
     requires { vec_len out.old + 13 ≤ vec_capacity out.old }
@@ -59,6 +61,21 @@ fn put_reply(reply: &Reply, out: &mut Vec<u8>)
     }
 }
 
+// Appends an entry to a vector that is handed in and handed back, so that its length needn't be stored after each field.
+#[inline(always)]
+fn with_plain(mut out: Vec<u8>, pair: (&RecordView<'_>, &Reply)) -> (Vec<u8>, ())
+    requires { vec_len out + plain_room pair.0.now ≤ vec_capacity out }
+    ensures written { result.0.items
+        ≡ out.items ++ pair_encoding (record { asked = pair.entry.0.now; answer = Plain pair.entry.1.now }) }
+    ensures fits { IsAnswer (Plain pair.entry.1.now) }
+    ensures capacity { vec_capacity result.0 ≡ vec_capacity out }
+{
+    let (asked, reply) = pair;
+    put_bytes(&mut out, asked.bytes());
+    put_reply(reply, &mut out);
+    (out, ())
+}
+
 /// Appends an entry: the command record, byte for byte as it was given, and the record of its reply. `out` must have
 /// the capacity, as after [`reserve_plain`], so nothing is allocated; the command record is copied once.
 pub fn write_plain(asked: &RecordView<'_>, reply: &Reply, out: &mut Vec<u8>)
@@ -68,6 +85,5 @@ pub fn write_plain(asked: &RecordView<'_>, reply: &Reply, out: &mut Vec<u8>)
     ensures fits { IsAnswer (Plain reply.now) }
     ensures capacity { vec_capacity out.new ≡ vec_capacity out.old }
 {
-    put_bytes(out, asked.bytes());
-    put_reply(reply, out);
+    replace_with(out, (asked, reply), with_plain);
 }

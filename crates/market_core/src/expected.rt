@@ -29,6 +29,7 @@ impl Market {
     /// Returns the command of the market's version that a record encodes, with its fields borrowed from the record's
     /// bytes, or the refusal that the record gets: `UnknownTag` exactly if no command of the version has the tag,
     /// `BadBody` exactly if one has it, but not this body. Constant cost.
+    #[inline(always)]
     pub fn read<'a>(&self, asked: &RecordView<'a>) -> Result<CommandView<'a>, Refusal>
         ensures command { IfOk result (λ command. IsReadAs self.now.version asked.now (Ok (command_of command))) }
         ensures fault { IfErr result (λ refusal. (why : body_fault) × IsReadAs self.now.version asked.now (Err why) × (refusal ≡ refusal_of why)) }

@@ -156,10 +156,13 @@ impl Market {
                 asset,
                 units,
             } => Ok(self.withdraw_units(account, asset, units)),
-            CommandView::PlaceOrder(ref place) => self.place_order(None, place),
+            CommandView::PlaceOrder(ref place) => self.place_order(None, &place.clone().unwrap()),
             CommandView::CancelOrder { account, order } => Ok(self.cancel_order(account, order)),
             CommandView::RunBatch { .. } => unreachable!(),
-            CommandView::PlaceUntil { last, ref place } => self.place_order(Some(last), place),
+            CommandView::PlaceUntil { last, ref place } => self.place_order(
+                Some(last),
+                &place.clone().unwrap(),
+            ),
             CommandView::SetMoneyCredit { account, ticks } => {
                 Ok(self.set_money_credit(account, ticks))
             }

@@ -7,20 +7,43 @@ use crate::conversions::{
 };
 use core::mem::replace_with;
 
-// Appends the bytes to a vector that is handed in and handed back, so that its length needn't be stored after each byte.
+// How many bytes are copied at once.
+const BLOCK: usize = 16;
+
+// Appends the bytes one by one.
+#[inline(always)]
+fn put_each(out: &mut Vec<u8>, bytes: &[u8])
+    requires { vec_len out.old + length bytes.now ≤ vec_capacity out.old }
+    ensures written { out.new.items ≡ out.old.items ++ bytes.now }
+    ensures len { vec_len out.new ≡ vec_len out.old + length bytes.now }
+    ensures capacity { vec_capacity out.new ≡ vec_capacity out.old }
+{
+    for byte in bytes {
+        out.push_reserved(*byte);
+    }
+}
+
+// Appends the bytes to a vector that is handed in and handed back, so that its length needn't be stored after each byte. A block is
+// read before any of it is written, so that both can be done at once.
+#[inline(always)]
 fn with_bytes(mut out: Vec<u8>, bytes: &[u8]) -> (Vec<u8>, ())
     requires { vec_len out + length bytes.now ≤ vec_capacity out }
     ensures written { result.0.items ≡ out.items ++ bytes.now }
     ensures len { vec_len result.0 ≡ vec_len out + length bytes.now }
     ensures capacity { vec_capacity result.0 ≡ vec_capacity out }
 {
-    for byte in bytes {
-        out.push_reserved(*byte);
+    let mut rest = bytes;
+    while let Some((block, after)) = rest.split_first_chunk::<BLOCK>() {
+        let block = *block;
+        put_each(&mut out, &block);
+        rest = after;
     }
+    put_each(&mut out, rest);
     (out, ())
 }
 
 /// Appends the bytes. `out` has the capacity for them, so nothing is allocated.
+#[inline(always)]
 pub fn put_bytes(out: &mut Vec<u8>, bytes: &[u8])
     requires { vec_len out.old + length bytes.now ≤ vec_capacity out.old }
     ensures written { out.new.items ≡ out.old.items ++ bytes.now }

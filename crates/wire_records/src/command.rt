@@ -290,6 +290,7 @@ impl<'a> RecordView<'a> {
     /// `UnknownTag` exactly if the tag is outside 1 to 12; `BadBody` exactly if it is 1 to 12 and no command of
     /// the tag has this body: it has a byte more or fewer than the fields take. The legs of an order aren't looked at,
     /// except for how many bytes they take.
+    #[inline(always)]
     pub fn command(&self) -> Result<CommandView<'a>, BodyFault>
         ensures { IsRead self.now (reading result) }
     {

@@ -130,7 +130,7 @@ impl<'a> RowView<'a> {
 /// The order that a command asks for, in borrowed bytes. The limits are in whole ticks per unit of the portfolio, rate
 /// and cap in whole units of it, each any number of its width. Contracts see it as these numbers and the list of the
 /// legs. Each of its calls is of constant cost: a number is read from its place when it is asked for.
-#[derive(Drop)]
+#[derive(Clone, Drop)]
 pub struct PlaceView<'a> {
     bytes: &'a [u8],
 }

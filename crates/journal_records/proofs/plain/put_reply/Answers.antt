@@ -10,7 +10,7 @@ use Rattle.wire_records.specs.Records.{encoding}
 use Rattle.wire_records.specs.Commands.{Plain}
 use Rattle.journal_records.specs.Replies.{answer_record}
 use Rattle.journal_records.specs.Bodies.{reply_tag, reply_body}
-use Rattle.journal_records.proofs.FieldForms.{tag_of_reply, body_of_reply, reply_fits}
+use Rattle.journal_records.proofs.FieldForms.{tag_of_reply, body_of_reply}
 use Rattle.journal_records.proofs.plain.put_reply.Goals as goal
 
 -- the record of a reply part by part is that of its fields
