@@ -156,6 +156,7 @@ impl Market {
                 asset,
                 units,
             } => Ok(self.withdraw_units(account, asset, units)),
+            // An order's view is copied, so that no pointer into the command is handed on: it then takes no place in memory.
             CommandView::PlaceOrder(ref place) => self.place_order(None, &place.clone().unwrap()),
             CommandView::CancelOrder { account, order } => Ok(self.cancel_order(account, order)),
             CommandView::RunBatch { .. } => unreachable!(),
