@@ -1,19 +1,10 @@
 """What tools/second_audit finds of a journal: as a script of its own it can be started, and here it is called."""
-import importlib.machinery
-import importlib.util
 import io
 import os
 
+from scripts import script
+
 SECOND_AUDIT = os.path.realpath(f"{__file__}/../../second_audit")
-
-
-def script(place):
-    """A script without an ending in its name, as a module."""
-    loader = importlib.machinery.SourceFileLoader(os.path.basename(place), place)
-    module = importlib.util.module_from_spec(importlib.util.spec_from_loader(loader.name, loader))
-    loader.exec_module(module)
-    return module
-
 
 second_audit = script(SECOND_AUDIT)
 
