@@ -16,6 +16,7 @@ impl Accounts {
     /// grains. The caller has to ensure that a deposit that isn't refused leaves the balance below
     /// 2^124 grains. If the total is the sum of all balances, it does:
     /// [`laws::changes_fit_at_sums`](crate::laws::changes_fit_at_sums).
+    #[inline(always)]
     pub fn deposit_money(&mut self, account: u32, ticks: u64) -> Result<(), AccountFault>
         requires fits { AcceptsDeposit self.old account None ticks →
             MoneyFits self.old account (grains ticks) }
@@ -36,6 +37,7 @@ impl Accounts {
     /// `NoAsset` if the account or the asset isn't there; `Zero` for 0 units; `TotalLimit`
     /// if the asset's total would pass 2^60 units. The caller has to ensure that a deposit that
     /// isn't refused leaves the balance below 2^62 units, as for [`Accounts::deposit_money`].
+    #[inline(always)]
     pub fn deposit_units(
         &mut self,
         account: u32,

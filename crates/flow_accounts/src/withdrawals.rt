@@ -25,6 +25,7 @@ impl Accounts {
     /// that are free, the balance less `reserved`, which `NotFree` carries. The caller has to ensure that a
     /// withdrawal that isn't refused leaves the total above -2^124 grains, as for
     /// [`Accounts::deposit_money`].
+    #[inline(always)]
     pub fn withdraw_money(
         &mut self,
         account: u32,
@@ -55,6 +56,7 @@ impl Accounts {
     /// they are above the units that are free, the balance less `reserved`, which `NotFree` carries. The
     /// caller has to ensure that a withdrawal that isn't refused leaves the asset's total above -2^62
     /// units.
+    #[inline(always)]
     pub fn withdraw_units(
         &mut self,
         account: u32,

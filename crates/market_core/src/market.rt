@@ -128,6 +128,7 @@ impl Market {
     /// The cost is that of the command's own fields, however many accounts and orders there are. For a cancel that is
     /// the average cost: the gaps that cancelled orders leave are closed together, at the latest when there are as many
     /// gaps as live orders. So it is for a credit: the credits of the accounts before its own are stored first, each once.
+    // The calls that may run out of memory, and those of deposits and withdrawals, are inlined too: a reply then takes no place in memory.
     #[inline(always)]
     pub fn apply(&mut self, command: &CommandView<'_>) -> Result<Reply, Memory>
         requires command { IsCommand (command_of command.now) }
@@ -270,6 +271,7 @@ impl Market {
         self.last_prices.as_slice().get(usize::from(asset)).copied()
     }
 
+    #[inline(always)]
     fn add_asset(&mut self, ticker: &[u8]) -> Result<Reply, Memory>
         requires { length ticker.now ≡ 8 }
         ensures served { IfOk result (λ reply. ServesPlain self.old (AddAsset ticker.now) (Plain reply) self.new) }
@@ -290,6 +292,7 @@ impl Market {
         }
     }
 
+    #[inline(always)]
     fn open_account(&mut self) -> Result<Reply, Memory>
         ensures served { IfOk result (λ reply. ServesPlain self.old OpenAccount (Plain reply) self.new) }
         ensures stays { OnErr result (self.new ≡ self.old) }
@@ -302,12 +305,14 @@ impl Market {
         }
     }
 
+    #[inline(always)]
     fn deposit_money(&mut self, account: u32, ticks: u64) -> Reply
         ensures { ServesPlain self.old (DepositMoney account ticks) (Plain result) self.new }
     {
         reply_to(self.accounts.deposit_money(account, ticks))
     }
 
+    #[inline(always)]
     fn deposit_units(&mut self, account: u32, asset: u16, units: u64) -> Reply
         ensures { ServesPlain self.old (DepositAsset account asset units) (Plain result) self.new }
     {
@@ -330,6 +335,7 @@ impl Market {
         reply_to(self.accounts.set_unit_credit(account, asset, units, needed))
     }
 
+    #[inline(always)]
     fn withdraw_money(&mut self, account: u32, ticks: u64) -> Reply
         ensures { ServesPlain self.old (WithdrawMoney account ticks) (Plain result) self.new }
     {
@@ -337,6 +343,7 @@ impl Market {
         reply_to(self.accounts.withdraw_money(account, ticks, reserved))
     }
 
+    #[inline(always)]
     fn withdraw_units(&mut self, account: u32, asset: u16, units: u64) -> Reply
         ensures { ServesPlain self.old (WithdrawAsset account asset units) (Plain result) self.new }
     {

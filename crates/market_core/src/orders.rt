@@ -33,6 +33,7 @@ pub(crate) fn cancel_reply(there: bool) -> Reply
 }
 
 impl Market {
+    #[inline(always)]
     pub(crate) fn place_order(
         &mut self,
         last: Option<u32>,
@@ -52,6 +53,7 @@ impl Market {
     }
 
     // Adds an order that no refusal stops.
+    #[inline(always)]
     pub(crate) fn add_order(
         &mut self,
         last: Option<u32>,
