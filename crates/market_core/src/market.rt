@@ -128,7 +128,6 @@ impl Market {
     /// The cost is that of the command's own fields, however many accounts and orders there are. For a cancel that is
     /// the average cost: the gaps that cancelled orders leave are closed together, at the latest when there are as many
     /// gaps as live orders. So it is for a credit: the credits of the accounts before its own are stored first, each once.
-    // The calls that may run out of memory, and those of deposits and withdrawals, are inlined too: a reply then takes no place in memory.
     #[inline(always)]
     pub fn apply(&mut self, command: &CommandView<'_>) -> Result<Reply, Memory>
         requires command { IsCommand (command_of command.now) }
@@ -140,6 +139,7 @@ impl Market {
         // Only a new asset, account or order may run out of memory, and only if no refusal holds.
         ensures wanted { OnErr result (MayAllocate self.old (command_of command.now)) }
     {
+        // What may run out of memory, and what deposits and withdrawals call, is inlined too: a reply then takes no place in memory.
         match *command {
             CommandView::AddAsset(ticker) => self.add_asset(ticker),
             CommandView::OpenAccount => self.open_account(),
