@@ -9,7 +9,7 @@ use Rattle.std.proofs.lemmas.List.Filters.{length-filter_both}
 use Rattle.list_sums.specs.Sums.{int_sum_by}
 use Rattle.weight_rows.specs.Rows.{IsPricedBy}
 use Rattle.demand_curve.proofs.RoundingLaws.{rounding_is_within_room}
-use Rattle.wire_records.specs.Commands.{Request, Command, AddAsset, OpenAccount, DepositMoney, DepositAsset, WithdrawMoney, WithdrawAsset, Place, CancelOrder, RunBatch, SetMoneyCredit, SetUnitCredit, Answer, Plain, Batch}
+use Rattle.wire_records.specs.Commands.{Request, Command, AddAsset, OpenAccount, Deposit, Withdraw, Place, CancelOrder, RunBatch, SetCredit, Answer, Plain, Batch}
 use Rattle.wire_records.specs.declared.reply.Reply.{Reply}
 use Rattle.wire_records.specs.declared.reply.Reply.TheVariants as reply
 use Rattle.wire_records.specs.declared.reply.Refusal.{Refusal}
@@ -225,14 +225,10 @@ module _ (account : ℕ) (m n : Market) (h : Holding) (consistent : IsConsistent
       (subst (λ l. IsAddable l ticker) (sym held.tickers) (record { valid = one.0; absent = two.0; place = not_least _ _ three.0 }))
   accepted_may OpenAccount answer e none accepts is next =
       subst (MayTake account h) (event_is _ (Opens account) e (seen_as OpenAccount answer (reply.Account (account_count m.balances + 1)) e is accepts.0)).1 tt
-  accepted_may (DepositMoney named ticks) answer e none accepts is next =
-      amount_may named (Deposits None ticks) e None (value_of None ticks) tt (λ may. may) refl (seen_as (DepositMoney named ticks) answer reply.Done e is accepts.0) next
-  accepted_may (DepositAsset named asset units) answer e none accepts is next =
-      amount_may named (Deposits (Some asset) units) e (Some asset) (value_of (Some asset) units) (past_unless (past_unless none).1).0 (λ may. may) refl (seen_as (DepositAsset named asset units) answer reply.Done e is accepts.0) next
-  accepted_may (WithdrawMoney named ticks) answer e none accepts is next =
-      amount_may named (Withdraws None ticks) e None (neg_ℤ (value_of None ticks)) tt (λ may. may) refl (seen_as (WithdrawMoney named ticks) answer reply.Done e is accepts.0) next
-  accepted_may (WithdrawAsset named asset units) answer e none accepts is next =
-      amount_may named (Withdraws (Some asset) units) e (Some asset) (neg_ℤ (value_of (Some asset) units)) (past_unless (past_unless none).1).0 (λ may. may) refl (seen_as (WithdrawAsset named asset units) answer reply.Done e is accepts.0) next
+  accepted_may (Deposit named kind count) answer e none accepts is next =
+      amount_may named (Deposits kind count) e kind (value_of kind count) (past_unless (past_unless none).1).0 (λ may. may) refl (seen_as (Deposit named kind count) answer reply.Done e is accepts.0) next
+  accepted_may (Withdraw named kind count) answer e none accepts is next =
+      amount_may named (Withdraws kind count) e kind (neg_ℤ (value_of kind count)) (past_unless (past_unless none).1).0 (λ may. may) refl (seen_as (Withdraw named kind count) answer reply.Done e is accepts.0) next
   accepted_may (Place last r) answer e none accepts is next =
       let own = own_event r.account (Places m.next_order last r) e (seen_as (Place last r) answer (reply.Order m.next_order) e is accepts.0) in
       subst (MayTake account h) own.2 (may_place account m n h consistent consistent_next held own.0 last r own.1 none)
@@ -240,10 +236,8 @@ module _ (account : ℕ) (m n : Market) (h : Holding) (consistent : IsConsistent
       let own = own_event named (Cancels number) e (seen_as (CancelOrder named number) answer reply.Done e is accepts.0) in
       subst (MayTake account h) own.2 (may_cancel account m n h consistent consistent_next held own.0 number (subst (λ k. FirstRefusal m (CancelOrder k number) None) own.1 none))
   accepted_may (RunBatch budget) answer e none accepts is next = absurd (no_events e is)
-  accepted_may (SetMoneyCredit named ticks) answer e none accepts is next =
-      subst (MayTake account h) (own_event named (Credits None ticks) e (seen_as (SetMoneyCredit named ticks) answer reply.Done e is accepts.0)).2 tt
-  accepted_may (SetUnitCredit named asset units) answer e none accepts is next =
-      subst (MayTake account h) (own_event named (Credits (Some asset) units) e (seen_as (SetUnitCredit named asset units) answer reply.Done e is accepts.0)).2 tt
+  accepted_may (SetCredit named kind count) answer e none accepts is next =
+      subst (MayTake account h) (own_event named (Credits kind count) e (seen_as (SetCredit named kind count) answer reply.Done e is accepts.0)).2 tt
 
   pub may_take : (c : Command) (answer : Reply) (e : Event) → Serves IsAdmissibleOutcome m c (Plain answer) n → seen_plain account h.is_open c answer ≡ e ∷ [] → MayTake account h e
   may_take c answer e serves is = by serves.first serves.refused serves.answered

@@ -1,26 +1,22 @@
 -- The text of an entry of a journal. Numbers are plain decimal; prices, gaps and dual values are in grains, limits in ticks.
-use Rattle.std.specs.Prelude.{[], ◌≡◌, ℕ, List, length, codes, decimal, Option, Ok}
+use Rattle.std.specs.Prelude.{[], ◌≡◌, ℕ, List, length, codes, decimal, pos, slice_index_or, Option, Some, None, Ok}
 use Rattle.std.specs.Fmt.{signed_decimal}
 use Rattle.std.specs.List.{flat_map, range_with_len}
 use Rattle.wire_records.specs.Records.{Record}
-use Rattle.wire_records.specs.Commands.{Request, Command, AddAsset, OpenAccount, DepositMoney, DepositAsset, WithdrawMoney, WithdrawAsset, Place, CancelOrder, RunBatch, SetMoneyCredit, SetUnitCredit, Answer, Plain, Batch}
+use Rattle.wire_records.specs.Commands.{Request, Command, AddAsset, OpenAccount, Deposit, Withdraw, Place, CancelOrder, RunBatch, SetCredit, Answer, Plain, Batch}
 use Rattle.wire_records.specs.Versions.{IsReadAs}
 use Rattle.wire_records.specs.Refusals.{code_of}
 use Rattle.wire_records.specs.declared.reply.Reply.TheVariants.{Done, Asset, Account, Order, Refused}
 use Rattle.flow_orders.specs.Outcomes.{Fill, Clearing, Skipping, Outcome, Cleared, Skipped}
 use Rattle.weight_rows.specs.Rows.{price_of}
-use Rattle.flow_orders.specs.Residuals.{residual_in}
 use Rattle.journal_records.specs.Replies.{EncodesAnswer}
 use Rattle.market_rules.specs.Market.{Market}
 use Rattle.pair_text.specs.Texts.{◌then◌, asset_name, entry_text, last_text}
 
--- the text of a deposit, a withdrawal or a credit in money, in ticks
-abbrev pub money_text : List ℕ → ℕ → ℕ → List ℕ
-money_text word account ticks = word then codes " account " then decimal account then codes " ticks " then decimal ticks
-
--- the text of a deposit, a withdrawal or a credit in whole units of an asset
-abbrev pub units_text : List ℕ → List (List ℕ) → ℕ → ℕ → ℕ → List ℕ
-units_text word tickers account asset units =
+-- the text of a deposit, a withdrawal or a credit: of money in ticks, and of an asset in whole units
+abbrev pub amount_text : List ℕ → List (List ℕ) → ℕ → Option ℕ → ℕ → List ℕ
+amount_text word tickers account None ticks = word then codes " account " then decimal account then codes " ticks " then decimal ticks
+amount_text word tickers account (Some asset) units =
     word then codes " account " then decimal account then codes " " then asset_name tickers asset then codes " units " then decimal units
 
 -- the text of an order's number and the numbers of its request, limits in ticks
@@ -37,7 +33,7 @@ order_text tickers order last r = numbers_text order r then last_text last then 
 abbrev pub price_line : List (List ℕ) → Clearing → ℕ → List ℕ
 price_line tickers c asset =
     codes "  " then asset_name tickers asset then codes " price " then signed_decimal (price_of c.prices asset)
-    then codes " residual " then signed_decimal (residual_in c.residuals asset) then codes "\n"
+    then codes " residual " then signed_decimal (slice_index_or c.residuals asset (pos 0)) then codes "\n"
 
 -- the line of an order's rate, in units of its portfolio
 abbrev pub rate_line : Fill → List ℕ
@@ -60,15 +56,12 @@ skipped_line batch s =
 abbrev pub command_text : List (List ℕ) → ℕ → Command → List ℕ
 command_text tickers order (AddAsset ticker) = []
 command_text tickers order OpenAccount = []
-command_text tickers order (DepositMoney account ticks) = money_text (codes "deposit") account ticks
-command_text tickers order (DepositAsset account asset units) = units_text (codes "deposit") tickers account asset units
-command_text tickers order (WithdrawMoney account ticks) = money_text (codes "withdraw") account ticks
-command_text tickers order (WithdrawAsset account asset units) = units_text (codes "withdraw") tickers account asset units
+command_text tickers order (Deposit account kind count) = amount_text (codes "deposit") tickers account kind count
+command_text tickers order (Withdraw account kind count) = amount_text (codes "withdraw") tickers account kind count
 command_text tickers order (Place last request) = order_text tickers order last request
 command_text tickers order (CancelOrder account number) = codes "cancel order " then decimal number
 command_text tickers order (RunBatch budget) = []
-command_text tickers order (SetMoneyCredit account ticks) = money_text (codes "credit") account ticks
-command_text tickers order (SetUnitCredit account asset units) = units_text (codes "credit") tickers account asset units
+command_text tickers order (SetCredit account kind count) = amount_text (codes "credit") tickers account kind count
 
 -- the line of the command that a record is read as in the version of a market, under its tickers, with the number that its order got, or 0
 -- where no order was placed

@@ -1,11 +1,11 @@
 //! The lines of commands that hold no batch.
-ghost use Rattle.std.specs.Prelude.{◌≡◌, ◌++◌, ℕ, List, Ok, OnOk, codes, decimal};
+ghost use Rattle.std.specs.Prelude.{◌≡◌, ◌++◌, ℕ, List, [], None, Some, Ok, OnOk, codes, decimal};
 ghost use Rattle.wire_records.specs.Commands.{Plain};
 ghost use Rattle.wire_records.specs.Refusals.{code_of};
 ghost use Rattle.wire_records.specs.Versions.{IsReadAs};
 ghost use Rattle.wire_records.specs.Views.{command_of};
 ghost use Rattle.pair_text.specs.Texts.{◌then◌, asset_name};
-ghost use Rattle.batch_report.specs.Reports.{money_text, units_text, numbers_text, order_text, command_text, TellsCommand, Tells};
+ghost use Rattle.batch_report.specs.Reports.{amount_text, numbers_text, order_text, command_text, TellsCommand, Tells};
 ghost use Rattle.batch_report.specs.Private.{IsAnswered, IsAccepted};
 
 use market_core::Market;
@@ -16,7 +16,7 @@ use wire_records::{CommandView, Memory, PlaceView, RecordView, Refusal, Reply};
 // Appends a deposit, a withdrawal or a credit in money.
 fn put_money(word: &[u8], account: u32, ticks: u64, out: &mut Text) -> Result<(), Memory>
     ensures before { out.new.before ≡ out.old.before }
-    ensures put { OnOk result (out.new.text ≡ out.old.text ++ money_text word.now account ticks) }
+    ensures put { OnOk result (out.new.text ≡ out.old.text ++ amount_text word.now [] account None ticks) }
 {
     out.put(word)?;
     out.put_number(b" account ", account)?;
@@ -33,7 +33,7 @@ fn put_units(
     out: &mut Text,
 ) -> Result<(), Memory>
     ensures before { out.new.before ≡ out.old.before }
-    ensures put { OnOk result (out.new.text ≡ out.old.text ++ units_text word.now tickers.now account asset units) }
+    ensures put { OnOk result (out.new.text ≡ out.old.text ++ amount_text word.now tickers.now account (Some asset) units) }
 {
     out.put(word)?;
     out.put_number(b" account ", account)?;

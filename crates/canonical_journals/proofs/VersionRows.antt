@@ -10,7 +10,7 @@ use Rattle.weight_rows.specs.Rows.{IsWeightVector, IsLawfulWeight, IsPrice, pric
 use Rattle.demand_curve.specs.Demand.{IsRounding, most_rate, scaled_demand, line, span, loss, dual_floor, scaled_dual, floor_rate, ceil_rate, floor_in, ceil_in}
 use Rattle.demand_curve.specs.Numbers.{distance}
 use Rattle.wire_records.specs.declared.version.Version.TheVariants.{Two}
-use Rattle.wire_records.specs.Commands.{Request, Place, SetMoneyCredit, SetUnitCredit, WithdrawMoney, WithdrawAsset, CancelOrder, RunBatch, Plain, Batch}
+use Rattle.wire_records.specs.Commands.{Request, Place, SetCredit, Withdraw, CancelOrder, RunBatch, Plain, Batch}
 use Rattle.wire_records.specs.declared.reply.Refusal.{Refusal}
 use Rattle.wire_records.specs.declared.reply.Refusal.TheVariants.{NotFree, NoOrder, BadLast, CreditInUse, CreditLimit}
 use Rattle.wire_records.specs.declared.reply.Reply.TheVariants as reply
@@ -332,14 +332,14 @@ nothing_held = two_accounts (holds (pos 0) (pos 0)) (holds (pos 0) (pos 0)) (cre
 abbrev money_lent : Market
 money_lent = two_accounts (holds (pos 0) (pos 0)) (holds (pos 0) (pos 0)) (credit 1100000 0) (credit 0 0) (pos 0) (pos 0)
 
-serves_money_credit : Serves IsAdmissibleOutcome nothing_held (SetMoneyCredit 1 1100000) (Plain reply.Done) money_lent
+serves_money_credit : Serves IsAdmissibleOutcome nothing_held (SetCredit 1 None 1100000) (Plain reply.Done) money_lent
 serves_money_credit = record {
   first = None;
   refused = inr ((omega arith, omega arith), inr (tt, inr ((λ above. omega (arith, above)), inr ((λ short. omega (arith, ints, short)), refl))));
   answered = (refl, refl);
 }
 
-serves_unit_credit : Serves IsAdmissibleOutcome money_lent (SetUnitCredit 2 0 10000) (Plain reply.Done) on_credit
+serves_unit_credit : Serves IsAdmissibleOutcome money_lent (SetCredit 2 (Some 0) 10000) (Plain reply.Done) on_credit
 serves_unit_credit = record {
   first = None;
   refused = inr ((omega arith, omega arith), inr (omega arith, inr ((λ above. omega (arith, above)), inr ((λ short. omega (arith, ints, short)), refl))));
@@ -401,23 +401,23 @@ serves_lent_batch = record {
 }
 
 -- what is in use of a credit can't be taken back, to a tick
-less_credit : FirstRefusal owing (SetMoneyCredit 1 1094990) (Some CreditInUse)
+less_credit : FirstRefusal owing (SetCredit 1 None 1094990) (Some CreditInUse)
 unfolding weight_in
 less_credit = inr ((omega arith, omega arith), inr (tt, inr ((λ above. omega (arith, above)), inl (omega (arith, ints), refl))))
 
-least_credit : FirstRefusal owing (SetMoneyCredit 1 1094991) None
+least_credit : FirstRefusal owing (SetCredit 1 None 1094991) None
 unfolding weight_in
 least_credit = inr ((omega arith, omega arith), inr (tt, inr ((λ above. omega (arith, above)), inr ((λ short. omega (arith, ints, short)), refl))))
 
-most_is_less : FirstRefusal owing (SetMoneyCredit 1 (2 ^ 40 + 1)) (Some CreditLimit)
+most_is_less : FirstRefusal owing (SetCredit 1 None (2 ^ 40 + 1)) (Some CreditLimit)
 most_is_less = inr ((omega arith, omega arith), inr (tt, inl (omega arith, refl)))
 
 -- a withdrawal never uses credit
-nothing_to_withdraw : FirstRefusal owing (WithdrawMoney 1 1) (Some NotFree)
+nothing_to_withdraw : FirstRefusal owing (Withdraw 1 None 1) (Some NotFree)
 unfolding weight_in
 nothing_to_withdraw = inr ((omega arith, omega arith), inr (tt, inr ((λ nothing. omega (arith, nothing)), inl (omega (arith, ints), refl))))
 
-proceeds_to_withdraw : FirstRefusal owing (WithdrawMoney 2 49990) None
+proceeds_to_withdraw : FirstRefusal owing (Withdraw 2 None 49990) None
 unfolding weight_in
 proceeds_to_withdraw = inr ((omega arith, omega arith), inr (tt, inr ((λ nothing. omega (arith, nothing)), inr ((λ over. omega (arith, ints, over)), refl))))
 
@@ -544,6 +544,6 @@ serves_skip = record {
   answered = (Skipped skipped, skip_is_admissible, (refl, refl));
 }
 
-units_are_free : FirstRefusal after_skip (WithdrawAsset 2 0 10000) None
+units_are_free : FirstRefusal after_skip (Withdraw 2 (Some 0) 10000) None
 unfolding weight_in
 units_are_free = inr ((omega arith, omega arith), inr (omega arith, inr ((λ nothing. omega (arith, nothing)), inr ((λ over. omega (arith, ints, over)), refl))))

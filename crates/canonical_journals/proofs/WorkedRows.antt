@@ -6,7 +6,7 @@ use Rattle.std.proofs.lemmas.List.Elements.{All-from_recursion}
 use Rattle.weight_rows.specs.declared.entries.Entry.{Entry}
 use Rattle.weight_rows.specs.Rows.{IsWeightVector, IsLawfulWeight, weight_in, portfolio_price}
 use Rattle.ticker_table.specs.Tickers.{IsNameCharacter, IsTicker}
-use Rattle.wire_records.specs.Commands.{Request, Command, AddAsset, OpenAccount, DepositMoney, DepositAsset, WithdrawMoney, WithdrawAsset, Place, CancelOrder, RunBatch, Answer, Plain, Batch, Pair}
+use Rattle.wire_records.specs.Commands.{Request, Command, AddAsset, OpenAccount, Deposit, Withdraw, Place, CancelOrder, RunBatch, Answer, Plain, Batch, Pair}
 use Rattle.wire_records.specs.declared.command.BodyFault.{BodyFault}
 use Rattle.wire_records.specs.declared.version.Version.{Version}
 use Rattle.wire_records.specs.declared.version.Version.TheVariants.{One}
@@ -161,8 +161,8 @@ opened =
     says (AddAsset aapl) (Plain (reply.Asset 0))
     ∷ says OpenAccount (Plain (reply.Account 1))
     ∷ says OpenAccount (Plain (reply.Account 2))
-    ∷ says (DepositMoney 1 1100000) (Plain reply.Done)
-    ∷ says (DepositAsset 2 0 10000) (Plain reply.Done)
+    ∷ says (Deposit 1 None 1100000) (Plain reply.Done)
+    ∷ says (Deposit 2 (Some 0) 10000) (Plain reply.Done)
     ∷ []
 
 abbrev traded : List (Pair Command Outcome)
@@ -227,14 +227,14 @@ serves_account_1 = record { first = None; refused = inr ((λ full. omega (arith,
 serves_account_2 : Serves IsCanonicalOutcome with_account_1 OpenAccount (Plain (reply.Account 2)) with_account_2
 serves_account_2 = record { first = None; refused = inr ((λ full. omega (arith, full)), refl); answered = (refl, refl) }
 
-serves_money : Serves IsCanonicalOutcome with_account_2 (DepositMoney 1 1100000) (Plain reply.Done) with_money
+serves_money : Serves IsCanonicalOutcome with_account_2 (Deposit 1 None 1100000) (Plain reply.Done) with_money
 serves_money = record {
   first = None;
   refused = inr ((omega arith, omega arith), inr (tt, inr ((λ nothing. omega (arith, nothing)), inr ((λ over. omega (arith, ints, over)), refl))));
   answered = (refl, refl);
 }
 
-serves_units : Serves IsCanonicalOutcome with_money (DepositAsset 2 0 10000) (Plain reply.Done) enough
+serves_units : Serves IsCanonicalOutcome with_money (Deposit 2 (Some 0) 10000) (Plain reply.Done) enough
 serves_units = record {
   first = None;
   refused = inr ((omega arith, omega arith), inr (omega arith, inr ((λ nothing. omega (arith, nothing)), inr ((λ over. omega (arith, ints, over)), refl))));
@@ -297,7 +297,7 @@ step : {old new : Market} {command : Command} {answer : Answer Outcome} → Serv
 step {old} {new} {command} {answer} served = record { read = Ok command; encoded = refl; served = served }
 
 abbrev eight : List Command
-eight = AddAsset aapl ∷ OpenAccount ∷ OpenAccount ∷ DepositMoney 1 1100000 ∷ DepositAsset 2 0 10000 ∷ Place None buys ∷ Place None sells ∷ RunBatch 10 ∷ []
+eight = AddAsset aapl ∷ OpenAccount ∷ OpenAccount ∷ Deposit 1 None 1100000 ∷ Deposit 2 (Some 0) 10000 ∷ Place None buys ∷ Place None sells ∷ RunBatch 10 ∷ []
 
 -- the journal of the eight commands
 the_journal : IsJournal Itself IsCanonicalOutcome One eight (opened ++ traded) after_trade
@@ -347,10 +347,10 @@ deposited = (
       pos 4724464025600000,
       refl,
       (
-        Ok (DepositMoney 1 1100000),
+        Ok (Deposit 1 None 1100000),
         pos 0,
         refl,
-        (Ok (DepositAsset 2 0 10000), pos 0, refl, (Ok (Place None buys), pos 0, refl, (Ok (Place None sells), pos 0, refl, (Ok (RunBatch 10), pos 0, refl, refl, refl), refl), refl), refl),
+        (Ok (Deposit 2 (Some 0) 10000), pos 0, refl, (Ok (Place None buys), pos 0, refl, (Ok (Place None sells), pos 0, refl, (Ok (RunBatch 10), pos 0, refl, refl, refl), refl), refl), refl),
         refl,
       ),
       refl,
@@ -370,10 +370,10 @@ free_is : free_balance after_trade 1 None ≡ pos 21517786152500
 unfolding weight_in
 free_is = refl
 
-too_much : FirstRefusal after_trade (WithdrawMoney 1 5010) (Some NotFree)
+too_much : FirstRefusal after_trade (Withdraw 1 None 5010) (Some NotFree)
 too_much = inr ((omega arith, omega arith), inr (tt, inr ((λ nothing. omega (arith, nothing)), inl (omega (arith, ints), refl))))
 
-not_too_much : FirstRefusal after_trade (WithdrawMoney 1 5009) None
+not_too_much : FirstRefusal after_trade (Withdraw 1 None 5009) None
 not_too_much = inr ((omega arith, omega arith), inr (tt, inr ((λ nothing. omega (arith, nothing)), inr ((λ over. omega (arith, ints, over)), refl))))
 
 -- ---- an order that sells needs no money, but all units that it may sell
@@ -382,7 +382,7 @@ seller_needs : (money_need (placed with_buyer None sells) ≡ 0) × (unit_need 0
 unfolding weight_in
 seller_needs = (refl, refl)
 
-one_unit_too_many : FirstRefusal with_seller (WithdrawAsset 2 0 1) (Some NotFree)
+one_unit_too_many : FirstRefusal with_seller (Withdraw 2 (Some 0) 1) (Some NotFree)
 unfolding weight_in
 one_unit_too_many = inr ((omega arith, omega arith), inr (omega arith, inr ((λ nothing. omega (arith, nothing)), inl (omega (arith, ints), refl))))
 
@@ -538,26 +538,26 @@ no_batch_more = inr ((omega arith, omega arith), inl (omega arith, refl))
 
 -- ---- totals
 
-all_units : FirstRefusal with_account_2 (DepositAsset 2 0 1152921504606846976) None
+all_units : FirstRefusal with_account_2 (Deposit 2 (Some 0) 1152921504606846976) None
 all_units = inr ((omega arith, omega arith), inr (omega arith, inr ((λ nothing. omega (arith, nothing)), inr ((λ over. omega (arith, ints, over)), refl))))
 
-a_unit_more : FirstRefusal (record with_account_2 { balances = record with_account_2.balances { totals = record { money = pos 0; units = pos 1152921504606846976 ∷ [] } } }) (DepositAsset 2 0 1) (Some TotalLimit)
+a_unit_more : FirstRefusal (record with_account_2 { balances = record with_account_2.balances { totals = record { money = pos 0; units = pos 1152921504606846976 ∷ [] } } }) (Deposit 2 (Some 0) 1) (Some TotalLimit)
 a_unit_more = inr ((omega arith, omega arith), inr (omega arith, inr ((λ nothing. omega (arith, nothing)), inl (omega (arith, ints), refl))))
 
 -- sixteen deposits of 2^64 - 1 ticks leave 16 ticks
 abbrev nearly_full : Market
 nearly_full = record with_account_2 { balances = record with_account_2.balances { totals = record { money = pos (16 * (2 ^ 32 * 18446744073709551615)); units = pos 0 ∷ [] } } }
 
-ticks_17 : FirstRefusal nearly_full (DepositMoney 1 17) (Some TotalLimit)
+ticks_17 : FirstRefusal nearly_full (Deposit 1 None 17) (Some TotalLimit)
 ticks_17 = inr ((omega arith, omega arith), inr (tt, inr ((λ nothing. omega (arith, nothing)), inl (omega (arith, ints), refl))))
 
-ticks_16 : FirstRefusal nearly_full (DepositMoney 1 16) None
+ticks_16 : FirstRefusal nearly_full (Deposit 1 None 16) None
 ticks_16 = inr ((omega arith, omega arith), inr (tt, inr ((λ nothing. omega (arith, nothing)), inr ((λ over. omega (arith, ints, over)), refl))))
 
-deposit_0 : FirstRefusal nearly_full (DepositMoney 1 0) (Some ZeroAmount)
+deposit_0 : FirstRefusal nearly_full (Deposit 1 None 0) (Some ZeroAmount)
 deposit_0 = inr ((omega arith, omega arith), inr (tt, inl (refl, refl)))
 
-account_0 : FirstRefusal nearly_full (DepositMoney 0 0) (Some NoAccount)
+account_0 : FirstRefusal nearly_full (Deposit 0 None 0) (Some NoAccount)
 account_0 = inl ((λ there. omega (arith, there.0)), refl)
 
 -- ---- tickers

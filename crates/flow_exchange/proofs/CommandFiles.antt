@@ -1,10 +1,10 @@
 -- A command file states a length above any record's, and so begins no entry.
-use Rattle.std.proofs.Common.{ℕ, List, ◌∷◌, ◌++◌, refl, arith}
+use Rattle.std.proofs.Common.{◌+◌, ℕ, List, ◌∷◌, ◌++◌, refl, arith}
 use Rattle.wire_records.specs.Records.{head, StatesLength, most_body}
 use Rattle.wire_records.specs.Grammars.{BeginsWithNone}
 use Rattle.wire_records.specs.Formats.{command_magic_of}
 use Rattle.wire_records.specs.declared.version.Version.{Version}
-use Rattle.wire_records.specs.declared.version.Version.TheVariants.{One, Two, Three, Four}
+use Rattle.wire_records.specs.Versions.{number_of}
 use Rattle.wire_records.proofs.Prefixes.{no_prefix-from_overlong}
 use Rattle.wire_fields.specs.Numbers.{unsigned}
 use Rattle.journal_records.specs.Replies.{most_reply_body}
@@ -17,10 +17,7 @@ stated = 1280268099
 
 states : (version : Version) (body : List ℕ) → StatesLength stated (command_magic_of version ++ body)
 unfolding head unsigned
-states One body = (omega arith, 70, omega arith, 77 ∷ 68 ∷ 49 ∷ body, refl)
-states Two body = (omega arith, 70, omega arith, 77 ∷ 68 ∷ 50 ∷ body, refl)
-states Three body = (omega arith, 70, omega arith, 77 ∷ 68 ∷ 51 ∷ body, refl)
-states Four body = (omega arith, 70, omega arith, 77 ∷ 68 ∷ 52 ∷ body, refl)
+states version body = (omega arith, 70, omega arith, 77 ∷ 68 ∷ (48 + number_of version) ∷ body, refl)
 
 pub command_files_begin_no_pair : (version : Version) (body : List ℕ) → BeginsWithNone journals.units (command_magic_of version ++ body)
 command_files_begin_no_pair version body =

@@ -26,7 +26,7 @@ use Rattle.batch_audit.proofs.LawProofs.{one_market}
 use Rattle.journal_replay.proofs.Judged.{read_more}
 use Rattle.history_words.proofs.Starts.{one_start}
 use Rattle.flow_exchange.specs.declared.status.Status.{Status}
-use Rattle.flow_exchange.specs.HistoryFiles.{History, IsHistory, history_status, HistoryTo, HistoryToBy, IsAtPairOf}
+use Rattle.flow_exchange.specs.HistoryFiles.{History, IsHistory, history_status, HistoryTo, IsAtPairOf}
 use Rattle.flow_exchange.specs.Promising.{IsKeptFrom}
 
 -- the history of these parts
@@ -34,10 +34,10 @@ abbrev pub history_of : Start → List (Pair Record Outcome) → Market → List
 history_of start legal market following ending = record { start = start; legal = legal; market = market; following = following; ending = ending }
 
 -- what a subcommand makes of the bytes is what it makes of this history
-pub makes_by : (judge : History → Status) (Writes : History → List ℕ → Type 0) (limit : ℕ) (bytes : List ℕ) (status : Status) (text : List ℕ) (history : History) → IsHistory limit bytes history → status ≡ judge history → Writes history text → HistoryToBy judge Writes limit bytes status text
+pub makes_by : (judge : History → Status) (Writes : History → List ℕ → Type 0) (limit : ℕ) (bytes : List ℕ) (status : Status) (text : List ℕ) (history : History) → IsHistory limit bytes history → status ≡ judge history → Writes history text → HistoryTo judge Writes limit bytes status text
 makes_by judge Writes limit bytes status text history is ends writes = inr (record { history = history; is = is; ends = ends; writes = writes })
 
-pub makes_of : (Writes : History → List ℕ → Type 0) (limit : ℕ) (bytes : List ℕ) (status : Status) (text : List ℕ) (history : History) → IsHistory limit bytes history → status ≡ history_status limit history → Writes history text → HistoryTo Writes limit bytes status text
+pub makes_of : (Writes : History → List ℕ → Type 0) (limit : ℕ) (bytes : List ℕ) (status : Status) (text : List ℕ) (history : History) → IsHistory limit bytes history → status ≡ history_status limit history → Writes history text → HistoryTo (history_status limit) Writes limit bytes status text
 makes_of Writes limit bytes status text history is ends writes = makes_by (history_status limit) Writes limit bytes status text history is ends writes
 
 -- ---- how a history is read, and a journal

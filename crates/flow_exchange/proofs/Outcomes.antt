@@ -29,7 +29,7 @@ use Rattle.flow_exchange.specs.declared.status.Status.TheVariants as answer
 use Rattle.flow_exchange.specs.Statuses.{reading_status, ended_status, unencoded, unfit_status}
 use Rattle.wire_records.specs.Grammars.{BeginsWithNone}
 use Rattle.market_history.specs.Histories.{market_of, starts}
-use Rattle.flow_exchange.specs.HistoryFiles.{History, history_status, IsNoHistory, HistoryToBy}
+use Rattle.flow_exchange.specs.HistoryFiles.{History, history_status, IsNoHistory, HistoryTo}
 use Rattle.flow_exchange.specs.Auditing.{audit_text}
 use Rattle.flow_exchange.specs.Explaining.{Explains}
 use Rattle.flow_exchange.specs.Reporting.{AreReported}
@@ -131,7 +131,7 @@ begins_none bytes s (inr unsound) = unsound.0.0
 
 -- a subcommand over a history makes one status of it, and one text if it makes one of each history
 history_one : (judge : History → Status) (Writes : History → List ℕ → Type 0) → ((history : History) (x y : List ℕ) → Writes history x → Writes history y → x ≡ y) → (limit : ℕ) (bytes : List ℕ) (s t : Status) (x y : List ℕ)
-    → HistoryToBy judge Writes limit bytes s x → HistoryToBy judge Writes limit bytes t y → (s ≡ t) × (x ≡ y)
+    → HistoryTo judge Writes limit bytes s x → HistoryTo judge Writes limit bytes t y → (s ≡ t) × (x ≡ y)
 history_one judge Writes one limit bytes s t x y (inl a) (inl b) = (no_history_one (take limit bytes) s t a.0 b.0, a.1 ∙ sym b.1)
 history_one judge Writes one limit bytes s t x y (inl a) (inr b) = let reads = b.is.reads in absurd (begins_none (take limit bytes) s a.0 b.history.start reads.0 reads.1.0 reads.1.1)
 history_one judge Writes one limit bytes s t x y (inr a) (inl b) = let reads = a.is.reads in absurd (begins_none (take limit bytes) t b.0 a.history.start reads.0 reads.1.0 reads.1.1)

@@ -7,7 +7,6 @@ use Rattle.wire_records.specs.Records.{Record, encoding}
 use Rattle.wire_records.specs.Commands.{Pair}
 use Rattle.wire_records.proofs.Encoded.{length-encoding}
 use Rattle.wire_records.specs.declared.version.Version.{Version}
-use Rattle.wire_records.specs.declared.version.Version.TheVariants.{One}
 use Rattle.flow_orders.specs.Outcomes.{Outcome}
 use Rattle.journal_records.specs.Replies.{answer_record}
 use Rattle.journal_records.specs.Pairs.{pair_encoding}
@@ -40,7 +39,6 @@ one_pair pair = one_piece (pair_encoding pair) (pair_long pair)
 
 -- a magic is one piece
 one_magic : (version : Version) → piece (journal_magic_of version) ≡ journal_magic_of version ∷ []
-one_magic One = refl
 one_magic version = refl
 
 -- what answers a record is an entry

@@ -10,7 +10,7 @@ use Rattle.journal_replay.specs.Audits.{cleared_in, skipped_in}
 use Rattle.journal_words.specs.Line.{counted_line}
 use Rattle.flow_exchange.specs.declared.status.Status.{Status}
 use Rattle.flow_exchange.specs.JournalFiles.{if_whole}
-use Rattle.flow_exchange.specs.HistoryFiles.{History, HistoryTo, IsAtPairOf, LacksStart}
+use Rattle.flow_exchange.specs.HistoryFiles.{History, history_status, HistoryTo, IsAtPairOf, LacksStart}
 
 -- the line on valid entries
 abbrev pub legal_line : List (Pair Record Outcome) → List ℕ
@@ -22,7 +22,7 @@ audit_text history = if_whole history.following history.ending (legal_line histo
 
 -- an audit of the first `limit` bytes results in this status and this text
 abbrev pub AuditsTo : ℕ → List ℕ → Status → List ℕ → Type 0
-AuditsTo limit = HistoryTo (λ history text. text ≡ audit_text history) limit
+AuditsTo limit = HistoryTo (history_status limit) (λ history text. text ≡ audit_text history) limit
 
 -- where memory may run out: for a checkpoint, or at an entry whose command may run out of it
 abbrev pub AuditsShort : ℕ → List ℕ → List ℕ → Type 0

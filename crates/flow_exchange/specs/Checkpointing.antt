@@ -4,7 +4,7 @@ use Rattle.market_snapshot.specs.Checkpoints.{checkpoint_bytes}
 use Rattle.flow_exchange.specs.declared.status.Status.{Status}
 use Rattle.flow_exchange.specs.declared.status.Status.TheVariants.{Done}
 use Rattle.flow_exchange.specs.JournalFiles.{if_whole}
-use Rattle.flow_exchange.specs.HistoryFiles.{History, HistoryTo}
+use Rattle.flow_exchange.specs.HistoryFiles.{History, history_status, HistoryTo}
 use Rattle.flow_exchange.specs.Auditing.{AuditsShort}
 
 -- what is written: the checkpoint of the market at the end if all was done, and else nothing
@@ -13,7 +13,7 @@ checkpoint_text history = if_whole history.following history.ending (checkpoint_
 
 -- the first `limit` bytes result in this status and this text
 abbrev pub CheckpointsTo : ℕ → List ℕ → Status → List ℕ → Type 0
-CheckpointsTo limit = HistoryTo (λ history text. text ≡ checkpoint_text history) limit
+CheckpointsTo limit = HistoryTo (history_status limit) (λ history text. text ≡ checkpoint_text history) limit
 
 -- where memory may run out: where it may in an audit, or at the end of a history whose entries are all valid, for the checkpoint
 abbrev pub CheckpointsShort : ℕ → List ℕ → List ℕ → Type 0

@@ -6,7 +6,7 @@ use Rattle.flow_orders.specs.Outcomes.{Outcome}
 use Rattle.market_rules.specs.Market.{Market}
 use Rattle.journal_words.specs.Findings.{IsExplained}
 use Rattle.flow_exchange.specs.declared.status.Status.{Status}
-use Rattle.flow_exchange.specs.HistoryFiles.{HistoryTo}
+use Rattle.flow_exchange.specs.HistoryFiles.{history_status, HistoryTo}
 use Rattle.flow_exchange.specs.Auditing.{audit_text}
 
 -- what is written: the line of what is found of the first invalid entry, or what an audit writes if all are valid
@@ -16,4 +16,4 @@ Explains market legal (bad ∷ more) line text = IsExplained market (length lega
 
 -- the first `limit` bytes result in this status and this text
 abbrev pub ExplainsTo : ℕ → List ℕ → Status → List ℕ → Type 0
-ExplainsTo limit = HistoryTo (λ history text. Explains history.market history.legal history.following (audit_text history) text) limit
+ExplainsTo limit = HistoryTo (history_status limit) (λ history text. Explains history.market history.legal history.following (audit_text history) text) limit

@@ -55,12 +55,8 @@ pub record MakesOfHistory (limit : ℕ) (bytes : List ℕ) (judge : History → 
 
 -- a subcommand makes this status and text of the first `limit` bytes: they begin no history, and nothing is written, or they are one,
 -- whose status is by `judge`
-abbrev pub HistoryToBy : (History → Status) → (History → List ℕ → Type 0) → ℕ → List ℕ → Status → List ℕ → Type 0
-HistoryToBy judge Writes limit bytes status text = (IsNoHistory (take limit bytes) status × (text ≡ [])) ⊎ MakesOfHistory limit bytes judge Writes status text
-
--- a subcommand makes this status and text of the first `limit` bytes, and the status of a history is its `history_status`
-abbrev pub HistoryTo : (History → List ℕ → Type 0) → ℕ → List ℕ → Status → List ℕ → Type 0
-HistoryTo Writes limit bytes status text = HistoryToBy (history_status limit) Writes limit bytes status text
+abbrev pub HistoryTo : (History → Status) → (History → List ℕ → Type 0) → ℕ → List ℕ → Status → List ℕ → Type 0
+HistoryTo judge Writes limit bytes status text = (IsNoHistory (take limit bytes) status × (text ≡ [])) ⊎ MakesOfHistory limit bytes judge Writes status text
 
 -- The entries of the history begin with these valid ones, which lead to this market, and another one follows.
 pub record IsAtPairOf (limit : ℕ) (bytes : List ℕ) (start : Start) (legal : List (Pair Record Outcome)) (market : Market) (next : Record × Record) : Type 0 where

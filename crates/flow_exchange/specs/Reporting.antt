@@ -12,7 +12,7 @@ use Rattle.market_history.specs.Histories.{Start, market_of}
 use Rattle.batch_audit.specs.Legal.{IsLegalPair}
 use Rattle.batch_report.specs.Reports.{IsReport}
 use Rattle.flow_exchange.specs.declared.status.Status.{Status}
-use Rattle.flow_exchange.specs.HistoryFiles.{HistoryTo, IsAtPairOf, LacksStart}
+use Rattle.flow_exchange.specs.HistoryFiles.{history_status, HistoryTo, IsAtPairOf, LacksStart}
 
 -- the entries are steps from a market to another, and the text is their lines, entry after entry, numbered from `number` on
 abbrev pub AreReported : Market → ℕ → List (Pair Record Outcome) → Market → List ℕ → Type 0
@@ -23,7 +23,7 @@ AreReported old number (pair ∷ pairs) new text =
 
 -- the first `limit` bytes result in this status and this text, which is that of the valid entries
 abbrev pub ReportsTo : ℕ → List ℕ → Status → List ℕ → Type 0
-ReportsTo limit = HistoryTo (λ history text. AreReported (market_of history.start) 1 history.legal history.market text) limit
+ReportsTo limit = HistoryTo (history_status limit) (λ history text. AreReported (market_of history.start) 1 history.legal history.market text) limit
 
 -- where memory may run out: for a checkpoint, at an entry whose command may run out of it, or at a valid entry, for its text
 abbrev pub ReportsShort : ℕ → List ℕ → List ℕ → Type 0

@@ -14,7 +14,7 @@ use Rattle.statement_rules.specs.Statements.{text_from, statement_from}
 use Rattle.flow_exchange.specs.declared.status.Status.{Status}
 use Rattle.flow_exchange.specs.declared.status.Status.TheVariants.{Done, NoAccount}
 use Rattle.flow_exchange.specs.JournalFiles.{if_whole}
-use Rattle.flow_exchange.specs.HistoryFiles.{History, IsHistory, history_status, HistoryToBy, IsAtPairOf, LacksStart}
+use Rattle.flow_exchange.specs.HistoryFiles.{History, IsHistory, history_status, HistoryTo, IsAtPairOf, LacksStart}
 
 -- The arguments are `statement` and a number of 64 bits in plain decimal digits.
 pub record AskStatement (words : List (List ℕ)) (number : ℕ) : Type 0 where
@@ -42,7 +42,7 @@ pub record States (account : ℕ) (history : History) (text : List ℕ) : Type 0
 
 -- the first `limit` bytes result in this status and this text
 abbrev pub StatesTo : ℕ → ℕ → List ℕ → Status → List ℕ → Type 0
-StatesTo account limit = HistoryToBy (statement_status account limit) (States account) limit
+StatesTo account limit = HistoryTo (statement_status account limit) (States account) limit
 
 -- The text is the lines that are carried forward and those of what the account sees of these entries, which lead from the market that a
 -- history begins in to this one.

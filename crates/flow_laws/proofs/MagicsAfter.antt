@@ -7,7 +7,7 @@ use Rattle.wire_records.specs.Grammars.{BeginsWithNone, encode_all}
 use Rattle.wire_records.specs.Reading.{Torn}
 use Rattle.wire_records.specs.Formats.{StatesOver, command_magic_of}
 use Rattle.wire_records.specs.declared.version.Version.{Version}
-use Rattle.wire_records.specs.declared.version.Version.TheVariants.{One, Two, Three, Four}
+use Rattle.wire_records.specs.Versions.{number_of}
 use Rattle.wire_records.proofs.Prefixes.{no_prefix-from_overlong}
 use Rattle.journal_records.specs.Replies.{most_reply_body}
 use Rattle.journal_records.specs.Pairs.{pair_encoding}
@@ -32,17 +32,11 @@ of_checkpoints = 1280268115
 
 states_commands : (version : Version) (body : List ℕ) → StatesLength of_commands (command_magic_of version ++ body)
 unfolding head unsigned
-states_commands One body = (omega arith, 70, omega arith, 77 ∷ 68 ∷ 49 ∷ body, refl)
-states_commands Two body = (omega arith, 70, omega arith, 77 ∷ 68 ∷ 50 ∷ body, refl)
-states_commands Three body = (omega arith, 70, omega arith, 77 ∷ 68 ∷ 51 ∷ body, refl)
-states_commands Four body = (omega arith, 70, omega arith, 77 ∷ 68 ∷ 52 ∷ body, refl)
+states_commands version body = (omega arith, 70, omega arith, 77 ∷ 68 ∷ (48 + number_of version) ∷ body, refl)
 
 states_journals : (version : Version) (body : List ℕ) → StatesLength of_journals (journal_magic_of version ++ body)
 unfolding head unsigned
-states_journals One body = (omega arith, 70, omega arith, 78 ∷ 76 ∷ 49 ∷ body, refl)
-states_journals Two body = (omega arith, 70, omega arith, 78 ∷ 76 ∷ 50 ∷ body, refl)
-states_journals Three body = (omega arith, 70, omega arith, 78 ∷ 76 ∷ 51 ∷ body, refl)
-states_journals Four body = (omega arith, 70, omega arith, 78 ∷ 76 ∷ 52 ∷ body, refl)
+states_journals version body = (omega arith, 70, omega arith, 78 ∷ 76 ∷ (48 + number_of version) ∷ body, refl)
 
 states_checkpoints : (body : List ℕ) → StatesLength of_checkpoints (checkpoint_magic ++ body)
 unfolding head unsigned

@@ -12,7 +12,7 @@ use Rattle.market_history.proofs.Starting.{kept_magic}
 use Rattle.history_words.proofs.Starts.{other_magics}
 use Rattle.flow_exchange.specs.declared.status.Status.TheVariants as answer
 use Rattle.flow_exchange.specs.JournalFiles.{if_whole, audit_status}
-use Rattle.flow_exchange.specs.HistoryFiles.{History, history_status, HistoryToBy}
+use Rattle.flow_exchange.specs.HistoryFiles.{History, history_status, HistoryTo}
 use Rattle.flow_exchange.specs.Stating.{statement_status, States}
 use Rattle.statement_rules.specs.Views.{is_there}
 use Rattle.flow_exchange.specs.declared.status.Status.{Status}
@@ -58,7 +58,7 @@ otherwise bytes none not = (unstarted bytes none (λ market prefix rest is_one e
 
 -- a subcommand that judges a history by neither status
 module _ (judge : History → Status) (never_bad : (history : History) → answer.BadCheckpoint ≡ judge history → ⊥) (never_other : (history : History) → answer.NotFlow ≡ judge history → ⊥) (Writes : History → List ℕ → Type 0) (limit : ℕ) (bytes text : List ℕ) where
-  bad : HistoryToBy judge Writes limit bytes answer.BadCheckpoint text ↔ (HasCheckpointMagic (take limit bytes) × BeginsWithNoCheckpoint (take limit bytes) × (text ≡ []))
+  bad : HistoryTo judge Writes limit bytes answer.BadCheckpoint text ↔ (HasCheckpointMagic (take limit bytes) × BeginsWithNoCheckpoint (take limit bytes) × (text ≡ []))
   bad = (
     λ comes.
         elim comes [
@@ -68,7 +68,7 @@ module _ (judge : History → Status) (never_bad : (history : History) → answe
     λ (magic, none, empty). inl (inr (unsound (take limit bytes) magic none, refl), empty),
   )
 
-  not_flow : HistoryToBy judge Writes limit bytes answer.NotFlow text ↔ (BeginsWithNone journals.magics (take limit bytes) × (¬ HasCheckpointMagic (take limit bytes)) × (text ≡ []))
+  not_flow : HistoryTo judge Writes limit bytes answer.NotFlow text ↔ (BeginsWithNone journals.magics (take limit bytes) × (¬ HasCheckpointMagic (take limit bytes)) × (text ≡ []))
   not_flow = (
     λ comes.
         elim comes [

@@ -7,7 +7,6 @@ use Rattle.std.proofs.lemmas.Slice.Eq.{bytes_eq-Decides}
 use Rattle.wire_records.specs.Records.{Record}
 use Rattle.wire_records.specs.Grammars.{BeginsWith}
 use Rattle.wire_records.specs.declared.version.Version.{Version}
-use Rattle.wire_records.specs.declared.version.Version.TheVariants.{One}
 use Rattle.journal_records.specs.Formats.{journal_magic_of}
 use Rattle.journal_records.proofs.Files.{journals_readable}
 use Rattle.market_rules.specs.Market.{Market, empty_market}
@@ -24,7 +23,6 @@ use Rattle.history_words.specs.Histories.{following, Beginning, ComesFrom}
 
 -- no journal begins as a checkpoint: the fifth byte of its magic is J
 fifth : (version : Version) (body : List ℕ) → get_or (journal_magic_of version ++ body) 4 0 ≡ 74
-fifth One body = refl
 fifth version body = refl
 
 pub other_magics : (version : Version) (bytes body : List ℕ) → bytes ≡ journal_magic_of version ++ body → HasCheckpointMagic bytes → ⊥

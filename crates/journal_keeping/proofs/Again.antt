@@ -13,7 +13,7 @@ use Rattle.journal_keeping.proofs.Opened.{legal_is_opened}
 
 -- a new disk represents a journal without entries
 new_is_legal : (image : List ℕ) → IsNewDisk image → IsLegalImage image
-new_is_legal image is_new = (Empty One, [], empty_market One, none_read (Empty One) (empty_market One) tt refl, inl (record { is_new = is_new; no_first = refl; none = refl }))
+new_is_legal image is_new = (Empty One, [], empty_market One, none_read (Empty One) (empty_market One) tt refl, inl (is_new, refl, refl))
 
 pub can_begin_again : (start end : DiskState) → CanBeginAgain start end
 can_begin_again start end = record {

@@ -74,6 +74,5 @@ bare_place begin p (version, is, none) =
 
 -- bytes without a checkpoint and without an entry are those of a new disk
 pub bare_new : (begin : Start) (p : List RecordPair) (bytes : List ℕ) → IsBare begin p → HasEntries (head_of begin) p bytes → IsNewDisk bytes
-bare_new begin p bytes (version, is, none) has0 =
-    let has = subst (λ (b : Start). HasEntries (head_of b) [] bytes) is (subst (λ (l : List RecordPair). HasEntries (head_of begin) l bytes) none has0) in
-    inr (record { of = version; commit = has.commit; shut = has.shut; rest = has.rest; encoded = has.encoded ∙ ap (λ (l : List ℕ). l ++ has.commit ∷ has.rest) (magic_alone version) })
+bare_new begin p bytes (version, is, none) has =
+    inr (version, subst (λ (b : Start). HasEntries (head_of b) [] bytes) is (subst (λ (l : List RecordPair). HasEntries (head_of begin) l bytes) none has))

@@ -25,11 +25,12 @@ use Rattle.journal_keeping.specs.declared.fault.KeepFault.{KeepFault}
 use Rattle.journal_keeping.specs.declared.fault.KeepFault.TheVariants.{Read, Write, Disk, Memory, NotDisk, Damaged, Rejected, NotFlow, BadCheckpoint, Torn, TooLong}
 use Rattle.journal_keeping.specs.Faults.{kept_fault}
 use Rattle.journal_keeping.specs.Starts.{version_of, head_of, HasFirst}
-use Rattle.journal_keeping.specs.Keeping.{IsKeptJournal, StandsForJournal, HoldsLegal, SourceBegins, GoesOnIn}
+use Rattle.journal_keeping.specs.Keeping.{IsKeptJournal, StandsForJournal, HoldsLegal, GoesOnIn}
 use Rattle.journal_keeping.specs.Openings.{Legal, IsOpening, OpensAs, KeepNone}
 use Rattle.journal_keeping.specs.Auditing.{StopsAs}
 use Rattle.journal_keeping.specs.Beginning.{IsReadUp, IsOpened, IsCounted, IsBegun, IsKeptOn, BeginsAt, StopsFirst, OpensNot, IsOfDisk, WhileOpening, OpensSafely}
 use Rattle.journal_keeping.proofs.Auditing.{none_read}
+use Rattle.journal_keeping.proofs.Making.{SourceBegins}
 use Rattle.journal_keeping.proofs.Opened.{has_them, same_journal}
 use Rattle.journal_keeping.proofs.Beginnings.{bare_place}
 use Rattle.journal_keeping.proofs.OneOpening.{one_opening}
@@ -210,7 +211,7 @@ module _ (start : DiskState) (v : Start) (old : Pairs) (market : Market) (holds 
 
   -- a new disk has no old entries
   pub new_again : (held : List ℕ) → start.content ≡ Some held → IsNewDisk held → old ≡ []
-  new_again held told is_new = no_pairs old (⊎_elim (λ new. new.none) (λ has. few_none (head_of v) (map records_of old) (new_none (head_of v) (map records_of old) held is_new has)) (stands_there held told))
+  new_again held told is_new = no_pairs old (⊎_elim (λ new. new.2) (λ has. few_none (head_of v) (map records_of old) (new_none (head_of v) (map records_of old) held is_new has)) (stands_there held told))
 
   -- what was opened are the old entries, which begin so
   pub opened_old : (held : List ℕ) → start.content ≡ Some held → (begin : Start) (legal : Pairs) (m : Market) → IsOpening held (Legal begin legal m) → (v ≡ begin) × (old ≡ legal) × (market ≡ m)

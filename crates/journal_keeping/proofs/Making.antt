@@ -13,7 +13,6 @@ use Rattle.journal_disk.specs.Recovering.{IsFound}
 use Rattle.journal_disk.specs.Looking.{OnlyLooks}
 use Rattle.journal_disk.proofs.GoingOn.{looks_more}
 use Rattle.journal_keeping.specs.Starts.{source_start, sources}
-use Rattle.journal_keeping.specs.Keeping.{SourceBegins}
 use Rattle.journal_keeping.specs.Beginning.{IsAfterStart}
 use Rattle.journal_keeping.specs.Making.{HasTakenStart}
 
@@ -72,6 +71,10 @@ module _ (limit : ℕ) (w : WindowState) (input : Start) (first : List ℕ) (beg
 
 pub start_taken : (limit : ℕ) (w : WindowState) (input : Start) (content mid left : Option (List ℕ)) (taken : List ℕ) → IsAfterStart limit input w content mid → Takes mid left taken → IfSome content (λ bytes. HasTakenStart limit bytes left)
 start_taken limit w input content mid left taken following takes = has_told limit w input following.first following.magic following.few content mid left taken following.takes takes
+
+-- the first `limit` bytes of the source begin so, if its content is known
+abbrev pub SourceBegins : ℕ → Option (List ℕ) → Start → Type 0
+SourceBegins limit content input = IfSome content (λ bytes. (body : List ℕ) × BeginsWith sources.magics (take limit bytes) input body)
 
 -- and so it is within the limit
 pub source_begins : (limit : ℕ) (w : WindowState) (input : Start) (content left : Option (List ℕ)) → IsAfterStart limit input w content left → SourceBegins limit content input

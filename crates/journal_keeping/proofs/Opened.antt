@@ -32,7 +32,7 @@ kept_each pairs all = recursion_from_All IsRecordPair (map records_of pairs) (Al
 
 -- bytes that are not new and represent entries have them
 pub has_them : (head : Head) (pairs : List RecordPair) (bytes : List ℕ) → (¬ IsNewDisk bytes) → StandsFor head pairs bytes → HasEntries head pairs bytes
-has_them head pairs bytes long (inl new) = absurd (long new.is_new)
+has_them head pairs bytes long (inl new) = absurd (long new.0)
 has_them head pairs bytes long (inr has) = has
 
 -- a valid journal is opened in one way

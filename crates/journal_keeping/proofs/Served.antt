@@ -1,10 +1,11 @@
 -- The records that were served are the first ones of the source.
-use Rattle.std.proofs.Common.{◌≡◌, inr, ℕ, ◌-◌, ◌≤◌, List, [], ◌++◌, Option, Some, None, Result, Ok, Err, length, take, sym, ap, subst, ◌∙◌}
+use Rattle.std.proofs.Common.{◌≡◌, ◌⊎◌, inr, ℕ, ◌-◌, ◌≤◌, List, [], ◌++◌, Option, Some, None, IfSome, Result, Ok, Err, length, take, sym, ap, subst, ◌∙◌}
 use Rattle.std.proofs.lemmas.List.{append-nil}
 use Rattle.flow_io.specs.Streams.{Takes}
 use Rattle.flow_io.specs.Windows.{WindowState}
 use Rattle.wire_records.specs.Records.{Record}
 use Rattle.wire_records.specs.Grammars.{BeginsWith}
+use Rattle.wire_records.specs.Reading.{StartsWith}
 use Rattle.market_rules.specs.Market.{Market}
 use Rattle.market_history.specs.Histories.{Start}
 use Rattle.file_units.specs.Inputs.{known}
@@ -12,7 +13,6 @@ use Rattle.disk_edge.specs.Disks.{DiskState}
 use Rattle.journal_keeping.specs.declared.fault.KeepFault.{KeepFault}
 use Rattle.journal_keeping.specs.declared.fault.KeepFault.TheVariants.{Read, Write, Disk, Memory, NotDisk, Damaged, Rejected, NotFlow, BadCheckpoint, Torn, TooLong}
 use Rattle.journal_keeping.specs.Starts.{source_start, sources}
-use Rattle.journal_keeping.specs.Keeping.{AreServed}
 use Rattle.journal_keeping.specs.Private.{ServesOn}
 use Rattle.journal_keeping.specs.Pacing.{asked_of}
 use Rattle.journal_keeping.proofs.Turns.{Pairs}
@@ -41,6 +41,6 @@ served_first window mid left (Err BadCheckpoint) before from start end held hold
 
 -- the bytes of the source begin so, and with the served records
 pub are_served : (input : Start) (limit : ℕ) (content mid left : Option (List ℕ)) (first held taken : List ℕ) (records : List Record) → Takes content mid first → BeginsWith sources.magics first input held → length first ≤ limit → Takes mid left taken
-    → BeginsWithAll (take (limit - length (source_start input)) (held ++ known taken left)) records → AreServed limit input content records
+    → BeginsWithAll (take (limit - length (source_start input)) (held ++ known taken left)) records → (records ≡ []) ⊎ IfSome content (λ bytes. StartsWith sources limit bytes input records)
 are_served input limit None mid left first held taken records opens magic few takes all = inr tt
 are_served input limit (Some bytes) mid left first held taken records opens magic few takes all = inr (starts_with input limit bytes first held taken mid left records opens magic few takes all)

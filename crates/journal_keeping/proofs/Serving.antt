@@ -61,7 +61,7 @@ module _ (begin : Start) where
       let pairs = map records_of old in
       let few = new_none (head_of begin) pairs (entries (head_of begin) pairs ++ keeps.0 ∷ []) (subst (λ (o : Option (List ℕ)). IfSome o IsNewDisk) keeps.2.content still.0)
       (record { lawful = keeps.2.lawful; each = keeps.2.each; commit = keeps.0; shut = keeps.1; rest = []; encoded = refl }) in
-      inl (record { is_new = still.1; no_first = few_first (head_of begin) pairs few; none = few_none (head_of begin) pairs few })
+      inl (still.1, few_first (head_of begin) pairs few, few_none (head_of begin) pairs few)
 
   -- the old entries, and none of the new ones
   first_of : (old new : Pairs) (image : List ℕ) → StandsForJournal begin old image → KeepsFirst begin old new 0 (length new) image

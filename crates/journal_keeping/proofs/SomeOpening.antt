@@ -20,7 +20,7 @@ use Rattle.journal_disk.specs.Pairs.{RecordPair, pair_bytes}
 use Rattle.journal_disk.specs.Entries.{IsHead, framed, entry, entries, disk_magic_of, IsNewDisk}
 use Rattle.journal_disk.specs.Recovering.{IsForeign}
 use Rattle.journal_disk.specs.Stepping.{HasEntryAt, IsDamagedAt}
-use Rattle.journal_disk.proofs.Entries.{magic_alone, magic_first, length-framed, disk_magics_told, eight}
+use Rattle.journal_disk.proofs.Entries.{empty_disk, magic_alone, magic_first, length-framed, disk_magics_told, eight}
 use Rattle.journal_disk.proofs.OneList.{unset_commit}
 use Rattle.journal_disk.proofs.OpenedEntries.{new_not_foreign}
 use Rattle.journal_disk.proofs.Excluding.{one_after}
@@ -164,9 +164,9 @@ module _ (bytes : List ℕ) (long : 9 < length bytes) (small : length bytes ≤ 
       let known : ¬ IsForeign bytes = λ foreign. elim foreign [ inl large ↦ omega (arith, small, large) | inr none ↦ none.1 v (commit ∷ rest) tt is ] in
       ⊎_elim
       (λ (is_open : commit ≡ 1). follows
-      (by_first bytes (λ new. elim new [ inl short ↦ omega (arith, short, long) | inr closed ↦ closed.shut (sym (unset_commit bytes closed) ∙ commit_of v commit rest is ∙ is_open) ]) known v (commit ∷ rest) is)
+      (by_first bytes (λ new. elim new [ inl short ↦ omega (arith, short, long) | inr closed ↦ closed.1.shut (sym (unset_commit closed.0 bytes closed.1) ∙ commit_of v commit rest is ∙ is_open) ]) known v (commit ∷ rest) is)
       (one_of ((m : Market) × HasFirst m bytes)))
-      (λ shut. not_denied (New, (inr (record { of = v; commit = commit; shut = shut; rest = rest; encoded = is }), known)))
+      (λ shut. not_denied (New, (inr (v, empty_disk v commit rest bytes shut is), known)))
       (cases_eq commit 1)
     where
       commit_of : (v : Version) (commit : ℕ) (rest : List ℕ) → bytes ≡ disk_magic_of v ++ commit ∷ rest → get_or bytes 8 0 ≡ commit

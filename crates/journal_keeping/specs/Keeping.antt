@@ -42,16 +42,13 @@ pub record HoldsLegal (disk : DiskState) (begin : Start) (old : List (Pair Recor
   pub stands : StandsForJournal begin old bytes
   pub each : (image : List ℕ) → disk.images image → IsLegalImage image
 
--- the first `limit` bytes of the source begin so, if its content is known
-abbrev pub SourceBegins : ℕ → Option (List ℕ) → Start → Type 0
-SourceBegins limit content input = IfSome content (λ bytes. (body : List ℕ) × BeginsWith sources.magics (take limit bytes) input body)
-
 -- How the journal that a run continues begins, in which market, and how its source begins. It begins as that of the old entries, in the
 -- market after them, and the source is to be a command file of its version; or on a new disk it begins as the source does, within the limit.
 abbrev pub GoesOnIn : ℕ → Option (List ℕ) → DiskState → Start → Market → Start → Market → Start → Type 0
 GoesOnIn limit content start begin market of from input =
     ((of ≡ begin) × (from ≡ market) × (input ≡ Empty (version_of begin)))
-    ⊎ (IfSome start.content IsNewDisk × (from ≡ market_of of) × (input ≡ of) × SourceBegins limit content of)
+    ⊎ (IfSome start.content IsNewDisk × (from ≡ market_of of) × (input ≡ of)
+    × IfSome content (λ bytes. (body : List ℕ) × BeginsWith sources.magics (take limit bytes) of body))
 
 -- The new entries answer these records by the canonical rule, from the market after the old entries, and are one valid journal together with
 -- them.
@@ -80,10 +77,6 @@ AtReturn begin start end old new acknowledged =
     (image : List ℕ) → end.images image
     → (start.images image × (acknowledged ≡ 0)) ⊎ (KeepsFirst begin old new acknowledged (acknowledged + 1) image ⊎ (IsStillNew start image × (acknowledged ≡ 0)))
 
--- These records were served: none, or, if the source's content is known, the first ones in its first `limit` bytes.
-abbrev pub AreServed : ℕ → Start → Option (List ℕ) → List Record → Type 0
-AreServed limit input content records = (records ≡ []) ⊎ IfSome content (λ bytes. StartsWith sources limit bytes input records)
-
 -- The output gained these entries, all complete; only if a write was cut short, there may be a prefix of the last one instead of it.
 pub record StandIn (Cut : Type 0) (before after : Option (List ℕ)) (pairs : List (Pair Record Outcome)) : Type 0 where
   pub whole : List (Pair Record Outcome)
@@ -108,7 +101,7 @@ pub record KeepsOn (limit : ℕ) (content : Option (List ℕ)) (Cut : Type 0) (b
   pub records : List Record
   pub new : List (Pair Record Outcome)
   pub acknowledged : ℕ
-  pub served : AreServed limit input content records
+  pub served : (records ≡ []) ⊎ IfSome content (λ bytes. StartsWith sources limit bytes input records)
   pub runs : Runs begin start end old market records new acknowledged
   pub written : StandIn Cut before after (take acknowledged new)
 

@@ -8,8 +8,6 @@ use Rattle.wire_records.specs.Commands.{Answer, Pair}
 use Rattle.wire_records.specs.Grammars.{encode_all}
 use Rattle.wire_records.specs.Reading.{Reading, File, End, Reads}
 use Rattle.wire_records.specs.declared.version.Version.{Version}
-use Rattle.wire_records.specs.declared.version.Version.TheVariants.{One}
-use Rattle.wire_records.specs.Versions.{number_of}
 use Rattle.wire_records.specs.Formats.{records, EitherStatesOver}
 use Rattle.wire_records.proofs.Prefixes.{states_none-from_few}
 use Rattle.wire_records.proofs.CodeLaws.{both_code}
@@ -24,16 +22,11 @@ use Rattle.journal_records.proofs.Encoded.{answer_unique}
 
 -- each magic of a journal has eight bytes
 pub eight : (version : Version) → length (journal_magic_of version) ≡ 8
-eight One = refl
 eight version = refl
 
 -- the magics of journals
 pub journal_magics : AreMagics journal_magic_of
-journal_magics = record { eight = eight; last = last_byte }
-  where
-    last_byte : (version : Version) → get_or (journal_magic_of version) 7 0 ≡ 48 + number_of version
-    last_byte One = refl
-    last_byte version = refl
+journal_magics = record { eight = eight; last = λ version. refl }
 
 -- journals can be read
 pub journals_readable : IsReadable journals

@@ -1,23 +1,20 @@
 -- Journals as files: entries of two records each, whatever these ask and answer.
-use Rattle.std.specs.Prelude.{ℕ, List, ◌++◌, codes}
+use Rattle.std.specs.Prelude.{◌+◌, ℕ, List, [], ◌∷◌, ◌++◌, codes}
 use Rattle.std.specs.List.{flat_map}
 use Rattle.wire_records.specs.Records.{Record, most_body}
 use Rattle.wire_records.specs.Commands.{Pair}
 use Rattle.wire_records.specs.Grammars.{both}
 use Rattle.wire_records.specs.Reading.{Format}
 use Rattle.wire_records.specs.declared.version.Version.{Version}
-use Rattle.wire_records.specs.declared.version.Version.TheVariants.{One, Two, Three, Four}
+use Rattle.wire_records.specs.Versions.{number_of}
 use Rattle.wire_records.specs.Formats.{magics, records, EitherStatesOver}
 use Rattle.flow_orders.specs.Outcomes.{Outcome}
 use Rattle.journal_records.specs.Replies.{answer_record, most_reply_body}
 use Rattle.journal_records.specs.Pairs.{pair_encoding}
 
--- the magic of a journal of each version
+-- the magic of a journal of each version: a word, and the version's number as a digit (48 is `0`)
 abbrev pub journal_magic_of : Version → List ℕ
-journal_magic_of One = codes "FLOWJNL1"
-journal_magic_of Two = codes "FLOWJNL2"
-journal_magic_of Three = codes "FLOWJNL3"
-journal_magic_of Four = codes "FLOWJNL4"
+journal_magic_of version = codes "FLOWJNL" ++ (48 + number_of version) ∷ []
 
 -- the bytes of a journal of these entries, in a version
 abbrev pub journal_in : Version → List (Pair Record Outcome) → List ℕ

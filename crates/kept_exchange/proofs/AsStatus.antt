@@ -69,6 +69,20 @@ disk_back limit (Err BadCheckpoint) e = absurd cc
 disk_back limit (Err (Torn place)) e = absurd cc
 disk_back limit (Err TooLong) e = absurd cc
 
+pub memory_back : (limit : ℕ) (result : Kept) → kept_status limit result ≡ status.NoMemory → ◌≡◌ {A = Kept} result (Err Memory)
+memory_back limit (Ok done) e = absurd cc
+memory_back limit (Err Read) e = absurd cc
+memory_back limit (Err Write) e = absurd cc
+memory_back limit (Err Disk) e = absurd cc
+memory_back limit (Err Memory) e = refl
+memory_back limit (Err NotDisk) e = absurd cc
+memory_back limit (Err (Damaged place)) e = absurd cc
+memory_back limit (Err (Rejected number)) e = absurd cc
+memory_back limit (Err NotFlow) e = absurd cc
+memory_back limit (Err BadCheckpoint) e = absurd cc
+memory_back limit (Err (Torn place)) e = absurd cc
+memory_back limit (Err TooLong) e = absurd cc
+
 pub done_back : (limit : ℕ) (result : Kept) → kept_status limit result ≡ status.Done → ◌≡◌ {A = Kept} result (Ok tt)
 done_back limit (Ok done) e = refl
 done_back limit (Err Read) e = absurd cc

@@ -1,5 +1,5 @@
 -- A call that keeps a journal does what is promised of it.
-use Rattle.std.proofs.Common.{◌≡◌, ◌+◌, ℕ, List, Option, IfSome, Result, Ok, Err, OnOk, OnErr, IsErr, refl, ap}
+use Rattle.std.proofs.Common.{◌≡◌, ◌+◌, ℕ, List, Option, Result, Ok, Err, OnOk, OnErr, IsErr, refl, ap}
 use Rattle.flow_io.specs.Faults.{Rose, Blames}
 use Rattle.flow_io.specs.Streams.{Grows, GrowsByPrefix, TakesAtMost}
 use Rattle.flow_io.specs.Changes.{Change}
@@ -11,11 +11,7 @@ use Rattle.flow_orders.specs.Outcomes.{Outcome}
 use Rattle.market_rules.specs.Market.{Market}
 use Rattle.market_history.specs.Histories.{Start}
 use Rattle.disk_edge.specs.Disks.{DiskState}
-use Rattle.journal_disk.specs.Looking.{OnlyLooks}
 use Rattle.journal_keeping.specs.Keeping.{HoldsLegal, KeepsIn}
-use Rattle.journal_keeping.specs.Openings.{KeepNone}
-use Rattle.journal_keeping.specs.Making.{IsMadeAfterStart}
-use Rattle.journal_keeping.specs.Lengths.{GrowsAtMost}
 use Rattle.journal_keeping.specs.declared.fault.KeepFault.TheVariants.{Read, Write, Disk}
 use Rattle.flow_exchange.specs.declared.status.Status.TheVariants as status
 use Rattle.flow_exchange.specs.Statuses.{line_of}
@@ -63,10 +59,7 @@ cut_line (Err e) before after line grows prefix = prefix
 module _ (limit : ℕ) (result : Kept) (start end : DiskState) (source out : Change) where
   pub serves : (notes : Change) (noting : Result (Unit {0}) WriteFailed)
       → ((begin : Start) (old : List (Pair Record Outcome)) (market : Market) → HoldsLegal start begin old market → KeepsIn limit source.before (◌≡◌ {A = Kept} result (Err Write)) begin start end old market out.before out.after)
-      → IfSome start.content (λ held. GrowsAtMost limit source.before start end)
       → ByResult limit start.content end source out result
-      → IfSome start.content (λ held. KeepNone held → OnlyLooks start end × (source.after ≡ source.before) × (out.after ≡ out.before))
-      → IfSome start.content (λ held. IsMadeAfterStart limit held start end source.before source.after)
       → TakesAtMost source.before source.after (limit + 1)
       → Blames (◌≡◌ {A = Kept} result (Err Disk)) start.faults end.faults
       → Blames (◌≡◌ {A = Kept} result (Err Read)) source.faults source.faults_after
@@ -75,12 +68,9 @@ module _ (limit : ℕ) (result : Kept) (start end : DiskState) (source out : Cha
       → OnErr noting (GrowsByPrefix notes.before notes.after (line_of (kept_status limit result)))
       → Blames (IsErr noting) notes.faults notes.faults_after
       → ServesKeep limit (kept_status limit result) start end source out notes
-  serves notes noting keeps lengths ended untouched made taken disk read write line prefix cause = record {
+  serves notes noting keeps ended taken disk read write line prefix cause = record {
     keeps = λ begin old market holds. keeps_wider limit source.before (◌≡◌ {A = Kept} result (Err Write)) (kept_status limit result ≡ status.WriteFault) begin start end old market out.before out.after (ap (kept_status limit)) (keeps begin old market holds);
-    lengths = lengths;
     ends = ends_as limit start.content end source out result ended;
-    untouched = untouched;
-    made = made;
     taken = taken;
     disks = blames_as _ _ _ _ (ap (kept_status limit)) (disk_back limit result) disk;
     reads = blames_as _ _ _ _ (ap (kept_status limit)) (read_back limit result) read;

@@ -10,15 +10,11 @@ use Rattle.flow_orders.specs.Outcomes.{Outcome}
 use Rattle.market_rules.specs.Market.{Market}
 use Rattle.market_history.specs.Histories.{Start}
 use Rattle.disk_edge.specs.Disks.{DiskState}
-use Rattle.journal_disk.specs.Looking.{OnlyLooks}
 use Rattle.journal_keeping.specs.Keeping.{HoldsLegal}
-use Rattle.journal_keeping.specs.Openings.{KeepNone}
 use Rattle.journal_keeping.specs.declared.fault.KeepFault.TheVariants.{Read, Write, Disk}
 use Rattle.line_keeping.specs.Outputs.{Output}
 use Rattle.line_keeping.specs.Keeping.{ServesIn}
 use Rattle.line_keeping.specs.Ended.{ComesTo, LeavesNone}
-use Rattle.line_keeping.specs.Making.{IsMadeAfterStart}
-use Rattle.line_keeping.specs.Lengths.{GrowsAtMost}
 use Rattle.line_keeping.proofs.Gaining.{gains_wider}
 use Rattle.flow_exchange.specs.declared.status.Status.TheVariants as status
 use Rattle.flow_exchange.specs.Statuses.{line_of}
@@ -51,10 +47,7 @@ serves_wider limit content Cut Wider begin start end old market out later wider 
 module _ (limit : ℕ) (result : Kept) (start end : DiskState) (source : Change) (out later : Output) where
   pub serves : (notes : Change) (noting : Result (Unit {0}) WriteFailed)
       → ((begin : Start) (old : List (Pair Record Outcome)) (market : Market) → HoldsLegal start begin old market → ServesIn limit source.before (◌≡◌ {A = Kept} result (Err Write)) begin start end old market out later)
-      → IfSome start.content (λ held. GrowsAtMost limit source.before start end)
       → IfSome start.content (λ held. ComesTo limit held source.before source.after end out later result)
-      → IfSome start.content (λ held. KeepNone held → OnlyLooks start end × (source.after ≡ source.before) × (later ≡ out))
-      → IfSome start.content (λ held. IsMadeAfterStart limit held start end source.before source.after)
       → TakesAtMost source.before source.after (limit + 1)
       → LeavesNone result source.after
       → Blames (◌≡◌ {A = Kept} result (Err Disk)) start.faults end.faults
@@ -64,12 +57,9 @@ module _ (limit : ℕ) (result : Kept) (start end : DiskState) (source : Change)
       → OnErr noting (GrowsByPrefix notes.before notes.after (line_of (kept_status limit result)))
       → Blames (IsErr noting) notes.faults notes.faults_after
       → ServesLines limit (kept_status limit result) start end source out later notes
-  serves notes noting keeps lengths comes untouched made taken left disk read write line prefix cause = record {
+  serves notes noting keeps comes taken left disk read write line prefix cause = record {
     keeps = λ begin old market holds. serves_wider limit source.before (◌≡◌ {A = Kept} result (Err Write)) (kept_status limit result ≡ status.WriteFault) begin start end old market out later (ap (kept_status limit)) (keeps begin old market holds);
-    lengths = lengths;
     comes = if_some start.content _ _ (λ (held : List ℕ) so. lines_end_as limit held source.before source.after end out later result so) comes;
-    untouched = untouched;
-    made = made;
     taken = taken;
     left = λ e. subst (λ (r : Kept). LeavesNone r source.after) (done_back limit result e) left;
     disks = blames_as _ _ _ _ (ap (kept_status limit)) (disk_back limit result) disk;

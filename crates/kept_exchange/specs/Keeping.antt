@@ -10,14 +10,10 @@ use Rattle.flow_orders.specs.Outcomes.{Outcome}
 use Rattle.market_rules.specs.Market.{Market}
 use Rattle.market_history.specs.Histories.{Start}
 use Rattle.disk_edge.specs.Disks.{DiskState}
-use Rattle.journal_disk.specs.Looking.{OnlyLooks}
 use Rattle.journal_keeping.specs.Starts.{BeginsUnsound}
 use Rattle.journal_keeping.specs.Keeping.{HoldsLegal, KeepsIn}
-use Rattle.journal_keeping.specs.Openings.{KeepNone}
 use Rattle.journal_keeping.specs.Openings as opening
-use Rattle.journal_keeping.specs.Making.{IsMadeAfterStart}
-use Rattle.journal_keeping.specs.Lengths.{GrowsAtMost}
-use Rattle.journal_keeping.specs.Pacing.{ReadsAll, IsNear, IsInCheckpoint, RunsOut}
+use Rattle.journal_keeping.specs.Pacing.{ReadsAll, IsNear, IsInCheckpoint}
 use Rattle.journal_keeping.specs.Ended.{IsRefused, HasKeptAll, StaysNew, HasLeftAll}
 use Rattle.flow_exchange.specs.declared.status.Status.{Status}
 use Rattle.flow_exchange.specs.declared.status.Status.TheVariants.{Done, Usage, NotFlow, Torn, ReadFault, WriteFault, NoMemory, Rejected, TooLong, BadText, BadCheckpoint, NoAccount, DiskFault, NotDisk, Damaged}
@@ -29,14 +25,6 @@ module _ (limit : ℕ) (held : Option (List ℕ)) (end : DiskState) (source out 
   abbrev pub HasServed : reading.Ending → Type 0
   HasServed ending = IfSome held (λ bytes. (records : List Record) × HasKeptAll limit bytes source.before end out.before out.after records ending)
 
-  -- the disk was opened so, and holds what it held
-  abbrev pub Refuses : opening.Opening → Type 0
-  Refuses opens = IfSome held (λ bytes. IsRefused bytes opens end)
-
-  -- the source was read no further than 1,030 bytes past the last record whose entry was written, past its beginning, or past the first eight bytes
-  abbrev pub IsReadNear : Type 0
-  IsReadNear = IsNear limit source.before source.after out.before out.after
-
   -- what holds of the disk, the source and the output, by the status
   abbrev pub EndsWith : Status → Type 0
   -- All was served, and nothing is left of the source.
@@ -45,17 +33,14 @@ module _ (limit : ℕ) (held : Option (List ℕ)) (end : DiskState) (source out 
   EndsWith (TooLong most) = HasServed reading.TooLong × (most ≡ limit)
   EndsWith NotFlow = IfSome held (λ bytes. HasLeftAll limit bytes source.before end out.before out.after)
   EndsWith BadCheckpoint = IfSome held (λ bytes. Grows out.before out.after [] × StaysNew BeginsUnsound limit bytes source.before end)
-  EndsWith NotDisk = Refuses opening.Foreign
-  EndsWith (Damaged place) = Refuses (opening.Damaged place)
-  EndsWith (Rejected number) = Refuses (opening.Rejected number)
-  -- All complete records that were taken were answered, and no others.
-  EndsWith ReadFault = ReadsAll limit source.before source.after out.before out.after
-  EndsWith WriteFault = IsReadNear
-  EndsWith DiskFault = IsReadNear
-  -- Memory runs out before anything is read or written, for a checkpoint of the source, or at a record that may allocate.
-  EndsWith NoMemory =
-      (IsReadNear ⊎ (IsInCheckpoint limit source.before source.after × (out.after ≡ out.before)))
-      × IfSome held (λ bytes. RunsOut limit bytes source.before source.after end out.before out.after)
+  EndsWith NotDisk = IfSome held (λ bytes. IsRefused bytes opening.Foreign end)
+  EndsWith (Damaged place) = IfSome held (λ bytes. IsRefused bytes (opening.Damaged place) end)
+  EndsWith (Rejected number) = IfSome held (λ bytes. IsRefused bytes (opening.Rejected number) end)
+  -- After a fault, and if memory ran out, the disk and the output have what `keeps` says of them.
+  EndsWith ReadFault = Unit {0}
+  EndsWith WriteFault = Unit {0}
+  EndsWith DiskFault = Unit {0}
+  EndsWith NoMemory = Unit {0}
   -- These are of other subcommands.
   EndsWith Usage = ⊥
   EndsWith (BadText number) = ⊥
@@ -74,17 +59,8 @@ pub record ServesKeep (limit : ℕ) (status : Status) (start end : DiskState) (s
   -- a crash leave a new one, and after the call only if no entry was acknowledged.
   pub keeps : (begin : Start) (old : List (Pair Record Outcome)) (market : Market) → HoldsLegal start begin old market
       → KeepsIn limit source.before (status ≡ WriteFault) begin start end old market out.before out.after
-  -- At each moment a crash leaves at most 263,183 bytes for each byte of the source more than it might have left at the start, or than the
-  -- 9 of a new disk. So if that was at most 2^59, and the source has at most 2^32 bytes, what it leaves has at most 2^60.
-  pub lengths : IfSome start.content (λ held. GrowsAtMost limit source.before start end)
   -- Which status comes, and what holds then of the disk, the source and the output.
   pub ends : EndsWith limit start.content end source out status
-  -- A disk that keeps no valid journal (it is no kept file, is damaged, or has an entry that isn't valid) is never changed, whatever the
-  -- status, and nothing is read or written then.
-  pub untouched : IfSome start.content (λ held. KeepNone held → OnlyLooks start end × (source.after ≡ source.before) × (out.after ≡ out.before))
-  -- A new disk is never changed, whatever the status, unless the whole beginning of a source was taken: the magic of a command file, or a
-  -- checkpoint and the magic after it.
-  pub made : IfSome start.content (λ held. IsMadeAfterStart limit held start end source.before source.after)
   -- At most one byte past the limit was taken of the source.
   pub taken : TakesAtMost source.before source.after (limit + 1)
   -- A fault is answered only if its count rose; otherwise the count stays.
@@ -94,3 +70,14 @@ pub record ServesKeep (limit : ℕ) (status : Status) (start end : DiskState) (s
   -- Standard error gained the line of the status, or a prefix of it if a write of it failed. Such a fault changes nothing else.
   pub noted : (¬ Rose notes.faults notes.faults_after) → Grows notes.before notes.after (line_of status)
   pub cut : GrowsByPrefix notes.before notes.after (line_of status)
+
+-- How far a call that keeps a journal has read, if something failed or memory ran out.
+pub record IsPaced (limit : ℕ) (status : Status) (source out : Change) : Type 0 where
+  -- After a failed read all complete records that were taken were answered, and no others.
+  pub read : status ≡ ReadFault → ReadsAll limit source.before source.after out.before out.after
+  -- After another failure the source was read no further than 1,030 bytes past the last record whose entry was written, past its beginning,
+  -- or past the first eight bytes.
+  pub near : (status ≡ WriteFault) ⊎ (status ≡ DiskFault) → IsNear limit source.before source.after out.before out.after
+  -- So it was if memory ran out, or it was read within the checkpoint with which it begins, and nothing was written.
+  pub memory : status ≡ NoMemory
+      → IsNear limit source.before source.after out.before out.after ⊎ (IsInCheckpoint limit source.before source.after × (out.after ≡ out.before))

@@ -20,7 +20,7 @@ use Rattle.line_keeping.specs.Ended as lines
 use Rattle.flow_exchange.specs.declared.status.Status.{Status}
 use Rattle.flow_exchange.specs.declared.status.Status.TheVariants.{NoMemory}
 use Rattle.kept_exchange.specs.Statuses.{kept_status, AsksStatus, LinesAskStatus}
-use Rattle.kept_exchange.specs.Keeping.{IsRefusal, EndsWith, ServesKeep}
+use Rattle.kept_exchange.specs.Keeping.{IsRefusal, EndsWith, IsPaced, ServesKeep}
 use Rattle.kept_exchange.specs.Lines.{LinesEndWith, ServesLines}
 
 -- the bytes of a disk and of a source lead to at most one status
@@ -65,9 +65,11 @@ abbrev pub LinesFollow : DiskState → DiskState → Type 0
 LinesFollow start end = (limit : ℕ) (status : Status) (source : Change) (out later : Output) (notes : Change) → ServesLines limit status start end source out later notes
     → Follows (LinesAskStatus limit) status start end source out.faults later.faults
 
--- what holds by the status is what some result of keeping a journal, which has that status, leads to
+-- what holds by the status, and how far was read, is what some result of keeping a journal, which has that status, leads to
 abbrev pub KeepEndsByResult : DiskState → Type 0
-KeepEndsByResult end = (limit : ℕ) (held : Option (List ℕ)) (source out : Change) (status : Status) → EndsWith limit held end source out status
+KeepEndsByResult end = (limit : ℕ) (held : Option (List ℕ)) (source out : Change) (status : Status)
+    → (EndsWith limit held end source out status × IsPaced limit status source out
+    × (status ≡ NoMemory → IfSome held (λ bytes. RunsOut limit bytes source.before source.after end out.before out.after)))
     ↔ ((result : Result (Unit {0}) KeepFault) × (status ≡ kept_status limit result)
     × IfSome held (λ bytes. kept.ComesTo limit bytes source.before end out.before out.after result) × KeepsPace limit source.before source.after out.before out.after result
     × ((◌≡◌ {A = Result (Unit {0}) KeepFault} result (Err Memory)) → IfSome held (λ bytes. RunsOut limit bytes source.before source.after end out.before out.after)))

@@ -13,17 +13,14 @@ use Rattle.market_snapshot.specs.Checkpoints.{HasCheckpointMagic}
 use Rattle.market_history.specs.Histories.{Start}
 use Rattle.disk_edge.specs.Disks.{DiskState}
 use Rattle.journal_disk.specs.Entries.{Keeps}
-use Rattle.journal_disk.specs.Looking.{OnlyLooks}
 use Rattle.journal_keeping.specs.Starts.{head_of, BeginsUnsound}
 use Rattle.journal_keeping.specs.Keeping.{HoldsLegal}
-use Rattle.journal_keeping.specs.Openings.{Foreign, Damaged, Rejected, Legal, IsOpening, KeepNone}
+use Rattle.journal_keeping.specs.Openings.{Foreign, Damaged, Rejected, Legal, IsOpening}
 use Rattle.journal_keeping.specs.Ended.{IsRefused, StaysNew}
 use Rattle.line_keeping.specs.Outputs.{Output}
 use Rattle.line_keeping.specs.Inputs.{HasLines, HasLinesWithin}
 use Rattle.line_keeping.specs.Keeping.{ServesIn}
 use Rattle.line_keeping.specs.Ended.{HasAnswered, BreaksOff, KeepsJust, RunsOutAt, IsNotOpened, IsNotBegun, RunsOutEarly}
-use Rattle.line_keeping.specs.Making.{IsMadeAfterStart}
-use Rattle.line_keeping.specs.Lengths.{GrowsAtMost}
 use Rattle.flow_exchange.specs.declared.status.Status.{Status}
 use Rattle.flow_exchange.specs.declared.status.Status.TheVariants as status
 use Rattle.flow_exchange.specs.Statuses.{line_of}
@@ -67,15 +64,8 @@ pub record ServesLines (limit : ℕ) (ends : Status) (start end : DiskState) (so
   -- a crash leave a new one, and after the call only if no entry was acknowledged.
   pub keeps : (begin : Start) (old : List (Pair Record Outcome)) (market : Market) → HoldsLegal start begin old market
       → ServesIn limit source.before (ends ≡ status.WriteFault) begin start end old market out later
-  -- At each moment a crash leaves at most 8,421,856 bytes for each byte of the source more than it might have left at the start, or than the
-  -- 9 of a new disk. So if that was at most 2^59, and the source has at most 2^32 bytes, what it leaves has at most 2^60.
-  pub lengths : IfSome start.content (λ held. GrowsAtMost limit source.before start end)
   -- Which status comes, how far the lines were answered and the source was read, and what the disk and the output have then.
   pub comes : IfSome start.content (λ held. LinesEndWith limit held source.before source.after end out later ends)
-  -- A disk that keeps no valid journal is never changed, whatever the status, and nothing is read or written then.
-  pub untouched : IfSome start.content (λ held. KeepNone held → OnlyLooks start end × (source.after ≡ source.before) × (later ≡ out))
-  -- A new disk is never changed, whatever the status, unless what was taken of the input shows what is before its lines.
-  pub made : IfSome start.content (λ held. IsMadeAfterStart limit held start end source.before source.after)
   -- At most one byte past the limit was taken of the source, and nothing is left of it at Done.
   pub taken : TakesAtMost source.before source.after (limit + 1)
   pub left : ends ≡ status.Done → IfSome source.after (λ rest. rest ≡ [])

@@ -44,7 +44,7 @@ module _ (begin : Start) (start mid : DiskState) (old new : Pairs) (before m : M
       let pairs = map records_of (old ++ new) in
       let few = new_none (head_of begin) pairs (entries (head_of begin) pairs ++ keeps.0 ∷ []) (subst (λ (o : Option (List ℕ)). IfSome o IsNewDisk) keeps.2.content still.0)
       (record { lawful = keeps.2.lawful; each = keeps.2.each; commit = keeps.0; shut = keeps.1; rest = []; encoded = refl }) in
-      inl (record { is_new = still.1; no_first = few_first (head_of begin) pairs few; none = few_none (head_of begin) pairs few })
+      inl (still.1, few_first (head_of begin) pairs few, few_none (head_of begin) pairs few)
 
   module _ (more : Pairs) where
     -- the new entries, and none of those after them

@@ -2,7 +2,7 @@
 use Rattle.std.proofs.Common.{◌≡◌, ℕ, inl, inr, Option, Result, Ok, Err, Some, None, OnOk, OnErr, IsOk, ◌↔◌, refl, ap, arith}
 use Rattle.std.specs.Prelude.{IfErr, MatchResult, neg_ℤ}
 use Rattle.std.proofs.lemmas.Int.{ints}
-use Rattle.wire_records.specs.Commands.{Command, DepositMoney, DepositAsset, WithdrawMoney, WithdrawAsset, SetMoneyCredit, SetUnitCredit, Plain}
+use Rattle.wire_records.specs.Commands.{Command, Deposit, Withdraw, SetCredit, Plain}
 use Rattle.wire_records.specs.declared.reply.Reply.{Reply}
 use Rattle.wire_records.specs.declared.reply.Reply.TheVariants.{Done, Refused}
 use Rattle.wire_records.specs.declared.reply.Refusal.{Refusal}
@@ -20,19 +20,6 @@ use Rattle.market_core.specs.Private.{refusal_for}
 -- the reply for the result of a change of an account
 abbrev pub Replies : {T : Type 0} → Result T AccountFault → Reply → Type 0
 Replies outcome reply = MatchResult outcome (λ _. reply ≡ Done) (λ why. reply ≡ Refused (refusal_for why))
-
--- the commands by the kind of what is deposited, withdrawn or given as credit
-abbrev pub deposit : ℕ → Option ℕ → ℕ → Command
-deposit account None ticks = DepositMoney account ticks
-deposit account (Some asset) units = DepositAsset account asset units
-
-abbrev pub withdrawal : ℕ → Option ℕ → ℕ → Command
-withdrawal account None ticks = WithdrawMoney account ticks
-withdrawal account (Some asset) units = WithdrawAsset account asset units
-
-abbrev pub credit : ℕ → Option ℕ → ℕ → Command
-credit account None ticks = SetMoneyCredit account ticks
-credit account (Some asset) units = SetUnitCredit account asset units
 
 module _ (Rule : BatchRule) (m : Market) (now : Balances) where
   abbrev made : Market
@@ -55,20 +42,17 @@ module _ (Rule : BatchRule) (m : Market) (now : Balances) where
   refused_by says reply refusal first is err = record { first = Some refusal; refused = says.refuses (Some refusal) first; answered = (ap Plain is, ap (λ b. record m { balances = b }) err) }
 
   module _ (account : ℕ) where
-    says_deposit : (kind : Option ℕ) (count : ℕ) → Says (deposit account kind count) (DepositRefusal m account kind count) (change_balance m.balances account kind (value_of kind count))
-    says_deposit None count = record { refuses = λ first refusal. refusal; accepts = λ reply given. given }
-    says_deposit (Some asset) count = record { refuses = λ first refusal. refusal; accepts = λ reply given. given }
+    says_deposit : (kind : Option ℕ) (count : ℕ) → Says (Deposit account kind count) (DepositRefusal m account kind count) (change_balance m.balances account kind (value_of kind count))
+    says_deposit kind count = record { refuses = λ first refusal. refusal; accepts = λ reply given. given }
 
-    says_withdrawal : (kind : Option ℕ) (count : ℕ) → Says (withdrawal account kind count) (WithdrawalRefusal m account kind count) (change_balance m.balances account kind (neg_ℤ (value_of kind count)))
-    says_withdrawal None count = record { refuses = λ first refusal. refusal; accepts = λ reply given. given }
-    says_withdrawal (Some asset) count = record { refuses = λ first refusal. refusal; accepts = λ reply given. given }
+    says_withdrawal : (kind : Option ℕ) (count : ℕ) → Says (Withdraw account kind count) (WithdrawalRefusal m account kind count) (change_balance m.balances account kind (neg_ℤ (value_of kind count)))
+    says_withdrawal kind count = record { refuses = λ first refusal. refusal; accepts = λ reply given. given }
 
-    says_credit : (kind : Option ℕ) (count : ℕ) → Says (credit account kind count) (CreditRefusal m account kind count) (set_credit m.balances account kind count)
-    says_credit None count = record { refuses = λ first refusal. refusal; accepts = λ reply given. given }
-    says_credit (Some asset) count = record { refuses = λ first refusal. refusal; accepts = λ reply given. given }
+    says_credit : (kind : Option ℕ) (count : ℕ) → Says (SetCredit account kind count) (CreditRefusal m account kind count) (set_credit m.balances account kind count)
+    says_credit kind count = record { refuses = λ first refusal. refusal; accepts = λ reply given. given }
 
     pub serves-deposit : {T : Type 0} (kind : Option ℕ) (count : ℕ) (outcome : Result T AccountFault) (reply : Reply)
-        → IsServed (deposit account kind count) (AcceptsDeposit m.balances account kind count) (RefusesDeposit m.balances account kind count) (change_balance m.balances account kind (value_of kind count)) outcome reply
+        → IsServed (Deposit account kind count) (AcceptsDeposit m.balances account kind count) (RefusesDeposit m.balances account kind count) (change_balance m.balances account kind (value_of kind count)) outcome reply
     serves-deposit kind count (Ok x) reply accepted refused ok err is =
         let a = accepted.0 refl in
         accepted_by (says_deposit kind count) reply (inr (a.account_there, inr (a.kind_there, inr (λ zero. omega (arith, zero, a.not_zero), inr (λ over. omega (arith, ints, over, a.within_limit), refl))))) is ok
@@ -85,7 +69,7 @@ module _ (Rule : BatchRule) (m : Market) (now : Balances) where
 
     -- a withdrawal: what the orders of the account need is reserved
     pub serves-withdrawal : {T : Type 0} (kind : Option ℕ) (count : ℕ) (outcome : Result T AccountFault) (reply : Reply) → let reserved = needed m.orders account kind in
-        IsServed (withdrawal account kind count) (AcceptsWithdrawal m.balances account kind count reserved) (RefusesWithdrawal m.balances account kind count reserved) (change_balance m.balances account kind (neg_ℤ (value_of kind count))) outcome reply
+        IsServed (Withdraw account kind count) (AcceptsWithdrawal m.balances account kind count reserved) (RefusesWithdrawal m.balances account kind count reserved) (change_balance m.balances account kind (neg_ℤ (value_of kind count))) outcome reply
     serves-withdrawal kind count (Ok x) reply accepted refused ok err is =
         let a = accepted.0 refl in
         accepted_by (says_withdrawal kind count) reply (inr (a.account_there, inr (a.kind_there, inr (λ zero. omega (arith, zero, a.not_zero), inr (λ over. omega (arith, ints, over, a.free), refl))))) is ok
@@ -103,7 +87,7 @@ module _ (Rule : BatchRule) (m : Market) (now : Balances) where
 
     -- a credit: what the orders of the account need is reserved
     pub serves-credit : {T : Type 0} (kind : Option ℕ) (count : ℕ) (outcome : Result T AccountFault) (reply : Reply) → let reserved = needed m.orders account kind in
-        IsServed (credit account kind count) (AcceptsCredit m.balances account kind count reserved) (RefusesCredit m.balances account kind count reserved) (set_credit m.balances account kind count) outcome reply
+        IsServed (SetCredit account kind count) (AcceptsCredit m.balances account kind count reserved) (RefusesCredit m.balances account kind count reserved) (set_credit m.balances account kind count) outcome reply
     serves-credit kind count (Ok x) reply accepted refused ok err is =
         let a = accepted.0 refl in
         accepted_by (says_credit kind count) reply (inr (a.account_there, inr (a.kind_there, inr (λ above. omega (arith, above, a.within_limit), inr (λ short. omega (arith, ints, short, a.covers), refl))))) is ok

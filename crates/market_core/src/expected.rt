@@ -1,7 +1,7 @@
 //! What the market would reply: the command that a record encodes, and the reply that a command gets. Nothing is
 //! changed.
-ghost use Rattle.std.specs.Prelude.{◌≡◌, ℕ, ◌+◌, ◌<◌, ◌^◌, Ok, Err, IfOk, IfErr, length};
-ghost use Rattle.wire_records.specs.Commands.{AddAsset, OpenAccount, DepositMoney, DepositAsset, WithdrawMoney, WithdrawAsset, Place, CancelOrder, RunBatch, SetMoneyCredit, SetUnitCredit};
+ghost use Rattle.std.specs.Prelude.{◌≡◌, ℕ, ◌+◌, ◌<◌, ◌^◌, Some, None, Ok, Err, IfOk, IfErr, length};
+ghost use Rattle.wire_records.specs.Commands.{AddAsset, OpenAccount, Deposit, Withdraw, Place, CancelOrder, RunBatch, SetCredit};
 ghost use Rattle.wire_records.specs.CommandRecords.{IsCommand};
 ghost use Rattle.wire_records.specs.Versions.{IsOfVersion, IsReadAs};
 ghost use Rattle.wire_records.specs.Views.{command_of};
@@ -113,26 +113,26 @@ impl Market {
     }
 
     fn expected_money_deposit(&self, account: u32, ticks: u64) -> Reply
-        ensures { IsExpected self.now (DepositMoney account ticks) result }
+        ensures { IsExpected self.now (Deposit account None ticks) result }
     {
         reply_to(self.accounts.money_deposit(account, ticks))
     }
 
     fn expected_unit_deposit(&self, account: u32, asset: u16, units: u64) -> Reply
-        ensures { IsExpected self.now (DepositAsset account asset units) result }
+        ensures { IsExpected self.now (Deposit account (Some asset) units) result }
     {
         reply_to(self.accounts.unit_deposit(account, asset, units))
     }
 
     fn expected_money_withdrawal(&self, account: u32, ticks: u64) -> Reply
-        ensures { IsExpected self.now (WithdrawMoney account ticks) result }
+        ensures { IsExpected self.now (Withdraw account None ticks) result }
     {
         let reserved = self.book.money_needed(account);
         reply_to(self.accounts.money_withdrawal(account, ticks, reserved))
     }
 
     fn expected_unit_withdrawal(&self, account: u32, asset: u16, units: u64) -> Reply
-        ensures { IsExpected self.now (WithdrawAsset account asset units) result }
+        ensures { IsExpected self.now (Withdraw account (Some asset) units) result }
     {
         let reserved = self.book.units_needed(account, asset);
         reply_to(
@@ -151,14 +151,14 @@ impl Market {
     }
 
     fn expected_money_credit(&self, account: u32, ticks: u64) -> Reply
-        ensures { IsExpected self.now (SetMoneyCredit account ticks) result }
+        ensures { IsExpected self.now (SetCredit account None ticks) result }
     {
         let reserved = self.book.money_needed(account);
         reply_to(self.accounts.money_credit_fault(account, ticks, reserved))
     }
 
     fn expected_unit_credit(&self, account: u32, asset: u16, units: u64) -> Reply
-        ensures { IsExpected self.now (SetUnitCredit account asset units) result }
+        ensures { IsExpected self.now (SetCredit account (Some asset) units) result }
     {
         let reserved = self.book.units_needed(account, asset);
         reply_to(

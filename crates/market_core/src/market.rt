@@ -1,8 +1,8 @@
 //! The market of a run, and what a command makes of it.
-ghost use Rattle.std.specs.Prelude.{◌≡◌, ℕ, ◌+◌, ◌<◌, ◌≤◌, ◌^◌, IfOk, OnErr, MatchResult, None, SomeIff, length};
+ghost use Rattle.std.specs.Prelude.{◌≡◌, ℕ, ◌+◌, ◌<◌, ◌≤◌, ◌^◌, IfOk, OnErr, MatchResult, Some, None, SomeIff, length};
 ghost use Rattle.std.specs.Borrow.{sem};
 ghost use Rattle.std.specs.Result.{ForErr};
-ghost use Rattle.wire_records.specs.Commands.{AddAsset, OpenAccount, DepositMoney, DepositAsset, WithdrawMoney, WithdrawAsset, CancelOrder, RunBatch, SetMoneyCredit, SetUnitCredit, Plain};
+ghost use Rattle.wire_records.specs.Commands.{AddAsset, OpenAccount, Deposit, Withdraw, CancelOrder, RunBatch, SetCredit, Plain};
 ghost use Rattle.wire_records.specs.CommandRecords.{IsCommand};
 ghost use Rattle.wire_records.specs.Views.{command_of};
 ghost use Rattle.wire_records.specs.Versions.{IsOfVersion};
@@ -307,29 +307,29 @@ impl Market {
 
     #[inline(always)]
     fn deposit_money(&mut self, account: u32, ticks: u64) -> Reply
-        ensures { ServesPlain self.old (DepositMoney account ticks) (Plain result) self.new }
+        ensures { ServesPlain self.old (Deposit account None ticks) (Plain result) self.new }
     {
         reply_to(self.accounts.deposit_money(account, ticks))
     }
 
     #[inline(always)]
     fn deposit_units(&mut self, account: u32, asset: u16, units: u64) -> Reply
-        ensures { ServesPlain self.old (DepositAsset account asset units) (Plain result) self.new }
+        ensures { ServesPlain self.old (Deposit account (Some asset) units) (Plain result) self.new }
     {
         reply_to(self.accounts.deposit_units(account, asset, units))
     }
 
     fn set_money_credit(&mut self, account: u32, ticks: u64) -> Reply
-        requires { IsOfVersion self.old.version (SetMoneyCredit account ticks) }
-        ensures { ServesPlain self.old (SetMoneyCredit account ticks) (Plain result) self.new }
+        requires { IsOfVersion self.old.version (SetCredit account None ticks) }
+        ensures { ServesPlain self.old (SetCredit account None ticks) (Plain result) self.new }
     {
         let needed = self.book.money_needed(account);
         reply_to(self.accounts.set_money_credit(account, ticks, needed))
     }
 
     fn set_unit_credit(&mut self, account: u32, asset: u16, units: u64) -> Reply
-        requires { IsOfVersion self.old.version (SetUnitCredit account asset units) }
-        ensures { ServesPlain self.old (SetUnitCredit account asset units) (Plain result) self.new }
+        requires { IsOfVersion self.old.version (SetCredit account (Some asset) units) }
+        ensures { ServesPlain self.old (SetCredit account (Some asset) units) (Plain result) self.new }
     {
         let needed = self.book.units_needed(account, asset);
         reply_to(self.accounts.set_unit_credit(account, asset, units, needed))
@@ -337,7 +337,7 @@ impl Market {
 
     #[inline(always)]
     fn withdraw_money(&mut self, account: u32, ticks: u64) -> Reply
-        ensures { ServesPlain self.old (WithdrawMoney account ticks) (Plain result) self.new }
+        ensures { ServesPlain self.old (Withdraw account None ticks) (Plain result) self.new }
     {
         let reserved = self.book.money_needed(account);
         reply_to(self.accounts.withdraw_money(account, ticks, reserved))
@@ -345,7 +345,7 @@ impl Market {
 
     #[inline(always)]
     fn withdraw_units(&mut self, account: u32, asset: u16, units: u64) -> Reply
-        ensures { ServesPlain self.old (WithdrawAsset account asset units) (Plain result) self.new }
+        ensures { ServesPlain self.old (Withdraw account (Some asset) units) (Plain result) self.new }
     {
         let reserved = self.book.units_needed(account, asset);
         reply_to(

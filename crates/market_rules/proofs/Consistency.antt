@@ -9,7 +9,7 @@ use Rattle.flow_accounts.specs.Lawful.{most_credit}
 use Rattle.market_rules.proofs.ByKind.{holds_totals, within_limits}
 use Rattle.flow_orders.specs.Orders.{needed_money, needed_units}
 use Rattle.flow_orders.specs.Outcomes.{IsAdmissibleOutcome, Outcome}
-use Rattle.wire_records.specs.Commands.{Request, Command, AddAsset, OpenAccount, DepositMoney, DepositAsset, WithdrawMoney, WithdrawAsset, Place, CancelOrder, RunBatch, SetMoneyCredit, SetUnitCredit, Answer, Pair}
+use Rattle.wire_records.specs.Commands.{Request, Command, AddAsset, OpenAccount, Deposit, Withdraw, Place, CancelOrder, RunBatch, SetCredit, Answer, Pair}
 use Rattle.wire_records.specs.declared.reply.Refusal.{Refusal}
 use Rattle.market_rules.specs.Market.{Market, IsConsistent, IsInTime, empty_market}
 use Rattle.market_rules.specs.Step.{FirstRefusal, Accepts, Answers, Serves, placed, ServesRead}
@@ -38,7 +38,7 @@ consistent-accepted m (AddAsset ticker) a n of consistent none accepts =
 consistent-accepted m OpenAccount a n of consistent none accepts =
     let one = past_when none in
     subst IsConsistent (sym accepts.1) (consistent-opened m consistent (not_least 65536 (length m.balances.accounts) one.0))
-consistent-accepted m (DepositMoney account ticks) a n of consistent none accepts =
+consistent-accepted m (Deposit account None ticks) a n of consistent none accepts =
     let one = past_unless none in
     let two = past_when (past_unless one.1).1 in
     let three = past_when two.1 in
@@ -46,13 +46,13 @@ consistent-accepted m (DepositMoney account ticks) a n of consistent none accept
   where
     more : (x y : ℤ) (n : ℕ) → x ≤ℤ y → x ≤ℤ (y +ℤ pos n)
     more x y n below = omega (arith, ints, below)
-consistent-accepted m (DepositAsset account asset units) a n of consistent none accepts =
+consistent-accepted m (Deposit account (Some asset) units) a n of consistent none accepts =
     let one = past_unless none in
     let two = past_unless one.1 in
     let three = past_when two.1 in
     let four = past_when three.1 in
     subst IsConsistent (sym accepts.1) (consistent-units m account asset (pos units) consistent one.0 two.0 (omega (arith, ints, consistent.covered account (Some asset) one.0 two.0)) (not_below _ _ four.0))
-consistent-accepted m (WithdrawMoney account ticks) a n of consistent none accepts =
+consistent-accepted m (Withdraw account None ticks) a n of consistent none accepts =
     let one = past_unless none in
     let two = past_when (past_unless one.1).1 in
     let three = past_when two.1 in
@@ -65,7 +65,7 @@ consistent-accepted m (WithdrawMoney account ticks) a n of consistent none accep
 
     fewer : (x : ℤ) (n : ℕ) (most : ℤ) → x ≤ℤ most → (x +ℤ neg_ℤ (pos n)) ≤ℤ most
     fewer x n most below = omega (arith, ints, below)
-consistent-accepted m (WithdrawAsset account asset units) a n of consistent none accepts =
+consistent-accepted m (Withdraw account (Some asset) units) a n of consistent none accepts =
     let one = past_unless none in
     let two = past_unless one.1 in
     let three = past_when two.1 in
@@ -90,14 +90,14 @@ consistent-accepted m (Place last r) a n of consistent none accepts =
     let eight = past_unless seven.1 in
     subst IsConsistent (sym accepts.1) (consistent-order m (placed m last r) consistent (placed_is_order m last r two.0 three.0 four.0 five.0) refl one.0 six.0 (not_least 16384 (length m.orders) seven.0) eight.0
     (in_time m last r of time.0))
-consistent-accepted m (SetMoneyCredit account ticks) a n of consistent none accepts =
+consistent-accepted m (SetCredit account None ticks) a n of consistent none accepts =
     let one = past_unless none in
     let two = past_when (past_unless one.1).1 in
     let three = past_when two.1 in
     let version = not_one m.version (omega (arith, of.1)) in
     let covers : pos 0 ≤ℤ (money_of m.balances account -ℤ needed_money m.orders account +ℤ grains ticks) = not_below _ _ three.0 in
     subst IsConsistent (sym accepts.1) (consistent-money_credit m account ticks consistent version one.0 (not_above most_credit ticks two.0) (omega (arith, ints, covers)))
-consistent-accepted m (SetUnitCredit account asset units) a n of consistent none accepts =
+consistent-accepted m (SetCredit account (Some asset) units) a n of consistent none accepts =
     let one = past_unless none in
     let two = past_unless one.1 in
     let three = past_when two.1 in

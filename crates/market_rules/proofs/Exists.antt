@@ -3,7 +3,7 @@ use Rattle.std.proofs.Common.{ℕ, ◌<◌, ◌⊎◌, ◌≡◌, inl, inr, Opti
 use Rattle.std.specs.Prelude.{IfSome}
 use Rattle.flow_orders.specs.Orders.{most_cap}
 use Rattle.flow_orders.specs.Outcomes.{Outcome, most_budget}
-use Rattle.wire_records.specs.Commands.{Command, AddAsset, OpenAccount, DepositMoney, DepositAsset, WithdrawMoney, WithdrawAsset, Place, CancelOrder, RunBatch, SetMoneyCredit, SetUnitCredit, Answer, Plain}
+use Rattle.wire_records.specs.Commands.{Command, AddAsset, OpenAccount, Deposit, Withdraw, Place, CancelOrder, RunBatch, SetCredit, Answer, Plain}
 use Rattle.wire_records.specs.declared.reply.Refusal.{Refusal}
 use Rattle.wire_records.specs.declared.reply.Reply.TheVariants.{Refused}
 use Rattle.market_rules.specs.Market.{Market}
@@ -46,18 +46,15 @@ credit_refusal m account kind count =
 pub first_is_there : (m : Market) (c : Command) → Has (FirstRefusal m c)
 first_is_there m (AddAsset ticker) = has_unless _ _ _ (either_ticker ticker) (has_when _ _ _ (either_taken m.tickers ticker) (has_when _ _ _ (either_le _ _) has_accept))
 first_is_there m OpenAccount = has_when _ _ _ (either_le _ _) has_accept
-first_is_there m (DepositMoney account ticks) = deposit_refusal m account None ticks
-first_is_there m (DepositAsset account asset units) = deposit_refusal m account (Some asset) units
-first_is_there m (WithdrawMoney account ticks) = withdrawal_refusal m account None ticks
-first_is_there m (WithdrawAsset account asset units) = withdrawal_refusal m account (Some asset) units
+first_is_there m (Deposit account kind count) = deposit_refusal m account kind count
+first_is_there m (Withdraw account kind count) = withdrawal_refusal m account kind count
 first_is_there m (CancelOrder account number) = has_unless _ _ _ (either_account m.balances account) (has_unless _ _ _ (either_order m account number) has_accept)
 first_is_there m (RunBatch budget) = has_unless _ _ _ (either_from_1 most_budget budget) (has_when _ _ _ (either_le _ _) has_accept)
 first_is_there m (Place last r) =
     has_unless _ _ _ (either_account m.balances r.account) (has_unless _ _ _ (either_limits r.low r.high) (has_unless _ _ _ (either_from_1 most_rate r.rate)
     (has_unless _ _ _ (either_from_1 most_cap r.cap) (has_unless _ _ _ (either_later m last) (has_unless _ _ _ (either_row r.row) (has_unless _ _ _ (either_assets m.balances r.row)
     (has_when _ _ _ (either_le _ _) (has_unless _ _ _ (either_affordable m (placed m last r)) has_accept))))))))
-first_is_there m (SetMoneyCredit account ticks) = credit_refusal m account None ticks
-first_is_there m (SetUnitCredit account asset units) = credit_refusal m account (Some asset) units
+first_is_there m (SetCredit account kind count) = credit_refusal m account kind count
 
 -- ---- steps
 

@@ -9,7 +9,7 @@ use Rattle.list_sums.proofs.SumLemmas.{int_sum_by-zeros}
 use Rattle.flow_accounts.specs.Balances.{Account, IsAccount, IsAsset, asset_count, grains, units_in, total_of, change_balance}
 use Rattle.flow_accounts.proofs.Moves.{units_change, assets_start_at_zero}
 use Rattle.flow_orders.specs.Outcomes.{Outcome, BatchRule, Cleared, Skipped, IsAdmissibleOutcome}
-use Rattle.wire_records.specs.Commands.{Command, AddAsset, DepositMoney, DepositAsset, WithdrawMoney, WithdrawAsset, RunBatch, Answer, Pair}
+use Rattle.wire_records.specs.Commands.{Command, AddAsset, Deposit, Withdraw, RunBatch, Answer, Pair}
 use Rattle.wire_records.specs.declared.reply.Refusal.{Refusal}
 use Rattle.market_rules.specs.Market.{Market, IsConsistent, empty_market, held_balance}
 use Rattle.market_rules.specs.Step.{FirstRefusal, Accepts, Answers, after_batch, ServesRead}
@@ -54,8 +54,8 @@ batch_total (Some asset) m (Skipped s) = refl
 module _ (Rule : BatchRule) where
   -- an accepted command adds its own amount of money
   accepted_money : (m : Market) (c : Command) (a : Answer Outcome) (n : Market) → Accepts Rule m c a n → total_of n.balances None ≡ total_of m.balances None +ℤ added_by None c a
-  accepted_money m (DepositMoney account ticks) a n accepts = rw (accepts.0, accepts.1) (one_part (total_of m.balances None) (grains ticks))
-  accepted_money m (WithdrawMoney account ticks) a n accepts = rw (accepts.0, accepts.1) (one_part (total_of m.balances None) (neg_ℤ (grains ticks)))
+  accepted_money m (Deposit account None ticks) a n accepts = rw (accepts.0, accepts.1) (one_part (total_of m.balances None) (grains ticks))
+  accepted_money m (Withdraw account None ticks) a n accepts = rw (accepts.0, accepts.1) (one_part (total_of m.balances None) (neg_ℤ (grains ticks)))
   accepted_money m (RunBatch budget) a n accepts = rw (accepts.2.0, accepts.2.1) (same _ _ _ (batch_total None m accepts.0) refl)
   accepted_money m command a n accepts = rw (accepts.0, accepts.1) (same _ _ _ refl refl)
 
@@ -71,11 +71,11 @@ module _ (Rule : BatchRule) where
 
   accepted_units : (asset : ℕ) (m : Market) (c : Command) (a : Answer Outcome) (n : Market) → IsConsistent m → FirstRefusal m c None → Accepts Rule m c a n → total_of n.balances (Some asset) ≡ total_of m.balances (Some asset) +ℤ added_by (Some asset) c a
   accepted_units asset m (AddAsset ticker) a n consistent none accepts = rw (accepts.0, accepts.1) (same _ _ _ ((assets_start_at_zero m.balances (consistent_is_lawful m consistent)).totals asset) refl)
-  accepted_units asset m (DepositAsset account named units) a n consistent none accepts =
+  accepted_units asset m (Deposit account (Some named) units) a n consistent none accepts =
       let one = past_unless none in
       let two = past_unless one.1 in
       rw (accepts.0, accepts.1) (changed_units m asset account named (pos units) consistent one.0 two.0)
-  accepted_units asset m (WithdrawAsset account named units) a n consistent none accepts =
+  accepted_units asset m (Withdraw account (Some named) units) a n consistent none accepts =
       let one = past_unless none in
       let two = past_unless one.1 in
       rw (accepts.0, accepts.1) (changed_units m asset account named (neg_ℤ (pos units)) consistent one.0 two.0)

@@ -1,7 +1,7 @@
 -- Which commands may run out of memory: those that add something or hold a batch, if they aren't refused.
 use Rattle.std.specs.Prelude.{None, Ok}
 use Rattle.wire_records.specs.Records.{Record}
-use Rattle.wire_records.specs.Commands.{Command, AddAsset, OpenAccount, DepositMoney, DepositAsset, WithdrawMoney, WithdrawAsset, Place, CancelOrder, RunBatch, SetMoneyCredit, SetUnitCredit}
+use Rattle.wire_records.specs.Commands.{Command, AddAsset, OpenAccount, Deposit, Withdraw, Place, CancelOrder, RunBatch, SetCredit}
 use Rattle.wire_records.specs.Versions.{IsReadAs}
 use Rattle.market_rules.specs.Market.{Market}
 use Rattle.market_rules.specs.Step.{FirstRefusal}
@@ -10,15 +10,12 @@ use Rattle.market_rules.specs.Step.{FirstRefusal}
 abbrev pub TakesMemory : Command → Type 0
 TakesMemory (AddAsset ticker) = Unit {0}
 TakesMemory OpenAccount = Unit {0}
-TakesMemory (DepositMoney account ticks) = ⊥
-TakesMemory (DepositAsset account asset units) = ⊥
-TakesMemory (WithdrawMoney account ticks) = ⊥
-TakesMemory (WithdrawAsset account asset units) = ⊥
+TakesMemory (Deposit account kind count) = ⊥
+TakesMemory (Withdraw account kind count) = ⊥
 TakesMemory (Place last request) = Unit {0}
 TakesMemory (CancelOrder account number) = ⊥
 TakesMemory (RunBatch budget) = Unit {0}
-TakesMemory (SetMoneyCredit account ticks) = ⊥
-TakesMemory (SetUnitCredit account asset units) = ⊥
+TakesMemory (SetCredit account kind count) = ⊥
 
 -- a command may run out of memory: it is one that allocates, and no refusal holds
 abbrev pub MayAllocate : Market → Command → Type 0

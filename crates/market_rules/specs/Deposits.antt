@@ -1,7 +1,7 @@
 -- What entries deposit and withdraw, and that a market holds it.
 use Rattle.std.specs.Prelude.{◌≡◌, ℕ, ◌==◌, if◌then◌else◌, ℤ, pos, neg_ℤ, ◌+ℤ◌, ◌-ℤ◌, List, [], ◌∷◌, Option, Some, None, Result, Ok, Err}
 use Rattle.list_sums.specs.Sums.{int_sum_by}
-use Rattle.wire_records.specs.Commands.{Command, AddAsset, OpenAccount, DepositMoney, DepositAsset, WithdrawMoney, WithdrawAsset, Place, CancelOrder, RunBatch, SetMoneyCredit, SetUnitCredit, Answer, Plain, Batch, Pair}
+use Rattle.wire_records.specs.Commands.{Command, AddAsset, OpenAccount, Deposit, Withdraw, Place, CancelOrder, RunBatch, SetCredit, Answer, Plain, Batch, Pair}
 use Rattle.wire_records.specs.declared.version.Version.{Version}
 use Rattle.wire_records.specs.declared.reply.Reply.TheVariants.{Done, Refused}
 use Rattle.wire_records.specs.declared.reply.Reply.TheVariants as reply
@@ -13,17 +13,14 @@ use Rattle.market_rules.specs.Market.{Market, HoldsTotals, held_balance}
 
 -- what an accepted command deposits, less what it withdraws, in grains or in units, and of which kind
 abbrev pub brings : Command → List (Option ℕ × ℤ)
-brings (DepositMoney account ticks) = (None, value_of None ticks) ∷ []
-brings (DepositAsset account asset units) = (Some asset, value_of (Some asset) units) ∷ []
-brings (WithdrawMoney account ticks) = (None, neg_ℤ (value_of None ticks)) ∷ []
-brings (WithdrawAsset account asset units) = (Some asset, neg_ℤ (value_of (Some asset) units)) ∷ []
+brings (Deposit account kind count) = (kind, value_of kind count) ∷ []
+brings (Withdraw account kind count) = (kind, neg_ℤ (value_of kind count)) ∷ []
 brings (AddAsset ticker) = []
 brings OpenAccount = []
 brings (Place last request) = []
 brings (CancelOrder account number) = []
 brings (RunBatch budget) = []
-brings (SetMoneyCredit account ticks) = []
-brings (SetUnitCredit account asset units) = []
+brings (SetCredit account kind count) = []
 
 -- what is of a kind in one part of what a command brings
 abbrev pub part_of : Option ℕ → Option ℕ × ℤ → ℤ

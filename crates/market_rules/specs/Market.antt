@@ -1,5 +1,5 @@
 -- The market: what is kept from one command to the next, and the invariant that holds of it at all times.
-use Rattle.std.specs.Prelude.{◌≡◌, ◌≢◌, ◌⊎◌, ℕ, ◌*◌, ◌^◌, ◌<◌, ◌≤◌, ℤ, pos, neg_ℤ, ◌+ℤ◌, ◌-ℤ◌, ◌≤ℤ◌, unsigned_abs, List, [], map, length, All, AllPairs, Option, Some, None, Bool, true, false}
+use Rattle.std.specs.Prelude.{◌≡◌, ◌≢◌, ◌⊎◌, ℕ, ◌*◌, ◌^◌, ◌<◌, ◌≤◌, ℤ, pos, neg_ℤ, ◌+ℤ◌, ◌-ℤ◌, ◌≤ℤ◌, unsigned_abs, List, [], map, length, All, AllPairs, Option, Some, None, true, false}
 use Rattle.std.specs.Int.{int_min, int_max}
 use Rattle.weight_rows.specs.Rows.{IsPrice}
 use Rattle.ticker_table.specs.Tickers.{AreTickers}
@@ -37,23 +37,16 @@ empty_market version = record { version = version; tickers = []; balances = no_b
 abbrev pub cut_price : ℤ → ℤ
 cut_price price = int_max (neg_ℤ (pos (2 ^ 60))) (int_min (pos (2 ^ 60)) price)
 
+-- how the prices of a batch are searched for, in each version: by how many parts of a unit a move ends, and whether joint prices are tried
+abbrev pub search_of : Version → Search
+search_of One = record { parts = 1; joint = false }
+search_of Two = record { parts = 1; joint = false }
+search_of Three = record { parts = 256; joint = false }
+search_of Four = record { parts = 256; joint = true }
+
 -- the number of parts of a unit in which it is counted where a move ends, in each version
 abbrev pub parts_of : Version → ℕ
-parts_of One = 1
-parts_of Two = 1
-parts_of Three = 256
-parts_of Four = 256
-
--- whether joint prices are tried, in each version
-abbrev pub tries_joint_prices : Version → Bool
-tries_joint_prices One = false
-tries_joint_prices Two = false
-tries_joint_prices Three = false
-tries_joint_prices Four = true
-
--- how the prices of a batch are searched for, in each version
-abbrev pub search_of : Version → Search
-search_of version = record { parts = parts_of version; joint = tries_joint_prices version }
+parts_of version = (search_of version).parts
 
 -- the prices at which the search of a batch starts, in grains: the last prices, cut
 abbrev pub start_prices : Market → List ℤ

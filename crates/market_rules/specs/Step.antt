@@ -2,7 +2,7 @@
 -- outcomes a batch may have is a parameter, a rule: any admissible outcome, or the program's canonical one.
 use Rattle.std.specs.Prelude.{◌≡◌, ℕ, ◌+◌, ◌<◌, ◌≤◌, pos, neg_ℤ, ◌+ℤ◌, ◌≤ℤ◌, ◌<ℤ◌, [], ◌∷◌, ◌++◌, length, ◌⊎◌, Option, Some, None, unwrap_or, IfSome, Result, Ok, Err, All, Contains}
 use Rattle.weight_rows.specs.Rows.{IsWeightVector}
-use Rattle.wire_records.specs.Commands.{Request, Command, AddAsset, OpenAccount, DepositMoney, DepositAsset, WithdrawMoney, WithdrawAsset, Place, CancelOrder, RunBatch, SetMoneyCredit, SetUnitCredit, Answer, Plain, Batch}
+use Rattle.wire_records.specs.Commands.{Request, Command, AddAsset, OpenAccount, Deposit, Withdraw, Place, CancelOrder, RunBatch, SetCredit, Answer, Plain, Batch}
 use Rattle.wire_records.specs.declared.reply.Reply.TheVariants as reply
 use Rattle.wire_records.specs.declared.reply.Refusal.{Refusal}
 use Rattle.wire_records.specs.declared.reply.Refusal.TheVariants.{AssetLimit, TickerTaken, BadTicker, AccountLimit, NoAccount, NoAsset, ZeroAmount, TotalLimit, NotFree, BadLimits, BadRate, BadCap, BadRow, OrderLimit, NoOrder, BadBudget, BatchLimit, BadLast, CreditInUse, CreditLimit}
@@ -98,10 +98,8 @@ FirstRefusal m (AddAsset ticker) =
     AssetLimit when ticker_limit ≤ length m.tickers else accept
 FirstRefusal m OpenAccount =
     AccountLimit when most_accounts ≤ account_count m.balances else accept
-FirstRefusal m (DepositMoney account ticks) = DepositRefusal m account None ticks
-FirstRefusal m (DepositAsset account asset units) = DepositRefusal m account (Some asset) units
-FirstRefusal m (WithdrawMoney account ticks) = WithdrawalRefusal m account None ticks
-FirstRefusal m (WithdrawAsset account asset units) = WithdrawalRefusal m account (Some asset) units
+FirstRefusal m (Deposit account kind count) = DepositRefusal m account kind count
+FirstRefusal m (Withdraw account kind count) = WithdrawalRefusal m account kind count
 FirstRefusal m (Place last r) =
     NoAccount unless IsAccount m.balances r.account else
     BadLimits unless AreLimits r.low r.high else
@@ -114,8 +112,7 @@ FirstRefusal m (CancelOrder account number) =
 FirstRefusal m (RunBatch budget) =
     BadBudget unless IsFrom1To most_budget budget else
     BatchLimit when most_batches ≤ m.batches else accept
-FirstRefusal m (SetMoneyCredit account ticks) = CreditRefusal m account None ticks
-FirstRefusal m (SetUnitCredit account asset units) = CreditRefusal m account (Some asset) units
+FirstRefusal m (SetCredit account kind count) = CreditRefusal m account kind count
 
 -- ---- accepted commands
 
@@ -150,15 +147,12 @@ Accepts Rule m (AddAsset ticker) = gives (Plain (reply.Asset (length m.tickers))
   last_prices = m.last_prices ++ pos 0 ∷ [];
 })
 Accepts Rule m OpenAccount = gives (Plain (reply.Account (account_count m.balances + 1))) (record m { balances = open_account m.balances })
-Accepts Rule m (DepositMoney account ticks) = gives (Plain reply.Done) (record m { balances = change_balance m.balances account None (value_of None ticks) })
-Accepts Rule m (DepositAsset account asset units) = gives (Plain reply.Done) (record m { balances = change_balance m.balances account (Some asset) (value_of (Some asset) units) })
-Accepts Rule m (WithdrawMoney account ticks) = gives (Plain reply.Done) (record m { balances = change_balance m.balances account None (neg_ℤ (value_of None ticks)) })
-Accepts Rule m (WithdrawAsset account asset units) = gives (Plain reply.Done) (record m { balances = change_balance m.balances account (Some asset) (neg_ℤ (value_of (Some asset) units)) })
+Accepts Rule m (Deposit account kind count) = gives (Plain reply.Done) (record m { balances = change_balance m.balances account kind (value_of kind count) })
+Accepts Rule m (Withdraw account kind count) = gives (Plain reply.Done) (record m { balances = change_balance m.balances account kind (neg_ℤ (value_of kind count)) })
 Accepts Rule m (Place last r) = gives (Plain (reply.Order m.next_order)) (record m { orders = m.orders ++ ordered m.next_order last r ∷ []; next_order = m.next_order + 1 })
 Accepts Rule m (CancelOrder account number) = gives (Plain reply.Done) (record m { orders = without m.orders number })
 Accepts Rule m (RunBatch budget) = holds_batch Rule m budget
-Accepts Rule m (SetMoneyCredit account ticks) = gives (Plain reply.Done) (record m { balances = set_credit m.balances account None ticks })
-Accepts Rule m (SetUnitCredit account asset units) = gives (Plain reply.Done) (record m { balances = set_credit m.balances account (Some asset) units })
+Accepts Rule m (SetCredit account kind count) = gives (Plain reply.Done) (record m { balances = set_credit m.balances account kind count })
 
 -- the first refusal is the answer and changes nothing; if there is none, the command is accepted
 abbrev pub Answers : BatchRule → Market → Command → Option Refusal → Answer Outcome → Market → Type 0

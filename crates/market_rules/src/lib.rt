@@ -12,4 +12,4 @@ mod limits;
 mod parts;
 
 pub use limits::{MOST_BATCHES, MOST_ORDERS};
-pub use parts::{parts_of, search_of, tries_joint_prices};
+pub use parts::{parts_of, search_of};

@@ -1,10 +1,10 @@
 -- What an object asks for by its word.
-use Rattle.std.proofs.Common.{◌≡◌, ◌≢◌, ℕ, ℤ, ◌≤◌, List, [], ◌∷◌, drop, Option, Some, None, Result, Ok, Err, refl, sym, ap, subst, ◌∙◌, arith, rules, ◌⊎◌, inl, inr, ⊎_elim}
+use Rattle.std.proofs.Common.{◌≡◌, ◌≢◌, ℕ, suc, ℤ, ◌≤◌, List, [], ◌∷◌, length, drop, Option, Some, None, Result, Ok, Err, refl, sym, ap, subst, ◌∙◌, arith, rules, ◌⊎◌, inl, inr, ⊎_elim}
 use Rattle.std.specs.Prelude.{codes, unwrap_or, option_and_then}
 use Rattle.weight_rows.specs.declared.entries.Entry.{Entry}
 use Rattle.serde_json.specs.Data.{Data}
 use Rattle.serde_json.specs.Find.{get, as_str}
-use Rattle.wire_records.specs.Commands.{Request, Command, AddAsset, DepositMoney, DepositAsset, WithdrawMoney, WithdrawAsset, Place, CancelOrder, RunBatch, SetMoneyCredit, SetUnitCredit}
+use Rattle.wire_records.specs.Commands.{Request, Command, AddAsset, Deposit, Withdraw, Place, CancelOrder, RunBatch, SetCredit}
 use Rattle.wire_records.specs.declared.command.Command as owned
 use Rattle.wire_records.specs.Versions.{most_tag, HasLastBatches, HasCredit, IsOfVersion}
 use Rattle.wire_records.specs.Views.{command_in}
@@ -14,7 +14,7 @@ use Rattle.wire_records.proofs.Numbered.{first_tags, all_tags}
 use Rattle.order_text.specs.declared.line.LineFault.{LineFault}
 use Rattle.order_text.specs.declared.line.LineFault.TheVariants.{NoCommand, Memory}
 use Rattle.std.proofs.lemmas.List.Elements.{All-from_recursion, recursion_from_All}
-use Rattle.order_text.specs.Lines.{HasKeys, Value, Text, Ticker, Small, Number, Weights, HasAt, order_members, members_of, Asks}
+use Rattle.order_text.specs.Lines.{HasKeys, Value, Text, Ticker, Small, Number, Weights, HasAt, order_members, amount_members, members_of, Asks}
 use Rattle.order_text.specs.Private.{text_at, word_of, Has, HasOrder, Fits, IsOrder, IsUntil, IsPlaced, HasMoney, HasUnits, HasLimits}
 
 -- a command of the first version is one of each
@@ -29,22 +29,22 @@ of_later version command more of = (of.0, omega (arith, of.1, all_tags version m
 asset_is : (command : Command) → word_of command ≡ codes "asset" → (ticker : List ℕ) × (command ≡ AddAsset ticker)
 asset_is = search (rules, refl)
 
-deposit_is : (command : Command) → word_of command ≡ codes "deposit" → ((account ticks : ℕ) × (command ≡ DepositMoney account ticks)) ⊎ ((account asset units : ℕ) × (command ≡ DepositAsset account asset units))
-deposit_is = search (rules, refl, inl, inr)
+deposit_is : (command : Command) → word_of command ≡ codes "deposit" → (account : ℕ) × (kind : Option ℕ) × (count : ℕ) × (command ≡ Deposit account kind count)
+deposit_is = search (rules, refl)
 
-withdraw_is : (command : Command) → word_of command ≡ codes "withdraw" → ((account ticks : ℕ) × (command ≡ WithdrawMoney account ticks)) ⊎ ((account asset units : ℕ) × (command ≡ WithdrawAsset account asset units))
-withdraw_is = search (rules, refl, inl, inr)
+withdraw_is : (command : Command) → word_of command ≡ codes "withdraw" → (account : ℕ) × (kind : Option ℕ) × (count : ℕ) × (command ≡ Withdraw account kind count)
+withdraw_is = search (rules, refl)
 
-credit_is : (command : Command) → word_of command ≡ codes "credit" → ((account ticks : ℕ) × (command ≡ SetMoneyCredit account ticks)) ⊎ ((account asset units : ℕ) × (command ≡ SetUnitCredit account asset units))
-credit_is = search (rules, refl, inl, inr)
+credit_is : (command : Command) → word_of command ≡ codes "credit" → (account : ℕ) × (kind : Option ℕ) × (count : ℕ) × (command ≡ SetCredit account kind count)
+credit_is = search (rules, refl)
 
 -- a command with the word of credit is one of a version that has credit
 pub gives_credit : (version : Version) (command : Command) → word_of command ≡ codes "credit" → IsOfVersion version command → HasCredit version
-gives_credit version command word of =
-    ⊎_elim
-    (λ money. (subst (IsOfVersion version) money.2 of).1)
-    (λ units. omega (arith, (subst (IsOfVersion version) units.3 of).1))
-    (credit_is command word)
+gives_credit version command word of = let is = credit_is command word in by_kind is.0 is.1 is.2 (subst (IsOfVersion version) is.3 of)
+  where
+    by_kind : (account : ℕ) (kind : Option ℕ) (count : ℕ) → IsOfVersion version (SetCredit account kind count) → HasCredit version
+    by_kind account None ticks of = of.1
+    by_kind account (Some asset) units of = omega (arith, of.1)
 
 cancel_is : (command : Command) → word_of command ≡ codes "cancel" → (account order : ℕ) × (command ≡ CancelOrder account order)
 cancel_is = search (rules, refl)
@@ -115,29 +115,35 @@ module _ (tickers : List (List ℕ)) (d : Data) where
   pub no_batch : ((budget : ℕ) → HasAt [] d (codes "budget") (Small budget) → ⊥) → (command : Command) → word_of command ≡ codes "batch" → Fits tickers d command → ⊥
   no_batch none command word fits = let is = batch_is command word in none is.0 (subst (Fits tickers d) is.1 fits).0.0
 
+  -- an object with neither form of an amount has none
+  no_amount : ((account ticks : ℕ) → HasMoney d account ticks → ⊥) → ((account asset units : ℕ) → HasUnits tickers d account asset units → ⊥)
+      → (account : ℕ) (kind : Option ℕ) (count : ℕ) → Has tickers d (amount_members account kind count) → HasKeys (suc (length (amount_members account kind count))) d → ⊥
+  no_amount by_money by_units account None ticks has keys = by_money account ticks (has.0, has.1.0, keys)
+  no_amount by_money by_units account (Some asset) units has keys = by_units account asset units (has.0, has.1.0, has.1.1.0, keys)
+
   -- an object with neither form of a deposit asks for none
   pub no_deposit : ((account ticks : ℕ) → HasMoney d account ticks → ⊥) → ((account asset units : ℕ) → HasUnits tickers d account asset units → ⊥)
       → (command : Command) → word_of command ≡ codes "deposit" → Fits tickers d command → ⊥
-  no_deposit by_money by_units command word fits = elim (deposit_is command word) [
-    | inl is ↦ let has = subst (Fits tickers d) is.2 fits in by_money is.0 is.1 (has.0.0, has.0.1.0, has.1)
-    | inr is ↦ let has = subst (Fits tickers d) is.3 fits in by_units is.0 is.1 is.2 (has.0.0, has.0.1.0, has.0.1.1.0, has.1)
-  ]
+  no_deposit by_money by_units command word fits =
+      let is = deposit_is command word in
+      let has = subst (Fits tickers d) is.3 fits in
+      no_amount by_money by_units is.0 is.1 is.2 has.0 has.1
 
   -- an object with neither form of a withdrawal asks for none
   pub no_withdraw : ((account ticks : ℕ) → HasMoney d account ticks → ⊥) → ((account asset units : ℕ) → HasUnits tickers d account asset units → ⊥)
       → (command : Command) → word_of command ≡ codes "withdraw" → Fits tickers d command → ⊥
-  no_withdraw by_money by_units command word fits = elim (withdraw_is command word) [
-    | inl is ↦ let has = subst (Fits tickers d) is.2 fits in by_money is.0 is.1 (has.0.0, has.0.1.0, has.1)
-    | inr is ↦ let has = subst (Fits tickers d) is.3 fits in by_units is.0 is.1 is.2 (has.0.0, has.0.1.0, has.0.1.1.0, has.1)
-  ]
+  no_withdraw by_money by_units command word fits =
+      let is = withdraw_is command word in
+      let has = subst (Fits tickers d) is.3 fits in
+      no_amount by_money by_units is.0 is.1 is.2 has.0 has.1
 
   -- an object with neither form of a credit asks for none
   pub no_credit : ((account ticks : ℕ) → HasMoney d account ticks → ⊥) → ((account asset units : ℕ) → HasUnits tickers d account asset units → ⊥)
       → (command : Command) → word_of command ≡ codes "credit" → Fits tickers d command → ⊥
-  no_credit by_money by_units command word fits = elim (credit_is command word) [
-    | inl is ↦ let has = subst (Fits tickers d) is.2 fits in by_money is.0 is.1 (has.0.0, has.0.1.0, has.1)
-    | inr is ↦ let has = subst (Fits tickers d) is.3 fits in by_units is.0 is.1 is.2 (has.0.0, has.0.1.0, has.0.1.1.0, has.1)
-  ]
+  no_credit by_money by_units command word fits =
+      let is = credit_is command word in
+      let has = subst (Fits tickers d) is.3 fits in
+      no_amount by_money by_units is.0 is.1 is.2 has.0 has.1
 
   -- an object without the fields of an order, with a last batch or without one, asks for none
   no_order : (version : Version) → ((request : Request) → HasOrder tickers d request → HasKeys 7 d → ⊥)

@@ -2,7 +2,7 @@
 use Rattle.std.proofs.Common.{◌≡◌, ℕ, ◌≤◌, List, [], Option, Some, None, Result, Ok, Err, refl, sym, ap, ◌∙◌, arith}
 use Rattle.std.specs.Prelude.{codes, unwrap_or}
 use Rattle.serde_json.specs.Data.{Data}
-use Rattle.wire_records.specs.Commands.{Command, AddAsset, OpenAccount, DepositMoney, DepositAsset, WithdrawMoney, WithdrawAsset, Place, CancelOrder, RunBatch, SetMoneyCredit, SetUnitCredit}
+use Rattle.wire_records.specs.Commands.{Command, AddAsset, OpenAccount, Deposit, Withdraw, Place, CancelOrder, RunBatch, SetCredit}
 use Rattle.wire_records.specs.declared.command.Command as owned
 use Rattle.wire_records.specs.Versions.{HasCredit}
 use Rattle.wire_records.specs.Views.{command_in}
@@ -23,15 +23,12 @@ use Rattle.order_text.proofs.Ladders.{ladder_asked, no_command_word}
 word_for : (command : Command) → (word : Word) × (word_of command ≡ encoded word)
 word_for (AddAsset ticker) = (words.Asset, refl)
 word_for OpenAccount = (words.Account, refl)
-word_for (DepositMoney account ticks) = (words.Deposit, refl)
-word_for (DepositAsset account asset units) = (words.Deposit, refl)
-word_for (WithdrawMoney account ticks) = (words.Withdraw, refl)
-word_for (WithdrawAsset account asset units) = (words.Withdraw, refl)
+word_for (Deposit account kind count) = (words.Deposit, refl)
+word_for (Withdraw account kind count) = (words.Withdraw, refl)
 word_for (Place last request) = (words.Place, refl)
 word_for (CancelOrder account order) = (words.Cancel, refl)
 word_for (RunBatch budget) = (words.Batch, refl)
-word_for (SetMoneyCredit account ticks) = (words.Credit, refl)
-word_for (SetUnitCredit account asset units) = (words.Credit, refl)
+word_for (SetCredit account kind count) = (words.Credit, refl)
 
 module _ (tickers : List (List ℕ)) (d : Data) where
   -- an object without a word asks for nothing
@@ -55,11 +52,11 @@ module _ (tickers : List (List ℕ)) (d : Data) where
     asks_of version tickers d (command_in command) (is ∙ ap Some (sym found.0)) found.1 (of_later version (command_in command) (omega (arith, has)) found.2),
     found.3,
   )
-  credit_asked version None has is found = no_ladder version (codes "credit") is (no_command_word tickers d (SetMoneyCredit 0 0)) (λ command asks. found command (one_word tickers d (codes "credit") command is asks) (fits_asked version tickers d command asks))
+  credit_asked version None has is found = no_ladder version (codes "credit") is (no_command_word tickers d (SetCredit 0 None 0)) (λ command asks. found command (one_word tickers d (codes "credit") command is asks) (fits_asked version tickers d command asks))
 
   -- an object with the word `credit` asks for nothing in a version without credit
   pub no_credit_asked : (version : Version) → (¬ HasCredit version) → IsWord words.Credit d → (asked : Asked) → AsksFor version tickers d asked → ⊥
-  no_credit_asked version has_none is = no_ladder version (codes "credit") is (no_command_word tickers d (SetMoneyCredit 0 0)) (λ command asks. has_none (gives_credit version command (one_word tickers d (codes "credit") command is asks) asks.of_version))
+  no_credit_asked version has_none is = no_ladder version (codes "credit") is (no_command_word tickers d (SetCredit 0 None 0)) (λ command asks. has_none (gives_credit version command (one_word tickers d (codes "credit") command is asks) asks.of_version))
 
   -- an order that is placed is what is asked for
   pub placed_asked : (version : Version) (command : owned.Command) → IsWord words.Place d → IsPlaced version tickers d (Ok command) → IsAsked version tickers d (Ok (line_is.Asks command))

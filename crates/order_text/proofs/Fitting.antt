@@ -12,7 +12,7 @@ use Rattle.serde_json.specs.Data.{Num, unsigned, negative, float, Data, null, bo
 use Rattle.serde_json.specs.Find.{get, get_member, as_number, as_u64, as_i64}
 use Rattle.wire_fields.specs.Numbers.{IsUnsigned, IsSigned}
 use Rattle.wire_records.specs.Records.{AreBytes}
-use Rattle.wire_records.specs.Commands.{Request, Command, AddAsset, OpenAccount, DepositMoney, DepositAsset, WithdrawMoney, WithdrawAsset, Place, CancelOrder, RunBatch, SetMoneyCredit, SetUnitCredit}
+use Rattle.wire_records.specs.Commands.{Request, Command, AddAsset, OpenAccount, Deposit, Withdraw, Place, CancelOrder, RunBatch, SetCredit}
 use Rattle.wire_records.specs.CommandRecords.{IsCommand}
 use Rattle.wire_records.specs.Bodies.{IsRequest, IsEntry, FitsCommand}
 use Rattle.wire_records.proofs.FieldForms.{command_fits}
@@ -164,10 +164,10 @@ module _ (tickers : List (List ℕ)) (d : Data) (are : AreTickers tickers) (all 
   parts_fit : (version : Version) (command : Command) → Asks version tickers d command → FitsCommand command
   parts_fit version (AddAsset ticker) asks = let f = (fits_asked version tickers d (AddAsset ticker) asks).0.0.2 in ticker_fits f.0 ticker f.2
   parts_fit version OpenAccount asks = tt
-  parts_fit version (DepositMoney account ticks) asks = money_fits account ticks _ (fits_asked version tickers d (DepositMoney account ticks) asks).0
-  parts_fit version (DepositAsset account asset units) asks = units_fit account asset units _ (fits_asked version tickers d (DepositAsset account asset units) asks).0
-  parts_fit version (WithdrawMoney account ticks) asks = money_fits account ticks _ (fits_asked version tickers d (WithdrawMoney account ticks) asks).0
-  parts_fit version (WithdrawAsset account asset units) asks = units_fit account asset units _ (fits_asked version tickers d (WithdrawAsset account asset units) asks).0
+  parts_fit version (Deposit account None ticks) asks = money_fits account ticks _ (fits_asked version tickers d (Deposit account None ticks) asks).0
+  parts_fit version (Deposit account (Some asset) units) asks = units_fit account asset units _ (fits_asked version tickers d (Deposit account (Some asset) units) asks).0
+  parts_fit version (Withdraw account None ticks) asks = money_fits account ticks _ (fits_asked version tickers d (Withdraw account None ticks) asks).0
+  parts_fit version (Withdraw account (Some asset) units) asks = units_fit account asset units _ (fits_asked version tickers d (Withdraw account (Some asset) units) asks).0
   parts_fit version (Place None r) asks = request_fits r (omega (arith, row_is_short version tickers d (Place None r) are asks)) (fits_asked version tickers d (Place None r) asks).0
   parts_fit version (CancelOrder account order) asks =
       let f = (fits_asked version tickers d (CancelOrder account order) asks).0 in
@@ -176,8 +176,8 @@ module _ (tickers : List (List ℕ)) (d : Data) (are : AreTickers tickers) (all 
   parts_fit version (Place (Some last) r) asks =
       let f = (fits_asked version tickers d (Place (Some last) r) asks).0 in
       (f.0.2.1, request_fits r (omega (arith, row_is_short version tickers d (Place (Some last) r) are asks)) (rest_of tickers d (codes "last", Small last) (order_members r) f))
-  parts_fit version (SetMoneyCredit account ticks) asks = money_fits account ticks _ (fits_asked version tickers d (SetMoneyCredit account ticks) asks).0
-  parts_fit version (SetUnitCredit account asset units) asks = units_fit account asset units _ (fits_asked version tickers d (SetUnitCredit account asset units) asks).0
+  parts_fit version (SetCredit account None ticks) asks = money_fits account ticks _ (fits_asked version tickers d (SetCredit account None ticks) asks).0
+  parts_fit version (SetCredit account (Some asset) units) asks = units_fit account asset units _ (fits_asked version tickers d (SetCredit account (Some asset) units) asks).0
 
   -- the command that an object asks for fits its record
   pub command_asked_fits : (version : Version) (command : Command) → Asks version tickers d command → IsCommand command

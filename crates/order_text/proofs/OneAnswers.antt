@@ -1,6 +1,6 @@
 -- A line has one answer.
 use Rattle.std.proofs.Common.{◌≡◌, ◌≢◌, ℕ, List, [], ◌∷◌, ◌++◌, length, drop, map, Some, Result, Ok, Err, refl, sym, ap, subst, ◌∙◌, inl, inr, rules, Bool, true, false, true≢false, None}
-use Rattle.wire_records.specs.Commands.{Command, AddAsset, OpenAccount, DepositMoney, DepositAsset, WithdrawMoney, WithdrawAsset, Place, CancelOrder, RunBatch, SetMoneyCredit, SetUnitCredit}
+use Rattle.wire_records.specs.Commands.{Command, AddAsset, OpenAccount, Deposit, Withdraw, Place, CancelOrder, RunBatch, SetCredit}
 use Rattle.serde_json.specs.Data.{Data}
 use Rattle.wire_records.specs.Views.{command_in}
 use Rattle.wire_records.specs.declared.command.Command as owned
@@ -27,23 +27,26 @@ use Rattle.order_text.specs.Laws.{OneSaying, OneTable}
 abbrev own_of : Command → owned.Command
 own_of (AddAsset ticker) = own.AddAsset ticker
 own_of OpenAccount = own.OpenAccount
-own_of (DepositMoney account ticks) = own.DepositMoney account ticks
-own_of (DepositAsset account asset units) = own.DepositAsset account asset units
-own_of (WithdrawMoney account ticks) = own.WithdrawMoney account ticks
-own_of (WithdrawAsset account asset units) = own.WithdrawAsset account asset units
+own_of (Deposit account None ticks) = own.DepositMoney account ticks
+own_of (Deposit account (Some asset) units) = own.DepositAsset account asset units
+own_of (Withdraw account None ticks) = own.WithdrawMoney account ticks
+own_of (Withdraw account (Some asset) units) = own.WithdrawAsset account asset units
 own_of (Place None r) = own.PlaceOrder r.account r.low r.high r.rate r.cap r.row
 own_of (CancelOrder account order) = own.CancelOrder account order
 own_of (RunBatch budget) = own.RunBatch budget
 own_of (Place (Some last) r) = own.PlaceUntil last r.account r.low r.high r.rate r.cap r.row
-own_of (SetMoneyCredit account ticks) = own.SetMoneyCredit account ticks
-own_of (SetUnitCredit account asset units) = own.SetUnitCredit account asset units
+own_of (SetCredit account None ticks) = own.SetMoneyCredit account ticks
+own_of (SetCredit account (Some asset) units) = own.SetUnitCredit account asset units
 
 own_is : (c : owned.Command) → own_of (command_in c) ≡ c
 own_is (own.AddAsset ticker) = refl
 own_is command = refl
 
 plain_is : (c : Command) → command_in (own_of c) ≡ c
+plain_is (Deposit account None ticks) = refl
+plain_is (Withdraw account None ticks) = refl
 plain_is (Place None r) = refl
+plain_is (SetCredit account None ticks) = refl
 plain_is command = refl
 
 same_own : (a b : owned.Command) → command_in a ≡ command_in b → a ≡ b

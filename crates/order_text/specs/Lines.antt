@@ -8,7 +8,7 @@ use Rattle.serde_json.specs.Data.{Data, Items, no_items, item, Members, no_membe
 use Rattle.serde_json.specs.Read.{read}
 use Rattle.serde_json.specs.Events.{members_len}
 use Rattle.serde_json.specs.Find.{get, as_str, as_number, as_u64, as_i64, as_array, as_object}
-use Rattle.wire_records.specs.Commands.{Request, Command, AddAsset, OpenAccount, DepositMoney, DepositAsset, WithdrawMoney, WithdrawAsset, Place, CancelOrder, RunBatch, SetMoneyCredit, SetUnitCredit}
+use Rattle.wire_records.specs.Commands.{Request, Command, AddAsset, OpenAccount, Deposit, Withdraw, Place, CancelOrder, RunBatch, SetCredit}
 use Rattle.wire_records.specs.Versions.{IsOfVersion}
 use Rattle.wire_records.specs.declared.version.Version.{Version}
 use Rattle.ticker_table.specs.Adding.{IsAddable}
@@ -109,23 +109,22 @@ abbrev pub order_members : Request → List (List ℕ × Value)
 order_members r =
     (codes "account", Small r.account) ∷ (codes "low", Signed r.low) ∷ (codes "high", Signed r.high) ∷ (codes "rate", Small r.rate) ∷ (codes "cap", Number r.cap) ∷ (codes "weights", Weights r.row) ∷ []
 
+-- the members of the object that asks for a deposit, a withdrawal or a credit, besides `do`: of money in ticks, and of an asset in units
+abbrev pub amount_members : ℕ → Option ℕ → ℕ → List (List ℕ × Value)
+amount_members account None ticks = (codes "account", Small account) ∷ (codes "ticks", Number ticks) ∷ []
+amount_members account (Some asset) units = (codes "account", Small account) ∷ (codes "asset", Asset asset) ∷ (codes "units", Number units) ∷ []
+
 -- the members of the object that asks for a command
 abbrev pub members_of : Command → List (List ℕ × Value)
 members_of (AddAsset ticker) = (codes "do", Text (codes "asset")) ∷ (codes "ticker", Ticker ticker) ∷ []
 members_of OpenAccount = (codes "do", Text (codes "account")) ∷ []
-members_of (DepositMoney account ticks) = (codes "do", Text (codes "deposit")) ∷ (codes "account", Small account) ∷ (codes "ticks", Number ticks) ∷ []
-members_of (DepositAsset account asset units) =
-    (codes "do", Text (codes "deposit")) ∷ (codes "account", Small account) ∷ (codes "asset", Asset asset) ∷ (codes "units", Number units) ∷ []
-members_of (WithdrawMoney account ticks) = (codes "do", Text (codes "withdraw")) ∷ (codes "account", Small account) ∷ (codes "ticks", Number ticks) ∷ []
-members_of (WithdrawAsset account asset units) =
-    (codes "do", Text (codes "withdraw")) ∷ (codes "account", Small account) ∷ (codes "asset", Asset asset) ∷ (codes "units", Number units) ∷ []
+members_of (Deposit account kind count) = (codes "do", Text (codes "deposit")) ∷ amount_members account kind count
+members_of (Withdraw account kind count) = (codes "do", Text (codes "withdraw")) ∷ amount_members account kind count
 members_of (Place None request) = (codes "do", Text (codes "place")) ∷ order_members request
 members_of (CancelOrder account order) = (codes "do", Text (codes "cancel")) ∷ (codes "account", Small account) ∷ (codes "order", Number order) ∷ []
 members_of (RunBatch budget) = (codes "do", Text (codes "batch")) ∷ (codes "budget", Small budget) ∷ []
 members_of (Place (Some last) request) = (codes "do", Text (codes "place")) ∷ (codes "last", Small last) ∷ order_members request
-members_of (SetMoneyCredit account ticks) = (codes "do", Text (codes "credit")) ∷ (codes "account", Small account) ∷ (codes "ticks", Number ticks) ∷ []
-members_of (SetUnitCredit account asset units) =
-    (codes "do", Text (codes "credit")) ∷ (codes "account", Small account) ∷ (codes "asset", Asset asset) ∷ (codes "units", Number units) ∷ []
+members_of (SetCredit account kind count) = (codes "do", Text (codes "credit")) ∷ amount_members account kind count
 
 -- an object asks for a command of a version: it has the command's members, and no further keys
 pub record Asks (version : Version) (tickers : List (List ℕ)) (d : Data) (command : Command) : Type 0 where

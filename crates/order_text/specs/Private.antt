@@ -5,7 +5,7 @@ use Rattle.weight_rows.specs.declared.entries.Entry.{Entry}
 use Rattle.serde_json.specs.Data.{Data, Items, no_items, item, Members, no_members, member}
 use Rattle.serde_json.specs.Find.{get, as_str, as_array, as_object}
 use Rattle.ticker_table.specs.Adding.{IsAddable}
-use Rattle.wire_records.specs.Commands.{Request, Command, AddAsset, OpenAccount, DepositMoney, DepositAsset, WithdrawMoney, WithdrawAsset, Place, CancelOrder, RunBatch, SetMoneyCredit, SetUnitCredit}
+use Rattle.wire_records.specs.Commands.{Request, Command, AddAsset, OpenAccount, Deposit, Withdraw, Place, CancelOrder, RunBatch, SetCredit}
 use Rattle.wire_records.specs.CommandRecords.{HasShortRow}
 use Rattle.wire_records.specs.Versions.{IsOfVersion}
 use Rattle.wire_records.specs.Views.{command_in}
@@ -52,15 +52,12 @@ AreWith tickers ticker after =
 abbrev pub word_of : Command → List ℕ
 word_of (AddAsset ticker) = codes "asset"
 word_of OpenAccount = codes "account"
-word_of (DepositMoney account ticks) = codes "deposit"
-word_of (DepositAsset account asset units) = codes "deposit"
-word_of (WithdrawMoney account ticks) = codes "withdraw"
-word_of (WithdrawAsset account asset units) = codes "withdraw"
+word_of (Deposit account kind count) = codes "deposit"
+word_of (Withdraw account kind count) = codes "withdraw"
 word_of (Place last request) = codes "place"
 word_of (CancelOrder account order) = codes "cancel"
 word_of (RunBatch budget) = codes "batch"
-word_of (SetMoneyCredit account ticks) = codes "credit"
-word_of (SetUnitCredit account asset units) = codes "credit"
+word_of (SetCredit account kind count) = codes "credit"
 
 -- the text of a word
 abbrev pub encoded : Word → List ℕ

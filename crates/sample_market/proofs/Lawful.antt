@@ -12,7 +12,7 @@ use Rattle.wire_fields.specs.Numbers.{IsSigned}
 use Rattle.wire_fields.proofs.Encoding.{IsSigned-from_fits}
 use Rattle.weight_rows.specs.declared.entries.Entry.{Entry}
 use Rattle.wire_records.specs.Records.{AreBytes}
-use Rattle.wire_records.specs.Commands.{OpenAccount, DepositMoney, Place, RunBatch}
+use Rattle.wire_records.specs.Commands.{OpenAccount, Deposit, Place, RunBatch}
 use Rattle.wire_records.specs.Bodies.{IsEntry}
 use Rattle.wire_records.proofs.FieldForms.{command_fits}
 use Rattle.sample_market.specs.Draws.{next_state, drawn, state_after}
@@ -141,7 +141,7 @@ units_lawful account few =
 
 deposits_lawful : (account : ℕ) → account < 65 → All IsLawful (deposits_of account)
 deposits_lawful account few =
-    All-cons IsLawful (DepositMoney account (2 ^ 50)) (unit_deposits account) (record { fits = command_fits (DepositMoney account (2 ^ 50)) (omega (arith, few), omega arith); short = tt; own = (omega arith, omega arith) }) (units_lawful account few)
+    All-cons IsLawful (Deposit account None (2 ^ 50)) (unit_deposits account) (record { fits = command_fits (Deposit account None (2 ^ 50)) (omega (arith, few), omega arith); short = tt; own = (omega arith, omega arith) }) (units_lawful account few)
 
 each_lawful : (a n : ℕ) → a + n ≤ 65 → All IsLawful (flat_map deposits_of (range_with_len a n))
 each_lawful a zero few = All-nil IsLawful

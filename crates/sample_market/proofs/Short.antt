@@ -10,7 +10,7 @@ use Rattle.wire_fields.proofs.Encoding.{length-unsigned}
 use Rattle.wire_records.specs.Records.{encoding}
 use Rattle.wire_records.specs.Formats.{command_magic_of}
 use Rattle.wire_records.specs.declared.version.Version.TheVariants.{One}
-use Rattle.wire_records.specs.Commands.{Command, OpenAccount, DepositMoney, RunBatch, Place}
+use Rattle.wire_records.specs.Commands.{Command, OpenAccount, Deposit, RunBatch, Place}
 use Rattle.wire_records.specs.CommandRecords.{record_of}
 use Rattle.wire_records.specs.Bodies.{body_encoding}
 use Rattle.wire_records.proofs.FieldForms.{body_is_plain}
@@ -40,9 +40,9 @@ account_size : size_of OpenAccount ≤ 5
 unfolding body_encoding
 account_size = omega (arith, length-encoding (record_of OpenAccount), ap length (body_is_plain OpenAccount))
 
-money_size : (account ticks : ℕ) → size_of (DepositMoney account ticks) ≤ 17
+money_size : (account ticks : ℕ) → size_of (Deposit account None ticks) ≤ 17
 unfolding body_encoding
-money_size account ticks = omega (arith, length-encoding (record_of (DepositMoney account ticks)), ap length (body_is_plain (DepositMoney account ticks)), length-append (unsigned 4 account) (unsigned 8 ticks), length-unsigned 4 account, length-unsigned 8 ticks)
+money_size account ticks = omega (arith, length-encoding (record_of (Deposit account None ticks)), ap length (body_is_plain (Deposit account None ticks)), length-append (unsigned 4 account) (unsigned 8 ticks), length-unsigned 4 account, length-unsigned 8 ticks)
 
 units_size : (account asset : ℕ) → size_of (unit_deposit account asset) ≤ 19
 unfolding body_encoding
@@ -77,7 +77,7 @@ unfolding unit_deposits
 deposits_few account =
     let units = map (unit_deposit account) (range_with_len 0 8) in
     let few = bytes_few 19 units (All-map (λ c. size_of c ≤ 19) (unit_deposit account) (range_with_len 0 8) (range_below (λ k. size_of (unit_deposit account k) ≤ 19) 0 8 (λ k below. units_size account k))) in
-    omega (arith, few, length-map-range_with_len (unit_deposit account) 0 8, money_size account (2 ^ 50), length-append (encoding (record_of (DepositMoney account (2 ^ 50)))) (encode_commands units))
+    omega (arith, few, length-map-range_with_len (unit_deposit account) 0 8, money_size account (2 ^ 50), length-append (encoding (record_of (Deposit account None (2 ^ 50)))) (encode_commands units))
 
 each_few : (a n : ℕ) → length (encode_commands (flat_map deposits_of (range_with_len a n))) ≤ 169 * n
 each_few a zero = omega arith

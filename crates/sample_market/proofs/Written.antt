@@ -7,7 +7,7 @@ use Rattle.std.proofs.lemmas.List.FromFn.{map-range_with_len_more}
 use Rattle.wire_records.specs.Records.{encoding}
 use Rattle.wire_records.specs.Formats.{command_magic_of}
 use Rattle.wire_records.specs.declared.version.Version.TheVariants.{One}
-use Rattle.wire_records.specs.Commands.{Command, OpenAccount, DepositMoney, RunBatch, Place}
+use Rattle.wire_records.specs.Commands.{Command, OpenAccount, Deposit, RunBatch, Place}
 use Rattle.wire_records.specs.CommandRecords.{record_of}
 use Rattle.sample_market.specs.Orders.{drawn_order, drawn_orders, after_order}
 use Rattle.sample_market.specs.Files.{new_asset, new_assets, new_accounts, unit_deposit, unit_deposits, deposits_of, all_deposits, batches, sample, encode_commands, sample_file}
@@ -50,13 +50,13 @@ range_more a n = sym (map-id _) ∙ map-range_with_len_more (λ k. k) a n (a + n
 
 -- the deposits of the next account
 pub account_more : (file now between after : List ℕ) (account n m : ℕ) → now ≡ file ++ encode_commands (flat_map deposits_of (range_with_len 1 n)) → account ≡ 1 + n → m ≡ n + 1
-    → between ≡ now ++ bytes_of (DepositMoney account (2 ^ 50)) → after ≡ between ++ encode_commands (unit_deposits account) → after ≡ file ++ encode_commands (flat_map deposits_of (range_with_len 1 m))
+    → between ≡ now ++ bytes_of (Deposit account None (2 ^ 50)) → after ≡ between ++ encode_commands (unit_deposits account) → after ≡ file ++ encode_commands (flat_map deposits_of (range_with_len 1 m))
 account_more file now between after account n m before is next one units =
     let first = flat_map deposits_of (range_with_len 1 n) in
     let more : flat_map deposits_of (range_with_len 1 (n + 1)) ≡ first ++ deposits_of account =
     ap (flat_map deposits_of) (range_more 1 n) ∙ flat_map-append deposits_of (range_with_len 1 n) ((1 + n) ∷ []) ∙ ap (λ xs. first ++ xs) (append-nil (deposits_of (1 + n))) ∙ ap (λ k. first ++ deposits_of k) (sym is)
     in
-    units ∙ ap (λ xs. xs ++ encode_commands (unit_deposits account)) one ∙ append_assoc now (bytes_of (DepositMoney account (2 ^ 50))) (encode_commands (unit_deposits account))
+    units ∙ ap (λ xs. xs ++ encode_commands (unit_deposits account)) one ∙ append_assoc now (bytes_of (Deposit account None (2 ^ 50))) (encode_commands (unit_deposits account))
     ∙ ap (λ xs. xs ++ encode_commands (deposits_of account)) before ∙ append_assoc file (encode_commands first) (encode_commands (deposits_of account))
     ∙ ap (λ xs. file ++ xs) (sym (encode_both first (deposits_of account))) ∙ ap (λ (cs : List Command). file ++ encode_commands cs) (sym more)
     ∙ ap (λ k. file ++ encode_commands (flat_map deposits_of (range_with_len 1 k))) (sym next)

@@ -1,10 +1,10 @@
 -- The commands of a sample, and its file.
-use Rattle.std.specs.Prelude.{ℕ, ◌+◌, ◌^◌, List, ◌∷◌, ◌++◌, map, codes, replicate}
+use Rattle.std.specs.Prelude.{ℕ, ◌+◌, ◌^◌, List, ◌∷◌, ◌++◌, map, codes, replicate, Some, None}
 use Rattle.std.specs.List.{flat_map, range_with_len}
 use Rattle.wire_records.specs.Records.{encoding}
 use Rattle.wire_records.specs.Formats.{command_magic_of}
 use Rattle.wire_records.specs.declared.version.Version.TheVariants.{One}
-use Rattle.wire_records.specs.Commands.{Command, AddAsset, OpenAccount, DepositMoney, DepositAsset, RunBatch}
+use Rattle.wire_records.specs.Commands.{Command, AddAsset, OpenAccount, Deposit, RunBatch}
 use Rattle.wire_records.specs.CommandRecords.{record_of}
 use Rattle.sample_market.specs.Orders.{drawn_orders}
 
@@ -22,7 +22,7 @@ new_accounts = replicate 64 OpenAccount
 
 -- the command that deposits 2^50 units of an asset into an account
 abbrev pub unit_deposit : ℕ → ℕ → Command
-unit_deposit account asset = DepositAsset account asset (2 ^ 50)
+unit_deposit account asset = Deposit account (Some asset) (2 ^ 50)
 
 -- the commands that deposit 2^50 units of each asset into an account
 unfoldable pub unit_deposits : ℕ → List Command
@@ -30,7 +30,7 @@ unit_deposits account = map (unit_deposit account) (range_with_len 0 8)
 
 -- the commands that deposit 2^50 ticks and 2^50 units of each asset into an account
 abbrev pub deposits_of : ℕ → List Command
-deposits_of account = DepositMoney account (2 ^ 50) ∷ unit_deposits account
+deposits_of account = Deposit account None (2 ^ 50) ∷ unit_deposits account
 
 -- the deposits of all accounts, one account after the other
 unfoldable pub all_deposits : List Command

@@ -9,7 +9,6 @@ use Rattle.wire_records.specs.Commands.{Pair}
 use Rattle.wire_records.specs.Grammars.{BeginsWithNone, encode_all}
 use Rattle.wire_records.specs.Formats.{command_magic_of}
 use Rattle.wire_records.specs.declared.version.Version.{Version}
-use Rattle.wire_records.specs.declared.version.Version.TheVariants.{One}
 use Rattle.wire_records.proofs.CodeLaws.{parted, values_unique}
 use Rattle.flow_orders.specs.Outcomes.{Outcome}
 use Rattle.wire_records.proofs.RecordCode.{eight}
@@ -115,7 +114,6 @@ kept_magic bytes market place rest first =
 
 -- no journal begins as a checkpoint
 fifth : (version : Version) (body : List ℕ) → get_or (journal_magic_of version ++ body) 4 0 ≡ 74
-fifth One body = refl
 fifth version body = refl
 
 other_magics : (bytes : List ℕ) → HasJournalMagic bytes → HasCheckpointMagic bytes → ⊥

@@ -6,7 +6,7 @@ use Rattle.std.proofs.lemmas.Bool.Decides.{eqb_tells}
 use Rattle.std.proofs.lemmas.List.{length-map, length_push, append-nil}
 use Rattle.std.proofs.lemmas.List.Elements.{filter-append}
 use Rattle.list_sums.specs.Sums.{int_sum_by}
-use Rattle.wire_records.specs.Commands.{Command, AddAsset, OpenAccount, DepositMoney, DepositAsset, WithdrawMoney, WithdrawAsset, Place, CancelOrder, RunBatch, SetMoneyCredit, SetUnitCredit, Answer, Plain, Batch}
+use Rattle.wire_records.specs.Commands.{Command, AddAsset, OpenAccount, Deposit, Withdraw, Place, CancelOrder, RunBatch, SetCredit, Answer, Plain, Batch}
 use Rattle.wire_records.specs.declared.command.BodyFault.{BodyFault}
 use Rattle.wire_records.specs.declared.reply.Refusal.{Refusal}
 use Rattle.wire_records.specs.declared.reply.Reply.TheVariants as reply
@@ -349,26 +349,22 @@ module _ (account : ℕ) (m : Market) (h : Holding) (consistent : IsConsistent m
   told_accepted : (c : Command) (a : Answer Outcome) (n : Market) → FirstRefusal m c None → Accepts IsAdmissibleOutcome m c a n → IsHeld account n (after_all h (seen account m (Ok c) a))
   told_accepted (AddAsset ticker) a n none accepts = answered_so (AddAsset ticker) a _ n _ accepts.0 accepts.1 (told_asset ticker _ refl refl refl)
   told_accepted OpenAccount a n none accepts = answered_so OpenAccount a _ n _ accepts.0 accepts.1 (told_opening (Opens account) refl)
-  told_accepted (DepositMoney named ticks) a n none accepts = answered_so (DepositMoney named ticks) a _ n _ accepts.0 accepts.1 (told_money named (grains ticks) (Deposits None ticks) (past_unless none).0 refl)
-  told_accepted (DepositAsset named asset units) a n none accepts =
+  told_accepted (Deposit named None ticks) a n none accepts = answered_so (Deposit named None ticks) a _ n _ accepts.0 accepts.1 (told_money named (grains ticks) (Deposits None ticks) (past_unless none).0 refl)
+  told_accepted (Deposit named (Some asset) units) a n none accepts =
       let one = past_unless none in
-      answered_so (DepositAsset named asset units) a _ n _ accepts.0 accepts.1 (told_units named asset (pos units) (Deposits (Some asset) units) one.0 (past_unless one.1).0 refl)
-  told_accepted (WithdrawMoney named ticks) a n none accepts = answered_so (WithdrawMoney named ticks) a _ n _ accepts.0 accepts.1 (told_money named (neg_ℤ (grains ticks)) (Withdraws None ticks) (past_unless none).0 refl)
-  told_accepted (WithdrawAsset named asset units) a n none accepts =
+      answered_so (Deposit named (Some asset) units) a _ n _ accepts.0 accepts.1 (told_units named asset (pos units) (Deposits (Some asset) units) one.0 (past_unless one.1).0 refl)
+  told_accepted (Withdraw named None ticks) a n none accepts = answered_so (Withdraw named None ticks) a _ n _ accepts.0 accepts.1 (told_money named (neg_ℤ (grains ticks)) (Withdraws None ticks) (past_unless none).0 refl)
+  told_accepted (Withdraw named (Some asset) units) a n none accepts =
       let one = past_unless none in
-      answered_so (WithdrawAsset named asset units) a _ n _ accepts.0 accepts.1 (told_units named asset (neg_ℤ (pos units)) (Withdraws (Some asset) units) one.0 (past_unless one.1).0 refl)
+      answered_so (Withdraw named (Some asset) units) a _ n _ accepts.0 accepts.1 (told_units named asset (neg_ℤ (pos units)) (Withdraws (Some asset) units) one.0 (past_unless one.1).0 refl)
   told_accepted (Place last r) a n none accepts =
       answered_so (Place last r) a _ n _ accepts.0 accepts.1 (told_order (placed m last r) (Places m.next_order last r) (past_unless none).0 refl)
   told_accepted (CancelOrder named number) a n none accepts =
       answered_so (CancelOrder named number) a _ n _ accepts.0 accepts.1 (told_cancel named number (Cancels number) none refl)
   told_accepted (RunBatch budget) a n none accepts = answered_so (RunBatch budget) a _ n _ accepts.2.0 accepts.2.1 (told_batch accepts.0)
-  told_accepted (SetMoneyCredit named ticks) a n none accepts =
-      answered_so (SetMoneyCredit named ticks) a _ n _ accepts.0 accepts.1
-      (same_credit _ (is_there m account && (named == account)) (Credits None ticks) refl
-      (record { tickers = held.tickers; opened = held.opened; money = held.money; units = held.units; orders = held.orders }))
-  told_accepted (SetUnitCredit named asset units) a n none accepts =
-      answered_so (SetUnitCredit named asset units) a _ n _ accepts.0 accepts.1
-      (same_credit _ (is_there m account && (named == account)) (Credits (Some asset) units) refl
+  told_accepted (SetCredit named kind count) a n none accepts =
+      answered_so (SetCredit named kind count) a _ n _ accepts.0 accepts.1
+      (same_credit _ (is_there m account && (named == account)) (Credits kind count) refl
       (record { tickers = held.tickers; opened = held.opened; money = held.money; units = held.units; orders = held.orders }))
 
   -- a step of a market

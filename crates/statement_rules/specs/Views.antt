@@ -3,7 +3,7 @@ use Rattle.std.specs.Prelude.{◌≡◌, ℕ, ◌+◌, nat_lt, ◌==◌, Bool, �
 use Rattle.std.specs.List.{filter}
 use Rattle.wire_records.specs.Records.{Record}
 use Rattle.wire_records.specs.Versions.{IsReadAs}
-use Rattle.wire_records.specs.Commands.{Request, Command, AddAsset, OpenAccount, DepositMoney, DepositAsset, WithdrawMoney, WithdrawAsset, Place, CancelOrder, RunBatch, SetMoneyCredit, SetUnitCredit, Answer, Plain, Batch, Pair}
+use Rattle.wire_records.specs.Commands.{Request, Command, AddAsset, OpenAccount, Deposit, Withdraw, Place, CancelOrder, RunBatch, SetCredit, Answer, Plain, Batch, Pair}
 use Rattle.wire_records.specs.declared.command.BodyFault.{BodyFault}
 use Rattle.wire_records.specs.declared.version.Version.{Version}
 use Rattle.wire_records.specs.declared.reply.Refusal.{Refusal}
@@ -54,15 +54,12 @@ seen_own own command done reply = event_if own (by_reply (Refuses command) done 
 abbrev pub seen_plain : ℕ → Bool → Command → Reply → List Event
 seen_plain account there (AddAsset ticker) reply = by_reply (λ refusal. []) (λ number. Adds ticker ∷ []) reply
 seen_plain account there OpenAccount reply = by_reply (λ refusal. []) (λ number. event_if (number == account) (Opens account)) reply
-seen_plain account there (DepositMoney named ticks) reply = seen_own (there && (named == account)) (DepositMoney named ticks) (λ number. Deposits None ticks) reply
-seen_plain account there (DepositAsset named asset units) reply = seen_own (there && (named == account)) (DepositAsset named asset units) (λ number. Deposits (Some asset) units) reply
-seen_plain account there (WithdrawMoney named ticks) reply = seen_own (there && (named == account)) (WithdrawMoney named ticks) (λ number. Withdraws None ticks) reply
-seen_plain account there (WithdrawAsset named asset units) reply = seen_own (there && (named == account)) (WithdrawAsset named asset units) (λ number. Withdraws (Some asset) units) reply
+seen_plain account there (Deposit named kind count) reply = seen_own (there && (named == account)) (Deposit named kind count) (λ number. Deposits kind count) reply
+seen_plain account there (Withdraw named kind count) reply = seen_own (there && (named == account)) (Withdraw named kind count) (λ number. Withdraws kind count) reply
 seen_plain account there (Place last r) reply = seen_own (there && (r.account == account)) (Place last r) (λ number. Places number last r) reply
 seen_plain account there (CancelOrder named order) reply = seen_own (there && (named == account)) (CancelOrder named order) (λ number. Cancels order) reply
 seen_plain account there (RunBatch budget) reply = []
-seen_plain account there (SetMoneyCredit named ticks) reply = seen_own (there && (named == account)) (SetMoneyCredit named ticks) (λ number. Credits None ticks) reply
-seen_plain account there (SetUnitCredit named asset units) reply = seen_own (there && (named == account)) (SetUnitCredit named asset units) (λ number. Credits (Some asset) units) reply
+seen_plain account there (SetCredit named kind count) reply = seen_own (there && (named == account)) (SetCredit named kind count) (λ number. Credits kind count) reply
 
 -- an account's own trades
 abbrev pub own_trades : ℕ → List Trade → List Trade

@@ -5,7 +5,7 @@ use Rattle.std.specs.Prelude.{if◌then◌else◌, ◌==◌}
 use Rattle.wire_fields.specs.Numbers.{unsigned, IsUnsigned}
 use Rattle.wire_fields.proofs.Encoding.{length-unsigned, unsigned_unique}
 use Rattle.wire_records.specs.Records.{Record}
-use Rattle.wire_records.specs.Commands.{Request, Command, AddAsset, OpenAccount, DepositMoney, DepositAsset, WithdrawMoney, WithdrawAsset, Place, CancelOrder, RunBatch, SetMoneyCredit, SetUnitCredit}
+use Rattle.wire_records.specs.Commands.{Request, Command, AddAsset, OpenAccount, Deposit, Withdraw, Place, CancelOrder, RunBatch, SetCredit}
 use Rattle.wire_records.specs.CommandRecords.{tag_of, Encodes, EncodesNone}
 use Rattle.wire_records.specs.Bodies.{body_encoding, request_encoding, IsRequest, FitsCommand}
 use Rattle.wire_records.specs.Private.{EncodesNoRequest, EncodesNoUntil}
@@ -22,9 +22,12 @@ pub length-body : (c : Command) → FitsCommand c → tag_of c ≢ 7 → tag_of 
 unfolding body_encoding
 length-body (AddAsset ticker) h other until = h.0
 length-body OpenAccount h other until = refl
+length-body (Deposit account None ticks) h other until = simp (length-append, length-unsigned)
+length-body (Withdraw account None ticks) h other until = simp (length-append, length-unsigned)
 length-body (Place None request) h other until = absurd (other refl)
 length-body (RunBatch budget) h other until = length-unsigned 4 budget
 length-body (Place (Some last) request) h other until = absurd (until refl)
+length-body (SetCredit account None ticks) h other until = simp (length-append, length-unsigned)
 length-body command h other until = simp (length-append, length-unsigned)
 
 -- a record is its tag and its body
@@ -48,6 +51,9 @@ encodes_none r order until other c s =
 is_request : (c : Command) → FitsCommand c → tag_of c ≡ 7 → EncodesNoRequest (body_encoding c) → ⊥
 unfolding body_encoding
 is_request (Place None request) h e none = none request (record { fits = h; encoded = refl })
+is_request (Deposit account None ticks) h e none = absurd (omega (arith, e))
+is_request (Withdraw account None ticks) h e none = absurd (omega (arith, e))
+is_request (SetCredit account None ticks) h e none = absurd (omega (arith, e))
 is_request command h e none = absurd (omega (arith, e))
 
 -- a body that encodes no request is no order's
@@ -59,6 +65,9 @@ encodes_none-from_request r order none c s =
 is_until : (c : Command) → FitsCommand c → tag_of c ≡ 10 → EncodesNoUntil (body_encoding c) → ⊥
 unfolding body_encoding
 is_until (Place (Some last) request) h e none = none last request (record { fits = h; encoded = refl })
+is_until (Deposit account None ticks) h e none = absurd (omega (arith, e))
+is_until (Withdraw account None ticks) h e none = absurd (omega (arith, e))
+is_until (SetCredit account None ticks) h e none = absurd (omega (arith, e))
 is_until command h e none = absurd (omega (arith, e))
 
 -- a body that encodes no last batch with a request is no such order's
@@ -98,17 +107,20 @@ same_command : (c d : Command) → FitsCommand c → FitsCommand d → tag_of c 
 unfolding body_encoding
 same_command (AddAsset t) (AddAsset u) h k tags bodies = ap AddAsset bodies
 same_command OpenAccount OpenAccount h k tags bodies = refl
-same_command (DepositMoney a t) (DepositMoney b u) h k tags bodies = let e = money_unique a t b u h k bodies in rw (e.0, e.1) refl
-same_command (DepositAsset a i t) (DepositAsset b j u) h k tags bodies = let e = units_unique a i t b j u h k bodies in rw (e.0, e.1, e.2) refl
-same_command (WithdrawMoney a t) (WithdrawMoney b u) h k tags bodies = let e = money_unique a t b u h k bodies in rw (e.0, e.1) refl
-same_command (WithdrawAsset a i t) (WithdrawAsset b j u) h k tags bodies = let e = units_unique a i t b j u h k bodies in rw (e.0, e.1, e.2) refl
+same_command (Deposit a None t) (Deposit b None u) h k tags bodies = let e = money_unique a t b u h k bodies in rw (e.0, e.1) refl
+same_command (Deposit a (Some i) t) (Deposit b (Some j) u) h k tags bodies = let e = units_unique a i t b j u h k bodies in rw (e.0, e.1, e.2) refl
+same_command (Withdraw a None t) (Withdraw b None u) h k tags bodies = let e = money_unique a t b u h k bodies in rw (e.0, e.1) refl
+same_command (Withdraw a (Some i) t) (Withdraw b (Some j) u) h k tags bodies = let e = units_unique a i t b j u h k bodies in rw (e.0, e.1, e.2) refl
 same_command (Place None r) (Place None s) h k tags bodies = ap (Place None) (request_unique r s h k bodies)
 same_command (CancelOrder a n) (CancelOrder b m) h k tags bodies = let e = money_unique a n b m h k bodies in rw (e.0, e.1) refl
 same_command (RunBatch m) (RunBatch n) h k tags bodies = ap RunBatch (number_unique 4 m n h k bodies)
 same_command (Place (Some m) r) (Place (Some n) s) h k tags bodies = let e = until_unique m n r s h k bodies in rw (e.0, e.1) refl
-same_command (SetMoneyCredit a t) (SetMoneyCredit b u) h k tags bodies = let e = money_unique a t b u h k bodies in rw (e.0, e.1) refl
-same_command (SetUnitCredit a i t) (SetUnitCredit b j u) h k tags bodies = let e = units_unique a i t b j u h k bodies in rw (e.0, e.1, e.2) refl
+same_command (SetCredit a None t) (SetCredit b None u) h k tags bodies = let e = money_unique a t b u h k bodies in rw (e.0, e.1) refl
+same_command (SetCredit a (Some i) t) (SetCredit b (Some j) u) h k tags bodies = let e = units_unique a i t b j u h k bodies in rw (e.0, e.1, e.2) refl
+same_command command (Deposit b None u) h k tags bodies = absurd (omega (arith, tags))
+same_command command (Withdraw b None u) h k tags bodies = absurd (omega (arith, tags))
 same_command command (Place None s) h k tags bodies = absurd (omega (arith, tags))
+same_command command (SetCredit b None u) h k tags bodies = absurd (omega (arith, tags))
 same_command command d h k tags bodies = absurd (omega (arith, tags))
 
 -- a record encodes at most one command

@@ -6,7 +6,7 @@ use Rattle.std.proofs.lemmas.List.Elements.{All-from_recursion, recursion_from_A
 use Rattle.wire_fields.specs.Numbers.{unsigned, signed}
 use Rattle.weight_rows.specs.declared.entries.Entry.{Entry}
 use Rattle.wire_records.specs.Fields.{field_bytes, FitsField}
-use Rattle.wire_records.specs.Commands.{Request, Command, AddAsset, OpenAccount, DepositMoney, DepositAsset, WithdrawMoney, WithdrawAsset, Place, CancelOrder, RunBatch, SetMoneyCredit, SetUnitCredit}
+use Rattle.wire_records.specs.Commands.{Request, Command, AddAsset, OpenAccount, Deposit, Withdraw, Place, CancelOrder, RunBatch, SetCredit}
 use Rattle.wire_records.specs.CommandRecords.{entry_fields, request_fields, fields_of, body_of, IsCommand}
 use Rattle.wire_records.specs.Bodies.{entry_encoding, request_encoding, body_encoding, IsEntry, IsRequest, FitsCommand}
 
@@ -57,45 +57,45 @@ pub body_is_plain : (c : Command) → body_of c ≡ body_encoding c
 unfolding body_of body_encoding
 body_is_plain (AddAsset ticker) = append-nil ticker
 body_is_plain OpenAccount = refl
-body_is_plain (DepositMoney account ticks) = two (unsigned 4 account) (unsigned 8 ticks)
-body_is_plain (DepositAsset account asset units) = three (unsigned 4 account) (unsigned 2 asset) (unsigned 8 units)
-body_is_plain (WithdrawMoney account ticks) = two (unsigned 4 account) (unsigned 8 ticks)
-body_is_plain (WithdrawAsset account asset units) = three (unsigned 4 account) (unsigned 2 asset) (unsigned 8 units)
+body_is_plain (Deposit account None ticks) = two (unsigned 4 account) (unsigned 8 ticks)
+body_is_plain (Deposit account (Some asset) units) = three (unsigned 4 account) (unsigned 2 asset) (unsigned 8 units)
+body_is_plain (Withdraw account None ticks) = two (unsigned 4 account) (unsigned 8 ticks)
+body_is_plain (Withdraw account (Some asset) units) = three (unsigned 4 account) (unsigned 2 asset) (unsigned 8 units)
 body_is_plain (Place None request) = request_bytes request
 body_is_plain (CancelOrder account number) = two (unsigned 4 account) (unsigned 8 number)
 body_is_plain (RunBatch budget) = append-nil (unsigned 4 budget)
 body_is_plain (Place (Some last) request) = ap (λ xs. unsigned 4 last ++ xs) (request_bytes request)
-body_is_plain (SetMoneyCredit account ticks) = two (unsigned 4 account) (unsigned 8 ticks)
-body_is_plain (SetUnitCredit account asset units) = three (unsigned 4 account) (unsigned 2 asset) (unsigned 8 units)
+body_is_plain (SetCredit account None ticks) = two (unsigned 4 account) (unsigned 8 ticks)
+body_is_plain (SetCredit account (Some asset) units) = three (unsigned 4 account) (unsigned 2 asset) (unsigned 8 units)
 
 -- the fields of a command fit if its parts do, by recursion on their list
 fields_fit : (c : Command) → FitsCommand c → AllByRecursion FitsField (fields_of c).1
 fields_fit (AddAsset ticker) h = (h, tt)
 fields_fit OpenAccount h = tt
-fields_fit (DepositMoney account ticks) h = (h.0, (h.1, tt))
-fields_fit (DepositAsset account asset units) h = (h.0, (h.1, (h.2, tt)))
-fields_fit (WithdrawMoney account ticks) h = (h.0, (h.1, tt))
-fields_fit (WithdrawAsset account asset units) h = (h.0, (h.1, (h.2, tt)))
+fields_fit (Deposit account None ticks) h = (h.0, (h.1, tt))
+fields_fit (Deposit account (Some asset) units) h = (h.0, (h.1, (h.2, tt)))
+fields_fit (Withdraw account None ticks) h = (h.0, (h.1, tt))
+fields_fit (Withdraw account (Some asset) units) h = (h.0, (h.1, (h.2, tt)))
 fields_fit (Place None request) h = request_fits request h
 fields_fit (CancelOrder account number) h = (h.0, (h.1, tt))
 fields_fit (RunBatch budget) h = (h, tt)
 fields_fit (Place (Some last) request) h = (h.0, request_fits request h.1)
-fields_fit (SetMoneyCredit account ticks) h = (h.0, (h.1, tt))
-fields_fit (SetUnitCredit account asset units) h = (h.0, (h.1, (h.2, tt)))
+fields_fit (SetCredit account None ticks) h = (h.0, (h.1, tt))
+fields_fit (SetCredit account (Some asset) units) h = (h.0, (h.1, (h.2, tt)))
 
 fields_from : (c : Command) → AllByRecursion FitsField (fields_of c).1 → FitsCommand c
 fields_from (AddAsset ticker) h = h.0
 fields_from OpenAccount h = tt
-fields_from (DepositMoney account ticks) h = (h.0, h.1.0)
-fields_from (DepositAsset account asset units) h = (h.0, h.1.0, h.1.1.0)
-fields_from (WithdrawMoney account ticks) h = (h.0, h.1.0)
-fields_from (WithdrawAsset account asset units) h = (h.0, h.1.0, h.1.1.0)
+fields_from (Deposit account None ticks) h = (h.0, h.1.0)
+fields_from (Deposit account (Some asset) units) h = (h.0, h.1.0, h.1.1.0)
+fields_from (Withdraw account None ticks) h = (h.0, h.1.0)
+fields_from (Withdraw account (Some asset) units) h = (h.0, h.1.0, h.1.1.0)
 fields_from (Place None request) h = request_from request h
 fields_from (CancelOrder account number) h = (h.0, h.1.0)
 fields_from (RunBatch budget) h = h.0
 fields_from (Place (Some last) request) h = (h.0, request_from request h.1)
-fields_from (SetMoneyCredit account ticks) h = (h.0, h.1.0)
-fields_from (SetUnitCredit account asset units) h = (h.0, h.1.0, h.1.1.0)
+fields_from (SetCredit account None ticks) h = (h.0, h.1.0)
+fields_from (SetCredit account (Some asset) units) h = (h.0, h.1.0, h.1.1.0)
 
 -- the fields of a command fit exactly if its parts do
 pub command_fits : (c : Command) → FitsCommand c → IsCommand c

@@ -8,7 +8,7 @@ use Rattle.wire_fields.proofs.Encoding.{length-unsigned}
 use Rattle.wire_records.specs.declared.command.BodyFault.{BodyFault}
 use Rattle.wire_records.specs.declared.command.BodyFault.TheVariants.{UnknownTag, BadBody}
 use Rattle.wire_records.specs.Records.{Record, AreBytes, IsRecord, most_body}
-use Rattle.wire_records.specs.Commands.{Request, Command, AddAsset, OpenAccount, DepositMoney, DepositAsset, WithdrawMoney, WithdrawAsset, Place, CancelOrder, RunBatch, SetMoneyCredit, SetUnitCredit}
+use Rattle.wire_records.specs.Commands.{Request, Command, AddAsset, OpenAccount, Deposit, Withdraw, Place, CancelOrder, RunBatch, SetCredit}
 use Rattle.wire_records.specs.CommandRecords.{tag_of, body_of, record_of, IsCommand, EncodesNone, HasShortRow, Encodes, IsTag, IsRead}
 use Rattle.wire_records.specs.Bodies.{request_encoding, body_encoding, FitsCommand}
 use Rattle.wire_records.proofs.FieldForms.{body_is_plain, command_fits, command_from}
@@ -24,7 +24,10 @@ use Rattle.wire_records.proofs.Bodies.{size_of, same_record, tag_is, encodes_non
 -- the tag of each command is 1 to 12
 tag_of-range : (c : Command) → IsTag (tag_of c)
 tag_of-range (AddAsset ticker) = (omega arith, omega arith)
+tag_of-range (Deposit account None ticks) = (omega arith, omega arith)
+tag_of-range (Withdraw account None ticks) = (omega arith, omega arith)
 tag_of-range (Place None request) = (omega arith, omega arith)
+tag_of-range (SetCredit account None ticks) = (omega arith, omega arith)
 tag_of-range command = (omega arith, omega arith)
 
 -- the record of a command is read as no fault
@@ -113,16 +116,16 @@ encoded r small tag order until len =
             | inl is ↦ (OpenAccount, from_body OpenAccount r tt is (nil_from_length r.body (len ∙ ap size_of is)))
             | inr no_2 ↦
                 elim (cases_eq r.tag 3) [
-                  | inl is ↦ let m = twelve r.body (len ∙ ap size_of is) small in (DepositMoney m.0 m.1, from_body (DepositMoney m.0 m.1) r m.2 is m.3)
+                  | inl is ↦ let m = twelve r.body (len ∙ ap size_of is) small in (Deposit m.0 None m.1, from_body (Deposit m.0 None m.1) r m.2 is m.3)
                   | inr no_3 ↦
                       elim (cases_eq r.tag 4) [
-                        | inl is ↦ let m = fourteen r.body (len ∙ ap size_of is) small in (DepositAsset m.0 m.1 m.2, from_body (DepositAsset m.0 m.1 m.2) r m.3 is m.4)
+                        | inl is ↦ let m = fourteen r.body (len ∙ ap size_of is) small in (Deposit m.0 (Some m.1) m.2, from_body (Deposit m.0 (Some m.1) m.2) r m.3 is m.4)
                         | inr no_4 ↦
                             elim (cases_eq r.tag 5) [
-                              | inl is ↦ let m = twelve r.body (len ∙ ap size_of is) small in (WithdrawMoney m.0 m.1, from_body (WithdrawMoney m.0 m.1) r m.2 is m.3)
+                              | inl is ↦ let m = twelve r.body (len ∙ ap size_of is) small in (Withdraw m.0 None m.1, from_body (Withdraw m.0 None m.1) r m.2 is m.3)
                               | inr no_5 ↦
                                   elim (cases_eq r.tag 6) [
-                                    | inl is ↦ let m = fourteen r.body (len ∙ ap size_of is) small in (WithdrawAsset m.0 m.1 m.2, from_body (WithdrawAsset m.0 m.1 m.2) r m.3 is m.4)
+                                    | inl is ↦ let m = fourteen r.body (len ∙ ap size_of is) small in (Withdraw m.0 (Some m.1) m.2, from_body (Withdraw m.0 (Some m.1) m.2) r m.3 is m.4)
                                     | inr no_6 ↦
                                         elim (cases_eq r.tag 8) [
                                           | inl is ↦ let m = twelve r.body (len ∙ ap size_of is) small in (CancelOrder m.0 m.1, from_body (CancelOrder m.0 m.1) r m.2 is m.3)
@@ -131,11 +134,11 @@ encoded r small tag order until len =
                                                 | inl is ↦ let m = whole_number 4 r.body (len ∙ ap size_of is) small in (RunBatch m.0, from_body (RunBatch m.0) r m.1 is m.2)
                                                 | inr no_9 ↦
                                                     elim (cases_eq r.tag 11) [
-                                                      | inl is ↦ let m = twelve r.body (len ∙ ap size_of is) small in (SetMoneyCredit m.0 m.1, from_body (SetMoneyCredit m.0 m.1) r m.2 is m.3)
+                                                      | inl is ↦ let m = twelve r.body (len ∙ ap size_of is) small in (SetCredit m.0 None m.1, from_body (SetCredit m.0 None m.1) r m.2 is m.3)
                                                       | inr no_11 ↦
                                                           let is : r.tag ≡ 12 = omega (arith, tag.0, tag.1, order, until, no_1, no_2, no_3, no_4, no_5, no_6, no_8, no_9, no_11) in
                                                           let m = fourteen r.body (len ∙ ap size_of is) small in
-                                                          (SetUnitCredit m.0 m.1 m.2, from_body (SetUnitCredit m.0 m.1 m.2) r m.3 is m.4)
+                                                          (SetCredit m.0 (Some m.1) m.2, from_body (SetCredit m.0 (Some m.1) m.2) r m.3 is m.4)
                                                     ]
                                               ]
                                         ]
@@ -248,16 +251,16 @@ short_where : (c : Command) → FitsCommand c → HasShortRow c → (tag_of c < 
 unfolding body_encoding
 short_where (AddAsset ticker) h few = (omega arith, omega (arith, h.0))
 short_where OpenAccount h few = (omega arith, omega arith)
-short_where (DepositMoney account ticks) h few = (omega arith, omega (arith, money_size account ticks))
-short_where (DepositAsset account asset units) h few = (omega arith, omega (arith, units_size account asset units))
-short_where (WithdrawMoney account ticks) h few = (omega arith, omega (arith, money_size account ticks))
-short_where (WithdrawAsset account asset units) h few = (omega arith, omega (arith, units_size account asset units))
+short_where (Deposit account None ticks) h few = (omega arith, omega (arith, money_size account ticks))
+short_where (Deposit account (Some asset) units) h few = (omega arith, omega (arith, units_size account asset units))
+short_where (Withdraw account None ticks) h few = (omega arith, omega (arith, money_size account ticks))
+short_where (Withdraw account (Some asset) units) h few = (omega arith, omega (arith, units_size account asset units))
 short_where (Place None request) h few = (omega arith, omega (arith, request_size request, few))
 short_where (CancelOrder account number) h few = (omega arith, omega (arith, money_size account number))
 short_where (RunBatch budget) h few = (omega arith, omega (arith, length-unsigned 4 budget))
 short_where (Place (Some last) request) h few = (omega arith, omega (arith, length-append (unsigned 4 last) (request_encoding request), length-unsigned 4 last, request_size request, few))
-short_where (SetMoneyCredit account ticks) h few = (omega arith, omega (arith, money_size account ticks))
-short_where (SetUnitCredit account asset units) h few = (omega arith, omega (arith, units_size account asset units))
+short_where (SetCredit account None ticks) h few = (omega arith, omega (arith, money_size account ticks))
+short_where (SetCredit account (Some asset) units) h few = (omega arith, omega (arith, units_size account asset units))
 
 -- the record of a command with few enough legs is within the limit
 pub command_short : (c : Command) → IsCommand c → HasShortRow c → IsRecord most_body (record_of c)

@@ -8,7 +8,6 @@ use Rattle.std.proofs.lemmas.List.{take-append-drop, take_at, drop_at, length-ta
 use Rattle.wire_records.specs.Records.{Record, IsRecord, head, encoding}
 use Rattle.wire_records.specs.Grammars.{BeginsWith, BeginsWithNone}
 use Rattle.wire_records.specs.declared.version.Version.{Version}
-use Rattle.wire_records.specs.declared.version.Version.TheVariants.{One}
 use Rattle.wire_records.specs.Versions.{number_of}
 use Rattle.wire_records.specs.Formats.{magics, records, StatesOver, EitherStatesOver, command_magic_of, commands}
 use Rattle.wire_records.proofs.CodeLaws.{IsCode}
@@ -185,16 +184,11 @@ magic_code magic_of are = record {
 
 -- each magic of a command file has eight bytes
 pub eight : (version : Version) → length (command_magic_of version) ≡ 8
-eight One = refl
 eight version = refl
 
 -- the magics of command files
 pub command_magics : AreMagics command_magic_of
-command_magics = record { eight = eight; last = last_byte }
-  where
-    last_byte : (version : Version) → get_or (command_magic_of version) 7 0 ≡ 48 + number_of version
-    last_byte One = refl
-    last_byte version = refl
+command_magics = record { eight = eight; last = λ version. refl }
 
 -- command files can be read
 pub commands_readable : IsReadable commands

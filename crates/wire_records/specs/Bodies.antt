@@ -4,7 +4,7 @@ use Rattle.std.specs.List.{flat_map}
 use Rattle.wire_fields.specs.Numbers.{unsigned, signed, IsUnsigned, IsSigned}
 use Rattle.weight_rows.specs.declared.entries.Entry.{Entry}
 use Rattle.wire_records.specs.Records.{Record, AreBytes}
-use Rattle.wire_records.specs.Commands.{Request, Command, AddAsset, OpenAccount, DepositMoney, DepositAsset, WithdrawMoney, WithdrawAsset, Place, CancelOrder, RunBatch, SetMoneyCredit, SetUnitCredit}
+use Rattle.wire_records.specs.Commands.{Request, Command, AddAsset, OpenAccount, Deposit, Withdraw, Place, CancelOrder, RunBatch, SetCredit}
 use Rattle.wire_records.specs.CommandRecords.{tag_of}
 
 -- the encoding of a leg: its asset in 2 bytes, and its weight in 4
@@ -21,16 +21,16 @@ request_encoding r =
 unfoldable pub body_encoding : Command → List ℕ
 body_encoding (AddAsset ticker) = ticker
 body_encoding OpenAccount = []
-body_encoding (DepositMoney account ticks) = unsigned 4 account ++ unsigned 8 ticks
-body_encoding (DepositAsset account asset units) = unsigned 4 account ++ (unsigned 2 asset ++ unsigned 8 units)
-body_encoding (WithdrawMoney account ticks) = unsigned 4 account ++ unsigned 8 ticks
-body_encoding (WithdrawAsset account asset units) = unsigned 4 account ++ (unsigned 2 asset ++ unsigned 8 units)
+body_encoding (Deposit account None ticks) = unsigned 4 account ++ unsigned 8 ticks
+body_encoding (Deposit account (Some asset) units) = unsigned 4 account ++ (unsigned 2 asset ++ unsigned 8 units)
+body_encoding (Withdraw account None ticks) = unsigned 4 account ++ unsigned 8 ticks
+body_encoding (Withdraw account (Some asset) units) = unsigned 4 account ++ (unsigned 2 asset ++ unsigned 8 units)
 body_encoding (Place None request) = request_encoding request
 body_encoding (CancelOrder account number) = unsigned 4 account ++ unsigned 8 number
 body_encoding (RunBatch budget) = unsigned 4 budget
 body_encoding (Place (Some last) request) = unsigned 4 last ++ request_encoding request
-body_encoding (SetMoneyCredit account ticks) = unsigned 4 account ++ unsigned 8 ticks
-body_encoding (SetUnitCredit account asset units) = unsigned 4 account ++ (unsigned 2 asset ++ unsigned 8 units)
+body_encoding (SetCredit account None ticks) = unsigned 4 account ++ unsigned 8 ticks
+body_encoding (SetCredit account (Some asset) units) = unsigned 4 account ++ (unsigned 2 asset ++ unsigned 8 units)
 
 -- a leg whose asset and weight are in the ranges of their fields
 abbrev pub IsEntry : Entry → Type 0
@@ -50,16 +50,16 @@ pub record IsRequest (r : Request) : Type 0 where
 abbrev pub FitsCommand : Command → Type 0
 FitsCommand (AddAsset ticker) = (length ticker ≡ 8) × AreBytes ticker
 FitsCommand OpenAccount = Unit {0}
-FitsCommand (DepositMoney account ticks) = IsUnsigned 4 account × IsUnsigned 8 ticks
-FitsCommand (DepositAsset account asset units) = IsUnsigned 4 account × IsUnsigned 2 asset × IsUnsigned 8 units
-FitsCommand (WithdrawMoney account ticks) = IsUnsigned 4 account × IsUnsigned 8 ticks
-FitsCommand (WithdrawAsset account asset units) = IsUnsigned 4 account × IsUnsigned 2 asset × IsUnsigned 8 units
+FitsCommand (Deposit account None ticks) = IsUnsigned 4 account × IsUnsigned 8 ticks
+FitsCommand (Deposit account (Some asset) units) = IsUnsigned 4 account × IsUnsigned 2 asset × IsUnsigned 8 units
+FitsCommand (Withdraw account None ticks) = IsUnsigned 4 account × IsUnsigned 8 ticks
+FitsCommand (Withdraw account (Some asset) units) = IsUnsigned 4 account × IsUnsigned 2 asset × IsUnsigned 8 units
 FitsCommand (Place None request) = IsRequest request
 FitsCommand (CancelOrder account number) = IsUnsigned 4 account × IsUnsigned 8 number
 FitsCommand (RunBatch budget) = IsUnsigned 4 budget
 FitsCommand (Place (Some last) request) = IsUnsigned 4 last × IsRequest request
-FitsCommand (SetMoneyCredit account ticks) = IsUnsigned 4 account × IsUnsigned 8 ticks
-FitsCommand (SetUnitCredit account asset units) = IsUnsigned 4 account × IsUnsigned 2 asset × IsUnsigned 8 units
+FitsCommand (SetCredit account None ticks) = IsUnsigned 4 account × IsUnsigned 8 ticks
+FitsCommand (SetCredit account (Some asset) units) = IsUnsigned 4 account × IsUnsigned 2 asset × IsUnsigned 8 units
 
 -- the record of each command, with its body part by part
 abbrev pub record_encoding : Command → Record

@@ -4,7 +4,7 @@ use Rattle.std.specs.List.{flat_map}
 use Rattle.weight_rows.specs.declared.entries.Entry.{Entry}
 use Rattle.wire_records.specs.Records.{Record}
 use Rattle.wire_records.specs.Fields.{Field, Unsigned, Signed, Bytes, field_bytes, FitsField}
-use Rattle.wire_records.specs.Commands.{Request, Command, AddAsset, OpenAccount, DepositMoney, DepositAsset, WithdrawMoney, WithdrawAsset, Place, CancelOrder, RunBatch, SetMoneyCredit, SetUnitCredit}
+use Rattle.wire_records.specs.Commands.{Request, Command, AddAsset, OpenAccount, Deposit, Withdraw, Place, CancelOrder, RunBatch, SetCredit}
 use Rattle.wire_records.specs.declared.command.BodyFault.{BodyFault}
 use Rattle.wire_records.specs.declared.command.BodyFault.TheVariants.{UnknownTag, BadBody}
 
@@ -21,16 +21,16 @@ request_fields r =
 abbrev pub fields_of : Command → ℕ × List Field
 fields_of (AddAsset ticker) = (1, Bytes 8 ticker ∷ [])
 fields_of OpenAccount = (2, [])
-fields_of (DepositMoney account ticks) = (3, Unsigned 4 account ∷ Unsigned 8 ticks ∷ [])
-fields_of (DepositAsset account asset units) = (4, Unsigned 4 account ∷ Unsigned 2 asset ∷ Unsigned 8 units ∷ [])
-fields_of (WithdrawMoney account ticks) = (5, Unsigned 4 account ∷ Unsigned 8 ticks ∷ [])
-fields_of (WithdrawAsset account asset units) = (6, Unsigned 4 account ∷ Unsigned 2 asset ∷ Unsigned 8 units ∷ [])
+fields_of (Deposit account None ticks) = (3, Unsigned 4 account ∷ Unsigned 8 ticks ∷ [])
+fields_of (Deposit account (Some asset) units) = (4, Unsigned 4 account ∷ Unsigned 2 asset ∷ Unsigned 8 units ∷ [])
+fields_of (Withdraw account None ticks) = (5, Unsigned 4 account ∷ Unsigned 8 ticks ∷ [])
+fields_of (Withdraw account (Some asset) units) = (6, Unsigned 4 account ∷ Unsigned 2 asset ∷ Unsigned 8 units ∷ [])
 fields_of (Place None request) = (7, request_fields request)
 fields_of (CancelOrder account number) = (8, Unsigned 4 account ∷ Unsigned 8 number ∷ [])
 fields_of (RunBatch budget) = (9, Unsigned 4 budget ∷ [])
 fields_of (Place (Some last) request) = (10, Unsigned 4 last ∷ request_fields request)
-fields_of (SetMoneyCredit account ticks) = (11, Unsigned 4 account ∷ Unsigned 8 ticks ∷ [])
-fields_of (SetUnitCredit account asset units) = (12, Unsigned 4 account ∷ Unsigned 2 asset ∷ Unsigned 8 units ∷ [])
+fields_of (SetCredit account None ticks) = (11, Unsigned 4 account ∷ Unsigned 8 ticks ∷ [])
+fields_of (SetCredit account (Some asset) units) = (12, Unsigned 4 account ∷ Unsigned 2 asset ∷ Unsigned 8 units ∷ [])
 
 -- the tag of each command
 abbrev pub tag_of : Command → ℕ
@@ -60,16 +60,13 @@ most_row_until = 164
 abbrev pub HasShortRow : Command → Type 0
 HasShortRow (AddAsset ticker) = Unit {0}
 HasShortRow OpenAccount = Unit {0}
-HasShortRow (DepositMoney account ticks) = Unit {0}
-HasShortRow (DepositAsset account asset units) = Unit {0}
-HasShortRow (WithdrawMoney account ticks) = Unit {0}
-HasShortRow (WithdrawAsset account asset units) = Unit {0}
+HasShortRow (Deposit account kind count) = Unit {0}
+HasShortRow (Withdraw account kind count) = Unit {0}
 HasShortRow (Place None request) = length request.row ≤ most_row
 HasShortRow (CancelOrder account number) = Unit {0}
 HasShortRow (RunBatch budget) = Unit {0}
 HasShortRow (Place (Some last) request) = length request.row ≤ most_row_until
-HasShortRow (SetMoneyCredit account ticks) = Unit {0}
-HasShortRow (SetUnitCredit account asset units) = Unit {0}
+HasShortRow (SetCredit account kind count) = Unit {0}
 
 -- the record encodes this command
 pub record Encodes (command : Command) (r : Record) : Type 0 where

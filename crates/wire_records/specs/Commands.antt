@@ -12,19 +12,17 @@ pub record Request : Type 0 where
   pub cap : ℕ
   pub row : List Entry
 
--- A command. Accounts, orders and batches are numbered from 1, assets from 0; money is in ticks.
+-- A command. Accounts, orders and batches are numbered from 1, assets from 0. Deposits, withdrawals and credits are of a kind: of money
+-- (None), in ticks, or of an asset (Some), in units.
 pub data Command : Type 0 where
   AddAsset : (ticker : List ℕ) → Command
   OpenAccount : Command
-  DepositMoney : (account ticks : ℕ) → Command
-  DepositAsset : (account asset units : ℕ) → Command
-  WithdrawMoney : (account ticks : ℕ) → Command
-  WithdrawAsset : (account asset units : ℕ) → Command
+  Deposit : (account : ℕ) (kind : Option ℕ) (count : ℕ) → Command
+  Withdraw : (account : ℕ) (kind : Option ℕ) (count : ℕ) → Command
   Place : (last : Option ℕ) (request : Request) → Command
   CancelOrder : (account number : ℕ) → Command
   RunBatch : (budget : ℕ) → Command
-  SetMoneyCredit : (account ticks : ℕ) → Command
-  SetUnitCredit : (account asset units : ℕ) → Command
+  SetCredit : (account : ℕ) (kind : Option ℕ) (count : ℕ) → Command
 
 -- the reply to a command: a plain reply, or the number of a batch and its outcome, of any type
 pub data Answer (O : Type 0) : Type 0 where

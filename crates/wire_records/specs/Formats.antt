@@ -1,10 +1,10 @@
 -- Records as the units of a file, and command files.
-use Rattle.std.specs.Prelude.{◌<◌, ℕ, List, ◌⊎◌, codes}
+use Rattle.std.specs.Prelude.{◌<◌, ℕ, List, ◌+◌, ◌++◌, ◌∷◌, [], ◌⊎◌, codes}
 use Rattle.wire_records.specs.Records.{Record, IsRecord, StatesLength, encoding, most_body}
 use Rattle.wire_records.specs.Grammars.{Grammar, BeginsWith}
 use Rattle.wire_records.specs.Reading.{Format}
 use Rattle.wire_records.specs.declared.version.Version.{Version}
-use Rattle.wire_records.specs.declared.version.Version.TheVariants.{One, Two, Three, Four}
+use Rattle.wire_records.specs.Versions.{number_of}
 
 -- the encoding of versions: a magic for each
 abbrev pub magics : (Version → List ℕ) → Grammar Version
@@ -23,12 +23,9 @@ abbrev pub EitherStatesOver : ℕ → ℕ → List ℕ → Type 0
 EitherStatesOver limit next bytes =
     StatesOver limit bytes ⊎ ((first : Record) × (rest : List ℕ) × BeginsWith (records limit) bytes first rest × StatesOver next rest)
 
--- the magic of a command file of each version
+-- the magic of a command file of each version: a word, and the version's number as a digit (48 is `0`)
 abbrev pub command_magic_of : Version → List ℕ
-command_magic_of One = codes "FLOWCMD1"
-command_magic_of Two = codes "FLOWCMD2"
-command_magic_of Three = codes "FLOWCMD3"
-command_magic_of Four = codes "FLOWCMD4"
+command_magic_of version = codes "FLOWCMD" ++ (48 + number_of version) ∷ []
 
 -- the format of command files: a magic, and records whose bodies are within the limit
 abbrev pub commands : Format Version Record

@@ -1,7 +1,5 @@
-use Rattle.std.proofs.Common.{ℕ, List, ap}
 use Rattle.flow_io.specs.Changes.{change}
 use Rattle.line_keeping.specs.Outputs.{output}
-use Rattle.kept_exchange.proofs.AsStatus.{if_some}
 use Rattle.kept_exchange.proofs.ServingLines.{serves}
 use Rattle.kept_exchange.proofs.lines.flow_lines_limited.Goals as goal
 
@@ -14,6 +12,4 @@ returns-clause-serves g c =
     (change g.S.Source.rest g.S.Source.faults c.args.source.now c.serve_lines-ended.new.source)
     (output g.K.Sink.held g.K.Sink.calls g.K.Sink.faults c.args.out.now) (output g.K.Sink.held g.K.Sink.calls g.K.Sink.faults c.serve_lines-ended.new.out)
     (change g.N.Sink.held g.N.Sink.faults c.args.notes.now c.write_line.new.notes) c.write_line.result
-    kept.keeps kept.lengths kept.comes
-    (if_some (g.D.Disk.state c.args.disk.now).content _ _ (λ (held : List ℕ) looks. λ none. let it = looks none in (it.0, ap g.S.Source.rest it.1, ap (output g.K.Sink.held g.K.Sink.calls g.K.Sink.faults) it.2)) kept.untouched)
-    kept.made kept.taken kept.left kept.disk_cause kept.source_cause kept.out_cause line prefix c.write_line.ensures.cause)
+    kept.keeps kept.comes kept.taken kept.left kept.disk_cause kept.source_cause kept.out_cause line prefix c.write_line.ensures.cause)

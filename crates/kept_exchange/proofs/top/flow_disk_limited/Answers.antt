@@ -1,6 +1,7 @@
-use Rattle.std.proofs.Common.{ℕ, List, ap}
+use Rattle.std.proofs.Common.{sym, ◌∙◌}
 use Rattle.flow_io.specs.Changes.{change}
-use Rattle.kept_exchange.proofs.AsStatus.{if_some}
+use Rattle.kept_exchange.proofs.AsStatus.{memory_back}
+use Rattle.kept_exchange.proofs.Ends.{paced_as}
 use Rattle.kept_exchange.proofs.Serving.{serves}
 use Rattle.kept_exchange.proofs.top.flow_disk_limited.Goals as goal
 
@@ -13,6 +14,14 @@ returns-clause-serves g c =
     (change g.S.Source.rest g.S.Source.faults c.args.source.now c.keep-ended.new.source)
     (change g.K.Sink.held g.K.Sink.faults c.args.out.now c.keep-ended.new.out)
     (change g.N.Sink.held g.N.Sink.faults c.args.notes.now c.write_line.new.notes) c.write_line.result
-    kept.keeps kept.lengths (kept.comes, kept.paced, kept.allocates)
-    (if_some (g.D.Disk.state c.args.disk.now).content _ _ (λ (held : List ℕ) looks. λ none. let it = looks none in (it.0, ap g.S.Source.rest it.1, ap g.K.Sink.held it.2)) kept.untouched) kept.made kept.taken
-    kept.disk_cause kept.source_cause kept.out_cause line prefix c.write_line.ensures.cause)
+    kept.keeps (kept.comes, kept.paced, kept.allocates) kept.taken kept.disk_cause kept.source_cause kept.out_cause line prefix c.write_line.ensures.cause)
+
+pub returns-clause-paced : goal.returns-clause-paced
+returns-clause-paced g c =
+    let kept = c.keep-ended.ensures in
+    rw c.status_of-status.ensures (paced_as c.args.limit (g.D.Disk.state c.args.disk.now).content (g.D.Disk.state c.keep-ended.new.disk)
+    (change g.S.Source.rest g.S.Source.faults c.args.source.now c.keep-ended.new.source)
+    (change g.K.Sink.held g.K.Sink.faults c.args.out.now c.keep-ended.new.out) c.keep-ended.result (kept.comes, kept.paced, kept.allocates))
+
+pub returns-clause-allocates : goal.returns-clause-allocates
+returns-clause-allocates g c = λ e. c.keep-ended.ensures.allocates (memory_back c.args.limit c.keep-ended.result (sym c.status_of-status.ensures ∙ e))

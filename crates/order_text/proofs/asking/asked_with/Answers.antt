@@ -1,7 +1,7 @@
-use Rattle.std.proofs.Common.{[]}
+use Rattle.std.proofs.Common.{[], None}
 use Rattle.std.specs.Prelude.{codes}
 use Rattle.serde_json.specs.View.{view}
-use Rattle.wire_records.specs.Commands.{AddAsset, OpenAccount, DepositMoney, WithdrawMoney, CancelOrder, RunBatch}
+use Rattle.wire_records.specs.Commands.{AddAsset, OpenAccount, Deposit, Withdraw, CancelOrder, RunBatch}
 use Rattle.order_text.proofs.Ladders.{no_command_word}
 use Rattle.order_text.proofs.ByWord.{found_asked}
 use Rattle.order_text.proofs.asking.asked_with.Goals as goal
@@ -16,11 +16,11 @@ returns-in-Account c =
 
 pub returns-in-Deposit : goal.returns-in-Deposit
 returns-in-Deposit c =
-    rw c.found-in-Deposit.ensures (found_asked c.args.tickers.now (view c.args.value.now) c.args.version (codes "deposit") c.deposit.result (rw c.in-Deposit.is at c.requires) (no_command_word c.args.tickers.now (view c.args.value.now) (DepositMoney 0 0)) c.deposit.ensures)
+    rw c.found-in-Deposit.ensures (found_asked c.args.tickers.now (view c.args.value.now) c.args.version (codes "deposit") c.deposit.result (rw c.in-Deposit.is at c.requires) (no_command_word c.args.tickers.now (view c.args.value.now) (Deposit 0 None 0)) c.deposit.ensures)
 
 pub returns-in-Withdraw : goal.returns-in-Withdraw
 returns-in-Withdraw c =
-    rw c.found-in-Withdraw.ensures (found_asked c.args.tickers.now (view c.args.value.now) c.args.version (codes "withdraw") c.withdraw.result (rw c.in-Withdraw.is at c.requires) (no_command_word c.args.tickers.now (view c.args.value.now) (WithdrawMoney 0 0)) c.withdraw.ensures)
+    rw c.found-in-Withdraw.ensures (found_asked c.args.tickers.now (view c.args.value.now) c.args.version (codes "withdraw") c.withdraw.result (rw c.in-Withdraw.is at c.requires) (no_command_word c.args.tickers.now (view c.args.value.now) (Withdraw 0 None 0)) c.withdraw.ensures)
 
 pub returns-in-Cancel : goal.returns-in-Cancel
 returns-in-Cancel c =

@@ -1,5 +1,5 @@
 use Rattle.std.proofs.Common.{None}
-use Rattle.wire_records.specs.Commands.{SetMoneyCredit, Plain}
+use Rattle.wire_records.specs.Commands.{SetCredit, Plain}
 use Rattle.market_rules.specs.Step.{ServesPlain, NoOutcome}
 use Rattle.market_core.specs.Kept.{market_in}
 use Rattle.market_core.proofs.Answering.{serves-credit}
@@ -17,7 +17,7 @@ set_money_credit-requires-clause-covered c =
     rw (same_number c.money_needed-needed.result (record { sfits = c.money_needed-needed.type_inv }), c.money_needed-needed.ensures.value)
     (λ there. c.self.invariant.covered c.args.account None there tt)
 
-served : (c : goal.After-reply_to) → ServesPlain (market_in c.self.inside) (SetMoneyCredit c.args.account c.args.ticks) (Plain c.reply_to.result) (record (market_in c.self.inside) { balances = c.set_money_credit.new.self })
+served : (c : goal.After-reply_to) → ServesPlain (market_in c.self.inside) (SetCredit c.args.account None c.args.ticks) (Plain c.reply_to.result) (record (market_in c.self.inside) { balances = c.set_money_credit.new.self })
 served c =
     let answers = rw (same_number c.money_needed-needed.result (record { sfits = c.money_needed-needed.type_inv }), c.money_needed-needed.ensures.value) at c.set_money_credit.ensures in
     serves-credit NoOutcome (market_in c.self.inside) c.set_money_credit.new.self c.args.account None c.args.ticks c.set_money_credit.result c.reply_to.result

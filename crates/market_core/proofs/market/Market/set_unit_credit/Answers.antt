@@ -1,5 +1,5 @@
 use Rattle.std.proofs.Common.{Some}
-use Rattle.wire_records.specs.Commands.{SetUnitCredit, Plain}
+use Rattle.wire_records.specs.Commands.{SetCredit, Plain}
 use Rattle.market_rules.specs.Step.{ServesPlain, NoOutcome}
 use Rattle.market_core.specs.Kept.{market_in}
 use Rattle.market_core.proofs.Answering.{serves-credit}
@@ -17,7 +17,7 @@ set_unit_credit-requires-clause-covered c =
     rw (same_number c.units_needed-needed.result (record { sfits = c.units_needed-needed.type_inv }), c.units_needed-needed.ensures.value)
     (c.self.invariant.covered c.args.account (Some c.args.asset))
 
-served : (c : goal.After-reply_to) → ServesPlain (market_in c.self.inside) (SetUnitCredit c.args.account c.args.asset c.args.units) (Plain c.reply_to.result) (record (market_in c.self.inside) { balances = c.set_unit_credit.new.self })
+served : (c : goal.After-reply_to) → ServesPlain (market_in c.self.inside) (SetCredit c.args.account (Some c.args.asset) c.args.units) (Plain c.reply_to.result) (record (market_in c.self.inside) { balances = c.set_unit_credit.new.self })
 served c =
     let answers = rw (same_number c.units_needed-needed.result (record { sfits = c.units_needed-needed.type_inv }), c.units_needed-needed.ensures.value) at c.set_unit_credit.ensures in
     serves-credit NoOutcome (market_in c.self.inside) c.set_unit_credit.new.self c.args.account (Some c.args.asset) c.args.units c.set_unit_credit.result c.reply_to.result
