@@ -65,7 +65,7 @@ abbrev pub LinesFollow : DiskState → DiskState → Type 0
 LinesFollow start end = (limit : ℕ) (status : Status) (source : Change) (out later : Output) (notes : Change) → ServesLines limit status start end source out later notes
     → Follows (LinesAskStatus limit) status start end source out.faults later.faults
 
--- what holds by the status, and how far was read, is what some result of keeping a journal, which has that status, leads to
+-- what holds by the status, how far was read and when memory ran out are what some result of keeping a journal, which has that status, leads to
 abbrev pub KeepEndsByResult : DiskState → Type 0
 KeepEndsByResult end = (limit : ℕ) (held : Option (List ℕ)) (source out : Change) (status : Status)
     → (EndsWith limit held end source out status × IsPaced limit status source out

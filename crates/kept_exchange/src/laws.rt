@@ -34,7 +34,8 @@ pub fn lines_follow<D: Disk>(_start: &D, _end: &D)
     ensures { LinesFollow (D.state _start.now) (D.state _end.now) }
 {}
 
-/// What holds by the status of a call that keeps a journal is what the results with that status lead to; for any state of a disk.
+/// What holds by the status of a call that keeps a journal, how far it reads and when memory runs out are what the results with that status lead
+/// to; for any state of a disk.
 pub fn keep_ends_by_result<D: Disk>(_end: &D)
     ensures { KeepEndsByResult (D.state _end.now) }
 {}
