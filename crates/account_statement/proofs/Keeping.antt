@@ -11,8 +11,8 @@ use Rattle.std.proofs.lemmas.List.FromFn.{get_or-map-range_with_len}
 use Rattle.std.proofs.lemmas.List.Sums.{sum_by-cons}
 use Rattle.flow_orders.specs.Orders.{Order, own_sum}
 use Rattle.flow_orders.specs.Residuals.{residual_in, HasEach}
-use Rattle.flow_orders.specs.Trades.{trades, after_fill, is_live, staying}
-use Rattle.flow_orders.proofs.TradeFacts.{All-trades}
+use Rattle.flow_orders.specs.Trades.{trades, after_fill, staying}
+use Rattle.flow_orders.proofs.TradeFacts.{All-trades, is_live}
 use Rattle.order_book.specs.Book.{Book, without}
 use Rattle.statement_rules.specs.Views.{Adds}
 use Rattle.statement_rules.specs.Holdings.{changed, after}

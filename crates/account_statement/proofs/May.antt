@@ -23,7 +23,8 @@ use Rattle.flow_orders.proofs.TradeFacts.{All-trades}
 use Rattle.order_book.specs.Book.{HasOrder}
 use Rattle.ticker_table.specs.Adding.{IsAddable}
 use Rattle.market_rules.specs.Market.{Market, IsConsistent, IsLiveOrder, start_prices}
-use Rattle.market_rules.specs.Step.{FirstRefusal, Accepts, Answers, Serves}
+use Rattle.market_rules.specs.Step.{FirstRefusal, Accepts, Serves}
+use Rattle.market_rules.proofs.ByFirst.{Answers}
 use Rattle.market_rules.proofs.Accepted.{past_unless, past_when, not_least}
 use Rattle.market_rules.proofs.Lawful.{money_of_each, units_of_each}
 use Rattle.market_rules.proofs.LawProofs.{batch_of}

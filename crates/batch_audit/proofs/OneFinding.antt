@@ -24,7 +24,8 @@ use Rattle.batch_certificate.proofs.Verdicts.{right_parts}
 use Rattle.journal_records.specs.Replies.{EncodesAnswer}
 use Rattle.journal_records.proofs.Encoded.{answer_unique}
 use Rattle.market_rules.specs.Market.{Market, parts_of, search_of, start_prices}
-use Rattle.market_rules.specs.Step.{FirstRefusal, Accepts, Answers, Serves, ServesRead, holds_batch}
+use Rattle.market_rules.specs.Step.{FirstRefusal, Accepts, Serves, ServesRead, holds_batch}
+use Rattle.market_rules.proofs.ByFirst.{Answers}
 use Rattle.market_rules.specs.Journal.{Step}
 use Rattle.market_rules.proofs.LawProofs.{plain_commands_have_one_answer, batch_of}
 use Rattle.market_rules.proofs.OneStep.{one_first}

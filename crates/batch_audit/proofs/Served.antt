@@ -16,7 +16,8 @@ use Rattle.flow_orders.specs.Outcomes.{Outcome, IsAdmissibleOutcome}
 use Rattle.journal_records.specs.Replies.{EncodesAnswer}
 use Rattle.journal_records.proofs.Encoded.{answer_unique}
 use Rattle.market_rules.specs.Market.{Market, most_batches}
-use Rattle.market_rules.specs.Step.{NoOutcome, ServesPlain, FirstRefusal, Answers, Serves, ServesRead, refusal_of, after_batch}
+use Rattle.market_rules.specs.Step.{NoOutcome, ServesPlain, FirstRefusal, Serves, ServesRead, refusal_of, after_batch}
+use Rattle.market_rules.proofs.ByFirst.{Answers}
 use Rattle.market_rules.specs.Journal.{Step}
 use Rattle.market_core.specs.Expected.{IsExpected}
 use Rattle.market_rules.proofs.LawProofs.{plain_by_any, plain_commands_have_one_answer, one_refusal}

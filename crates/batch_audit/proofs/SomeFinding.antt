@@ -18,7 +18,8 @@ use Rattle.batch_certificate.proofs.OneVerdict.{right_is_for_admissible_clearing
 use Rattle.batch_certificate.proofs.Judging.{each_has_a_verdict}
 use Rattle.journal_records.specs.Replies.{EncodesAnswer}
 use Rattle.market_rules.specs.Market.{Market, IsConsistent, parts_of, start_prices}
-use Rattle.market_rules.specs.Step.{FirstRefusal, Answers, Serves, refusal_of}
+use Rattle.market_rules.specs.Step.{FirstRefusal, Serves, refusal_of}
+use Rattle.market_rules.proofs.ByFirst.{Answers}
 use Rattle.market_rules.proofs.LawProofs.{plain_by_any, batch_of}
 use Rattle.market_rules.proofs.Exists.{plain_or_due}
 use Rattle.batch_audit.specs.declared.finding.Finding.{Finding}

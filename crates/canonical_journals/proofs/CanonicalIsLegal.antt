@@ -5,7 +5,8 @@ use Rattle.canonical_rule.specs.Canonical.{IsCanonicalOutcome}
 use Rattle.wire_records.specs.Commands.{Command, RunBatch, Answer, Pair}
 use Rattle.wire_records.specs.declared.reply.Refusal.{Refusal}
 use Rattle.market_rules.specs.Market.{Market, IsConsistent, search_of, start_prices, empty_market}
-use Rattle.market_rules.specs.Step.{FirstRefusal, Accepts, Answers, Serves, ServesRead}
+use Rattle.market_rules.specs.Step.{FirstRefusal, Accepts, Serves, ServesRead}
+use Rattle.market_rules.proofs.ByFirst.{Answers}
 use Rattle.wire_records.specs.declared.command.BodyFault.{BodyFault}
 use Rattle.wire_records.specs.declared.version.Version.{Version}
 use Rattle.market_rules.specs.Journal.{Step, Follows, IsJournal}

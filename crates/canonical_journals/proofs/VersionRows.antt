@@ -12,10 +12,10 @@ use Rattle.demand_curve.specs.Numbers.{distance}
 use Rattle.wire_records.specs.declared.version.Version.TheVariants.{Two}
 use Rattle.wire_records.specs.Commands.{Request, Place, SetCredit, Withdraw, CancelOrder, RunBatch, Plain, Batch}
 use Rattle.wire_records.specs.declared.reply.Refusal.{Refusal}
-use Rattle.wire_records.specs.declared.reply.Refusal.TheVariants.{NotFree, NoOrder, BadLast, CreditInUse, CreditLimit}
+use Rattle.wire_records.specs.declared.reply.Refusal.TheVariants.{NoAsset, NotFree, BadRow, OrderLimit, NoOrder, BadLast, CreditInUse, CreditLimit}
 use Rattle.wire_records.specs.declared.reply.Reply.TheVariants as reply
 use Rattle.flow_accounts.specs.Balances.{Account, Credit, Balances, IsAccount, IsAsset}
-use Rattle.flow_orders.specs.Orders.{Order, AreLimits, IsFrom1To, most_cap, unit_need, terms_of}
+use Rattle.flow_orders.specs.Orders.{Order, AreLimits, IsFrom1To, most_cap, most_orders, unit_need, terms_of}
 use Rattle.flow_orders.specs.Excess.{price_for, residual_bound, steepness, is_unsettled}
 use Rattle.flow_orders.specs.Moves.{moved, walk_reach, single_reach}
 use Rattle.canonical_rule.specs.Attempts.{walks_alone}
@@ -31,7 +31,7 @@ use Rattle.fill_caps.specs.Settlement.{settled_account}
 use Rattle.order_book.specs.Book.{HasOrder}
 use Rattle.market_rules.specs.Market.{Market, usable_balance}
 use Rattle.market_rules.proofs.ByKind.{affords}
-use Rattle.market_rules.specs.Step.{FirstRefusal, RefusesRow, Serves, IsAffordable, placed}
+use Rattle.market_rules.specs.Step.{◌when◌else◌, ◌unless◌else◌, accept, FirstRefusal, Serves, IsAffordable, placed}
 
 abbrev entry : ℕ → ℤ → Entry
 entry asset weight = record { asset = asset; weight = weight }
@@ -66,6 +66,14 @@ two_accounts one other credit_one credit_other money units = record {
 }
 
 -- ---- the refusals of an order, one after the other
+
+-- those that are tested after its account, its numbers and its last batch
+abbrev RefusesRow : Market → Order → Option Refusal → Type 0
+RefusesRow m o =
+    BadRow unless IsWeightVector o.row else
+    NoAsset unless All (λ e. IsAsset m.balances e.asset) o.row else
+    OrderLimit when most_orders ≤ length m.orders else
+    NotFree unless IsAffordable m o else accept
 
 place_until : (m : Market) (last : ℕ) (r : Request) (first : Option Refusal) → IsAccount m.balances r.account → AreLimits r.low r.high → IsFrom1To most_rate r.rate → IsFrom1To most_cap r.cap
     → m.batches < last → RefusesRow m (placed m (Some last) r) first → FirstRefusal m (Place (Some last) r) first

@@ -21,7 +21,8 @@ use Rattle.canonical_rule.specs.Canonical.{IsCanonicalOutcome}
 use Rattle.canonical_rule.proofs.WorkedRows as batches
 use Rattle.market_rules.specs.Market.{Market, empty_market, start_prices, usable_balance, free_balance, held_balance}
 use Rattle.fill_caps.specs.Settlement.{settled_account, settled_balances, settled_exchange}
-use Rattle.market_rules.specs.Step.{FirstRefusal, Accepts, Answers, Serves, IsAffordable, placed}
+use Rattle.market_rules.specs.Step.{FirstRefusal, Accepts, Serves, IsAffordable, placed}
+use Rattle.market_rules.proofs.ByFirst.{Answers}
 use Rattle.order_book.specs.Book.{HasOrder}
 use Rattle.market_rules.specs.Journal.{Step, IsJournal, Places, fills_of}
 use Rattle.market_rules.specs.Deposits.{AddTogether}

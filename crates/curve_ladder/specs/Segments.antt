@@ -7,8 +7,8 @@ use Rattle.flow_orders.specs.Orders.{Order, price_of_ticks}
 use Rattle.wire_records.specs.Commands.{Request}
 use Rattle.curve_ladder.specs.declared.points.Point.{Point}
 use Rattle.curve_ladder.specs.declared.segment.Segment.{Segment}
-use Rattle.curve_ladder.specs.Ladders.{Ladder}
-use Rattle.curve_ladder.specs.Values.{neighbours, drop_between}
+use Rattle.curve_ladder.specs.Ladders.{Ladder, neighbours}
+use Rattle.curve_ladder.specs.Values.{drop_between}
 
 -- the rate falls from a point to the next one
 abbrev pub is_drop : Point × Point → Bool
@@ -23,13 +23,9 @@ segment_between turns pair = record {
   cap = drop_between pair.0 pair.1 * turns;
 }
 
--- the segments of points, in ascending prices
-abbrev pub segments_in : ℕ → List Point → List Segment
-segments_in turns points = map (segment_between turns) (filter is_drop (neighbours points))
-
--- the segments of a ladder
+-- the segments of a ladder, in ascending prices
 abbrev pub segments_of : Ladder → List Segment
-segments_of l = segments_in l.turns l.points
+segments_of l = map (segment_between l.turns) (filter is_drop (neighbours l.points))
 
 -- the curve of a segment's order before any fill, limits in grains: its batch maximum is the rate, or the cap if that is less
 abbrev pub curve_of : Segment → Terms

@@ -1,13 +1,14 @@
 -- An encoding has one end, and has some.
-use Rattle.std.proofs.Common.{◌≡◌, ◌↔◌, ℕ, List, [], ◌∷◌, ◌++◌, ◌⊎◌, Err, length, inl, inr, refl, sym, ap, ◌∙◌, subst, arith}
+use Rattle.std.proofs.Common.{◌≡◌, ◌↔◌, ℕ, List, [], ◌∷◌, ◌++◌, ◌⊎◌, Err, length, inl, inr, Option, Some, None, refl, sym, ap, ◌∙◌, subst, arith}
 use Rattle.std.proofs.lemmas.Bool.{cases_lt, cases_eq}
 use Rattle.wire_records.specs.declared.version.Version.{Version}
 use Rattle.word_driver.specs.declared.fault.Fault.TheVariants.{TooLong, Stopped}
 use Rattle.word_driver.specs.Ended.{Ended}
+use Rattle.market_rules.specs.Market.{Market}
 use Rattle.market_snapshot.specs.Checkpoints.{checkpoint_magic}
 use Rattle.encode_word.specs.declared.stop.EncodeStop.{EncodeStop}
 use Rattle.encode_word.specs.declared.stop.EncodeStop.TheVariants.{NoCheckpoint}
-use Rattle.encode_word.specs.Starts.{Start, Nothing, Kept, known_after, IsCut}
+use Rattle.encode_word.specs.Starts.{known_after, IsCut}
 use Rattle.encode_word.specs.Encoding.{LinesTo, EncodesLines, Encodes, EncodesInto, EncodesShort}
 use Rattle.encode_word.proofs.Starting.{magic_uncut, one_start, start_unkept, start_uncut, cut_alike, before_alike}
 use Rattle.encode_word.proofs.LinesTo.{lines_one, lines_some, to_alike, into_alike, short_alike}
@@ -17,7 +18,7 @@ module _ (version : Version) where
   one_of_lines : (More : Type 0) (bytes : List ℕ) (ended other : Ended EncodeStop) (x y : List ℕ) → EncodesLines version More bytes ended x → EncodesLines version More bytes other y → (ended ≡ other) × (x ≡ y)
   one_of_lines More bytes ended other x y a b =
       let one = one_start version More bytes a.start b.start a.lines b.lines a.begins b.begins in
-      let here = subst (λ (start : Start). LinesTo version (known_after start) More a.lines ended x) one.0 a.comes in
+      let here = subst (λ (start : Option Market). LinesTo version (known_after start) More a.lines ended x) one.0 a.comes in
       lines_one version (known_after b.start) More b.lines ended other x y (subst (λ (lines : List ℕ). LinesTo version (known_after b.start) More lines ended x) one.1 here) b.comes
 
   -- considered bytes result in one end
@@ -69,11 +70,11 @@ module _ (version : Version) where
       elim (begins_or_not checkpoint_magic bytes) [
         | inl magic ↦
             none (Err (Stopped NoCheckpoint)) [] (inr (inl (
-              (magic, λ market after kept. lines_some version market.tickers More more after (λ ended text comes. none ended text (inl (record { start = Kept market; lines = after; begins = kept; comes = comes })))),
+              (magic, λ market after kept. lines_some version market.tickers More more after (λ ended text comes. none ended text (inl (record { start = Some market; lines = after; begins = kept; comes = comes })))),
               refl,
               refl,
             )))
-        | inr plain ↦ lines_some version [] More more bytes (λ ended text comes. none ended text (inl (record { start = Nothing; lines = bytes; begins = (plain, uncut, refl); comes = comes })))
+        | inr plain ↦ lines_some version [] More more bytes (λ ended text comes. none ended text (inl (record { start = None; lines = bytes; begins = (plain, uncut, refl); comes = comes })))
       ]
 
   -- considered bytes result in some end

@@ -1,5 +1,5 @@
 -- What first bytes of an input result in if more follow.
-use Rattle.std.proofs.Common.{◌≡◌, ◌<◌, ℕ, zero, suc, List, [], ◌∷◌, ◌++◌, ◌⊎◌, inl, inr, All, Contains, Some, None, Ok, Err, length, take, get_or, append-nil, append_assoc, length-append, refl, sym, ap, ◌∙◌, subst, arith}
+use Rattle.std.proofs.Common.{◌≡◌, ◌<◌, ℕ, zero, suc, List, [], ◌∷◌, ◌++◌, ◌⊎◌, inl, inr, All, Contains, Option, Some, None, Ok, Err, length, take, get_or, append-nil, append_assoc, length-append, refl, sym, ap, ◌∙◌, subst, arith}
 use Rattle.std.proofs.lemmas.Grind.{flat_map-append}
 use Rattle.std.proofs.lemmas.List.{take_at}
 use Rattle.std.proofs.lemmas.List.Elements.{All-nil, All-cons, All-take, Contains-append_left, Contains-push}
@@ -9,15 +9,16 @@ use Rattle.wire_records.specs.declared.version.Version.{Version}
 use Rattle.word_driver.specs.declared.fault.Fault.TheVariants.{TooLong, Stopped}
 use Rattle.word_driver.specs.Ended.{Ended}
 use Rattle.market_rules.specs.Market.{Market}
-use Rattle.market_snapshot.specs.Checkpoints.{checkpoint_magic, HasCheckpointMagic}
-use Rattle.order_text.specs.Lines.{IsBlankByte, SaysNothing}
+use Rattle.market_snapshot.specs.Checkpoints.{checkpoint_magic, checkpoint_bytes, HasCheckpointMagic}
+use Rattle.order_text.specs.Lines.{SaysNothing}
 use Rattle.line_records.specs.Lines.{IsPiece, ended_by_feeds, AreLines, AreFirst, Say, encode_commands}
 use Rattle.line_records.proofs.Pieces.{ended_lines, line_or_piece, empty_piece}
 use Rattle.line_records.proofs.OneReadings.{before_next}
 use Rattle.encode_word.specs.declared.stop.EncodeStop.{EncodeStop}
 use Rattle.encode_word.specs.declared.stop.EncodeStop.TheVariants.{NoCommand}
-use Rattle.encode_word.specs.Starts.{Start, Nothing, Kept, known_after, IsCut, BeginsKept, IsBefore}
-use Rattle.encode_word.specs.Encoding.{EncodeEnds, LinesTo, Encodes, EncodesInto, EncodesShort}
+use Rattle.encode_word.specs.Starts.{known_after, IsCut, BeginsKept, IsBefore}
+use Rattle.encode_word.specs.Encoding.{LinesTo, Encodes, EncodesInto, EncodesShort}
+use Rattle.encode_word.proofs.LinesTo.{EncodeEnds}
 use Rattle.encode_word.proofs.Encoding.{begins_or_not}
 use Rattle.encode_word.proofs.NoLine.{no_line}
 
@@ -106,15 +107,15 @@ module _ (version : Version) where
       → Say version market.tickers read commands tickers → (n : ℕ) × ComeIfMore (take n bytes) (text_of commands)
   kept_first bytes market lines kept read more tickers last commands whole pieces say =
       let encoded = ended_by_feeds read in
-      let first = kept.checkpoint ++ encoded in
-      let is = taken bytes first (ended_by_feeds more ++ last) (kept.whole ∙ ap (λ xs. kept.checkpoint ++ xs) (parts lines read more last whole) ∙ sym (append_assoc kept.checkpoint encoded (ended_by_feeds more ++ last))) in (
+      let first = checkpoint_bytes market ++ encoded in
+      let is = taken bytes first (ended_by_feeds more ++ last) (kept.2 ∙ ap (λ xs. checkpoint_bytes market ++ xs) (parts lines read more last whole) ∙ sym (append_assoc (checkpoint_bytes market) encoded (ended_by_feeds more ++ last))) in (
         length first,
         subst (λ (xs : List ℕ). ComeIfMore xs (text_of commands)) (sym is) (if_more first (text_of commands) (λ Longer longer. (
           Err TooLong,
           inl (record {
-            start = Kept market;
+            start = Some market;
             lines = encoded;
-            begins = record { checkpoint = kept.checkpoint; is_one = kept.is_one; of_version = kept.of_version; whole = refl };
+            begins = (kept.0, kept.1, refl);
             comes = lines_come market.tickers read tickers commands (first_pieces read more pieces) say Longer longer;
           }),
         ))),
@@ -133,7 +134,7 @@ module _ (version : Version) where
         subst (λ (xs : List ℕ). ComeIfMore xs (text_of commands)) (sym is) (if_more first (text_of commands) (λ Longer longer. (
           Err TooLong,
           inl (record {
-            start = Nothing;
+            start = None;
             lines = first;
             begins = (λ magic. plain (subst HasCheckpointMagic (sym parted) (magic_on first rest magic)), feed_uncut Longer first feed, refl);
             comes = lines_come [] (line ∷ read) tickers commands (first_pieces (line ∷ read) more pieces) say Longer longer;
@@ -146,7 +147,7 @@ module _ (version : Version) where
   -- a piece of no checkpoint's magic results in it
   piece_comes : (piece : List ℕ) → IsPiece piece → ¬ HasCheckpointMagic piece → (Longer : Type 0) → Longer → ¬ IsCut Longer piece → Encodes version Longer piece (Err TooLong) (text_of [])
   piece_comes piece is plain Longer longer uncut = inl (record {
-    start = Nothing;
+    start = None;
     lines = piece;
     begins = (plain, uncut, refl);
     comes = record {
@@ -170,13 +171,13 @@ module _ (version : Version) where
   part_comes More bytes [] rest e split plain uncut ends = (
     ends.0,
     inl (record {
-      start = Nothing;
+      start = None;
       lines = bytes;
       begins = (plain, uncut, refl);
       comes = record {
         bad = None;
         commands = [];
-        reads = record { lines = [] ∷ []; read = [] ∷ []; tickers = []; split = split; say = inl (All-nil IsBlankByte, (refl, refl)); stops = refl };
+        reads = record { lines = [] ∷ []; read = [] ∷ []; tickers = []; split = split; say = inl (All-nil _, (refl, refl)); stops = refl };
         ends = ends.1;
         writes = refl;
       };
@@ -185,7 +186,7 @@ module _ (version : Version) where
   part_comes More bytes (x ∷ line) rest e split plain uncut ends = (
     Err (Stopped (NoCommand 1)),
     inl (record {
-      start = Nothing;
+      start = None;
       lines = bytes;
       begins = (plain, uncut, refl);
       comes = record {
@@ -218,7 +219,7 @@ module _ (version : Version) where
   part_gets More [] rest e piece plain uncut no_more = (
     Ok tt,
     inl (record {
-      start = Nothing;
+      start = None;
       lines = [];
       begins = (plain, uncut, refl);
       comes = record {
@@ -276,14 +277,14 @@ module _ (version : Version) where
   -- ---- what the first lines ask for
 
   -- lines that are ended
-  cut : (More : Type 0) (bytes : List ℕ) (start : Start) (lines : List ℕ) → IsBefore version More bytes start lines → (read more tickers : List (List ℕ)) (last : List ℕ) (commands : List Command) → lines ≡ ended_by_feeds (read ++ more) ++ last → All IsPiece (read ++ more)
+  cut : (More : Type 0) (bytes : List ℕ) (start : Option Market) (lines : List ℕ) → IsBefore version More bytes start lines → (read more tickers : List (List ℕ)) (last : List ℕ) (commands : List Command) → lines ≡ ended_by_feeds (read ++ more) ++ last → All IsPiece (read ++ more)
       → Say version (known_after start) read commands tickers → GetsFirst More bytes (text_of commands)
-  cut More bytes (Kept market) lines before read more tickers last commands whole pieces say = inl (kept_first bytes market lines before read more tickers last commands whole pieces say)
-  cut More bytes Nothing lines before [] more tickers last commands whole pieces say = subst (λ (cs : List Command). GetsFirst More bytes (text_of cs)) (sym say.0) (magic_gets More bytes before.0 before.1)
-  cut More bytes Nothing lines before (line ∷ read) more tickers last commands whole pieces say = inl (plain_first bytes before.0 line read more tickers last commands (sym before.2 ∙ whole) pieces say)
+  cut More bytes (Some market) lines before read more tickers last commands whole pieces say = inl (kept_first bytes market lines before read more tickers last commands whole pieces say)
+  cut More bytes None lines before [] more tickers last commands whole pieces say = subst (λ (cs : List Command). GetsFirst More bytes (text_of cs)) (sym say.0) (magic_gets More bytes before.0 before.1)
+  cut More bytes None lines before (line ∷ read) more tickers last commands whole pieces say = inl (plain_first bytes before.0 line read more tickers last commands (sym before.2 ∙ whole) pieces say)
 
   -- all lines, or those before the last
-  gets_after : (More : Type 0) (bytes : List ℕ) (start : Start) (lines : List ℕ) → IsBefore version More bytes start lines → (commands : List Command) (first : AreFirst version (known_after start) More lines commands) (more : List (List ℕ)) → first.lines ≡ first.read ++ more
+  gets_after : (More : Type 0) (bytes : List ℕ) (start : Option Market) (lines : List ℕ) → IsBefore version More bytes start lines → (commands : List Command) (first : AreFirst version (known_after start) More lines commands) (more : List (List ℕ)) → first.lines ≡ first.read ++ more
       → first.lines ≡ first.split.ended ++ first.split.last ∷ [] → ¬ More → GetsFirst More bytes (text_of commands)
   gets_after More bytes start lines before commands first [] prefix all short = inr (
     Ok tt,
@@ -304,7 +305,7 @@ module _ (version : Version) where
       let rest = before_last first.read first.split.ended line first.split.last more (sym prefix ∙ all) in
       cut More bytes start lines before first.read rest.0 first.tickers first.split.last commands (first.split.whole ∙ ap (λ xs. ended_by_feeds xs ++ first.split.last) rest.1) (subst (All IsPiece) rest.1 first.split.pieces) first.say
 
-  gets_by : (More : Type 0) (bytes : List ℕ) (start : Start) (lines : List ℕ) → IsBefore version More bytes start lines → (commands : List Command) → AreFirst version (known_after start) More lines commands → GetsFirst More bytes (text_of commands)
+  gets_by : (More : Type 0) (bytes : List ℕ) (start : Option Market) (lines : List ℕ) → IsBefore version More bytes start lines → (commands : List Command) → AreFirst version (known_after start) More lines commands → GetsFirst More bytes (text_of commands)
   gets_by More bytes start lines before commands first =
       elim first.split.all [
         | inl ended ↦

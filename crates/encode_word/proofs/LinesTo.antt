@@ -1,5 +1,6 @@
 -- What lines result in, from known tickers on.
 use Rattle.std.proofs.Common.{◌≡◌, ◌↔◌, ℕ, List, ◌++◌, ◌⊎◌, Option, Some, None, Ok, Err, inl, inr, refl, sym, ap, ◌∙◌, subst}
+use Rattle.std.specs.Prelude.{MatchOption}
 use Rattle.wire_records.specs.Formats.{command_magic_of}
 use Rattle.wire_records.specs.Commands.{Command}
 use Rattle.wire_records.specs.declared.version.Version.{Version}
@@ -9,7 +10,11 @@ use Rattle.line_records.specs.Lines.{AreLines, encode_commands}
 use Rattle.line_records.proofs.OneReadings.{one_reading, none_is_unread}
 use Rattle.encode_word.specs.declared.stop.EncodeStop.{EncodeStop}
 use Rattle.encode_word.specs.declared.stop.EncodeStop.TheVariants.{NoCommand}
-use Rattle.encode_word.specs.Encoding.{EncodeEnds, LinesTo, LinesInto, LinesShort}
+use Rattle.encode_word.specs.Encoding.{LinesTo, LinesInto, LinesShort}
+
+-- how it ends, by the number of the first line that is no command: the field `ends` of `LinesTo`
+abbrev pub EncodeEnds : Type 0 → Option ℕ → Ended EncodeStop → Type 0
+EncodeEnds More bad ended = MatchOption bad (((¬ More) × (ended ≡ Ok tt)) ⊎ (More × (ended ≡ Err TooLong))) (λ number. ended ≡ Err (Stopped (NoCommand number)))
 
 ends_one : (More : Type 0) (bad : Option ℕ) (ended other : Ended EncodeStop) → EncodeEnds More bad ended → EncodeEnds More bad other → ended ≡ other
 ends_one More (Some number) ended other a b = a ∙ sym b

@@ -1,5 +1,5 @@
 -- No line begins as a checkpoint does.
-use Rattle.std.proofs.Common.{◌≡◌, ℕ, List, ◌∷◌, inl, inr, None, Some, refl, sym, ◌∙◌, arith}
+use Rattle.std.proofs.Common.{◌≡◌, ℕ, List, ◌∷◌, ◌⊎◌, inl, inr, None, Some, refl, sym, ◌∙◌, arith}
 use Rattle.std.proofs.lemmas.List.Elements.{All-head}
 use Rattle.json.specs.Lex.{lex, punctuate}
 use Rattle.json.specs.Word.{word, after_number}
@@ -7,7 +7,7 @@ use Rattle.json.specs.Json.{value}
 use Rattle.serde_json.specs.Data.{Data}
 use Rattle.serde_json.specs.Read.{read}
 use Rattle.wire_records.specs.declared.version.Version.{Version}
-use Rattle.order_text.specs.Lines.{IsBlankByte, SaysNothing}
+use Rattle.order_text.specs.Lines.{SaysNothing}
 
 -- a text that begins with F (70) is no value
 no_value : (rest : List ℕ) → read (70 ∷ rest) ≡ None
@@ -15,7 +15,7 @@ unfolding lex punctuate word after_number value
 no_value rest = refl
 
 -- nor is F blank
-not_blank : IsBlankByte 70 → ⊥
+not_blank : (70 ≡ 32) ⊎ (70 ≡ 9) ⊎ (70 ≡ 13) → ⊥
 not_blank (inl is) = omega (arith, is)
 not_blank (inr (inl is)) = omega (arith, is)
 not_blank (inr (inr is)) = omega (arith, is)
@@ -25,6 +25,6 @@ no_such d e = cc
 
 pub no_line : (version : Version) (known : List (List ℕ)) (rest : List ℕ) → SaysNothing version known (70 ∷ rest)
 no_line version known rest = record {
-  written = λ blank. not_blank (All-head IsBlankByte 70 rest blank);
+  written = λ blank. not_blank (All-head _ 70 rest blank);
   no_command = λ asked asks. no_such asks.value (sym asks.reads ∙ no_value rest);
 }

@@ -10,7 +10,8 @@ use Rattle.wire_records.specs.declared.command.BodyFault.{BodyFault}
 use Rattle.wire_records.proofs.Readings.{command_read}
 use Rattle.flow_orders.specs.Outcomes.{Outcome, BatchRule, Cleared, Skipped}
 use Rattle.market_rules.specs.Market.{Market}
-use Rattle.market_rules.specs.Step.{FirstRefusal, Accepts, Answers, Serves, ServesRead, after_batch}
+use Rattle.market_rules.specs.Step.{FirstRefusal, Accepts, Serves, ServesRead, after_batch}
+use Rattle.market_rules.proofs.ByFirst.{Answers}
 use Rattle.market_rules.specs.Journal.{Step}
 use Rattle.market_rules.proofs.Accepted.{past_when, past_unless, not_least}
 use Rattle.order_text.specs.Lines.{Leaves}

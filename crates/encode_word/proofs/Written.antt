@@ -20,9 +20,10 @@ use Rattle.line_records.proofs.Pieces.{lines_after, told}
 use Rattle.encode_word.specs.declared.stop.EncodeStop.{EncodeStop}
 use Rattle.encode_word.specs.declared.stop.EncodeStop.TheVariants as stop
 use Rattle.encode_word.specs.Starts.{known_after, IsCut, BeginsUnkept}
-use Rattle.encode_word.specs.Encoding.{EncodeEnds, LinesTo, LinesInto, LinesShort, Encodes, EncodesInto, EncodesShort}
+use Rattle.encode_word.specs.Encoding.{LinesTo, LinesInto, LinesShort, Encodes, EncodesInto, EncodesShort}
 use Rattle.encode_word.specs.Tasks.{encoding}
 use Rattle.encode_word.specs.Private.{FindsStart, EncodesAll, Ends}
+use Rattle.encode_word.proofs.LinesTo.{EncodeEnds}
 use Rattle.encode_word.proofs.Encoding.{encodes_one, encodes_alike, encodes_into_alike, encodes_short_alike}
 
 -- nothing was written, since memory ran out

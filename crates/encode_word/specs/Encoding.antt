@@ -1,29 +1,25 @@
 -- `flow encode`: what it makes of the bytes of its source.
-use Rattle.std.specs.Prelude.{◌≡◌, ◌⊎◌, ℕ, List, [], ◌++◌, Option, Some, None, Ok, Err}
+use Rattle.std.specs.Prelude.{◌≡◌, ◌⊎◌, ℕ, List, [], ◌++◌, Option, MatchOption, Ok, Err}
 use Rattle.wire_records.specs.Formats.{command_magic_of}
 use Rattle.wire_records.specs.Commands.{Command}
 use Rattle.wire_records.specs.declared.version.Version.{Version}
+use Rattle.market_rules.specs.Market.{Market}
 use Rattle.word_driver.specs.declared.fault.Fault.TheVariants.{TooLong, Stopped}
 use Rattle.word_driver.specs.Ended.{Ended}
 use Rattle.line_records.specs.Lines.{AreRead, AreFirst, HaveNext, encode_commands}
 use Rattle.encode_word.specs.declared.stop.EncodeStop.{EncodeStop}
 use Rattle.encode_word.specs.declared.stop.EncodeStop.TheVariants.{NoCommand, NoCheckpoint}
-use Rattle.encode_word.specs.Starts.{Start, known_after, IsCut, BeginsUnkept, IsBefore}
-
--- how it ends: with the number of the first line that is no command, counted from 1, and else by whether the input has more
-abbrev pub EncodeEnds : Type 0 → Option ℕ → Ended EncodeStop → Type 0
-EncodeEnds More (Some number) ended = ended ≡ Err (Stopped (NoCommand number))
-EncodeEnds More None ended = ((¬ More) × (ended ≡ Ok tt)) ⊎ (More × (ended ≡ Err TooLong))
+use Rattle.encode_word.specs.Starts.{known_after, IsCut, BeginsUnkept, IsBefore}
 
 -- In a version, from the tickers on that are known before the first line.
 module _ (version : Version) (known : List (List ℕ)) where
-  -- The lines of these bytes, up to the first that is no command, ask for these commands. The text is the command file of their records,
-  -- which is read as them, by the laws.
+  -- The lines of these bytes, up to the first that is no command, ask for these commands. It ends with the number of that line, counted from
+  -- 1, and else by whether the input has more. The text is the command file of the records, which is read as the commands, by the laws.
   pub record LinesTo (More : Type 0) (bytes : List ℕ) (ended : Ended EncodeStop) (text : List ℕ) : Type 0 where
     pub bad : Option ℕ
     pub commands : List Command
     pub reads : AreRead version known More bytes bad commands
-    pub ends : EncodeEnds More bad ended
+    pub ends : MatchOption bad (((¬ More) × (ended ≡ Ok tt)) ⊎ (More × (ended ≡ Err TooLong))) (λ number. ended ≡ Err (Stopped (NoCommand number)))
     pub writes : text ≡ command_magic_of version ++ encode_commands commands
 
   -- The text is the command file of what the first lines ask for.
@@ -42,7 +38,7 @@ module _ (version : Version) (known : List (List ℕ)) where
 module _ (version : Version) (More : Type 0) (bytes : List ℕ) where
   -- The lines after what is before them result in this.
   pub record EncodesLines (ended : Ended EncodeStop) (text : List ℕ) : Type 0 where
-    pub start : Start
+    pub start : Option Market
     pub lines : List ℕ
     pub begins : IsBefore version More bytes start lines
     pub comes : LinesTo version (known_after start) More lines ended text
@@ -57,14 +53,14 @@ module _ (version : Version) (More : Type 0) (bytes : List ℕ) where
 
   -- The text is what the first lines result in.
   pub record EncodesInto (text : List ℕ) : Type 0 where
-    pub start : Start
+    pub start : Option Market
     pub lines : List ℕ
     pub begins : IsBefore version More bytes start lines
     pub into : LinesInto version (known_after start) More lines text
 
   -- The text is what the lines before one that isn't blank result in.
   pub record EncodesShort (text : List ℕ) : Type 0 where
-    pub start : Start
+    pub start : Option Market
     pub lines : List ℕ
     pub begins : IsBefore version More bytes start lines
     pub short : LinesShort version (known_after start) More lines text

@@ -12,7 +12,7 @@ use Rattle.encode_word.specs.declared.start.StartFault.{StartFault}
 use Rattle.encode_word.specs.declared.start.StartFault.TheVariants as fault
 use Rattle.encode_word.specs.declared.stop.EncodeStop.{EncodeStop}
 use Rattle.encode_word.specs.declared.stop.EncodeStop.TheVariants.{NoCommand, NoCheckpoint}
-use Rattle.encode_word.specs.Starts.{Start, known_after, IsCut, BeginsKept, BeginsUnkept, IsBefore}
+use Rattle.encode_word.specs.Starts.{known_after, IsCut, BeginsKept, BeginsUnkept, IsBefore}
 
 module _ (version : Version) where
   -- a checkpoint of a market of the version, which ends at this place
@@ -25,7 +25,7 @@ module _ (version : Version) where
 
   -- the lines begin at this place, and these tickers are known before the first of them
   abbrev pub FindsStart : Type 0 → List ℕ → List (List ℕ) → ℕ → Type 0
-  FindsStart More bytes tickers place = (start : Start) × IsBefore version More bytes start (drop place bytes) × (tickers ≡ known_after start)
+  FindsStart More bytes tickers place = (start : Option Market) × IsBefore version More bytes start (drop place bytes) × (tickers ≡ known_after start)
 
   -- why no lines begin
   abbrev pub IsStartFault : Type 0 → List ℕ → StartFault → Type 0

@@ -1,18 +1,13 @@
 -- What is before the lines of an input: nothing, or a checkpoint.
-use Rattle.std.specs.Prelude.{◌≡◌, ◌<◌, ℕ, List, [], ◌++◌, length}
+use Rattle.std.specs.Prelude.{◌≡◌, ◌<◌, ℕ, List, [], ◌++◌, length, Option, Some, None}
 use Rattle.wire_records.specs.declared.version.Version.{Version}
 use Rattle.market_rules.specs.Market.{Market}
-use Rattle.market_snapshot.specs.Checkpoints.{checkpoint_magic, IsCheckpoint, HasCheckpointMagic}
+use Rattle.market_snapshot.specs.Checkpoints.{checkpoint_magic, checkpoint_bytes, IsCheckpoint, HasCheckpointMagic}
 
--- what is before the lines: nothing, or the checkpoint of a market
-pub data Start : Type 0 where
-  Nothing : Start
-  Kept : Market → Start
-
--- the tickers that are known before the first line: none, or those of the market
-abbrev pub known_after : Start → List (List ℕ)
-known_after Nothing = []
-known_after (Kept market) = market.tickers
+-- the tickers that are known before the first line: none, or those of the market whose checkpoint is before the lines
+abbrev pub known_after : Option Market → List (List ℕ)
+known_after None = []
+known_after (Some market) = market.tickers
 
 -- the bytes are a part of the magic of a checkpoint, and the input has more
 abbrev pub IsCut : Type 0 → List ℕ → Type 0
@@ -20,18 +15,16 @@ IsCut More bytes = More × (length bytes < 8) × ((rest : List ℕ) × (checkpoi
 
 -- In a version.
 module _ (version : Version) where
-  -- The bytes begin with a checkpoint of this market, which is one of the version, and these are the bytes after it.
-  pub record BeginsKept (bytes : List ℕ) (market : Market) (after : List ℕ) : Type 0 where
-    pub checkpoint : List ℕ
-    pub is_one : IsCheckpoint market checkpoint
-    pub of_version : market.version ≡ version
-    pub whole : bytes ≡ checkpoint ++ after
+  -- the bytes begin with the checkpoint of this market, which is one of the version, and these are the bytes after it
+  abbrev pub BeginsKept : List ℕ → Market → List ℕ → Type 0
+  BeginsKept bytes market after = IsCheckpoint market (checkpoint_bytes market) × (market.version ≡ version) × (bytes ≡ checkpoint_bytes market ++ after)
 
   -- the bytes begin as a checkpoint, and with one of no market of the version
   abbrev pub BeginsUnkept : List ℕ → Type 0
   BeginsUnkept bytes = HasCheckpointMagic bytes × ((market : Market) (after : List ℕ) → ¬ BeginsKept bytes market after)
 
-  -- this is before the lines, and these are the bytes of the lines, after which the input may have more
-  abbrev pub IsBefore : Type 0 → List ℕ → Start → List ℕ → Type 0
-  IsBefore More bytes Nothing lines = (¬ HasCheckpointMagic bytes) × (¬ IsCut More bytes) × (lines ≡ bytes)
-  IsBefore More bytes (Kept market) lines = BeginsKept bytes market lines
+  -- this is before the lines, nothing or the checkpoint of a market, and these are the bytes of the lines, after which the input may have
+  -- more
+  abbrev pub IsBefore : Type 0 → List ℕ → Option Market → List ℕ → Type 0
+  IsBefore More bytes None lines = (¬ HasCheckpointMagic bytes) × (¬ IsCut More bytes) × (lines ≡ bytes)
+  IsBefore More bytes (Some market) lines = BeginsKept bytes market lines

@@ -21,7 +21,8 @@ use Rattle.journal_records.specs.Pairs.{IsPair}
 use Rattle.journal_records.proofs.Encoded.{plain_short, batch_short}
 use Rattle.journal_records.proofs.OutcomesFit.{admissible_outcomes_fit}
 use Rattle.market_rules.specs.Market.{Market, IsConsistent, search_of, start_prices}
-use Rattle.market_rules.specs.Step.{FirstRefusal, Accepts, Answers, Serves, ServesRead, after_batch}
+use Rattle.market_rules.specs.Step.{FirstRefusal, Accepts, Serves, ServesRead, after_batch}
+use Rattle.market_rules.proofs.ByFirst.{Answers}
 use Rattle.market_rules.specs.Journal.{Step, Follows}
 use Rattle.market_rules.proofs.Accepted.{past_unless}
 use Rattle.market_rules.proofs.Versions.{some_parts}

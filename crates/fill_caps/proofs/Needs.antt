@@ -14,9 +14,9 @@ use Rattle.demand_curve.specs.Numbers.{or_zero}
 use Rattle.demand_curve.proofs.RoundingLaws.{rounding_is_within_room, rounding_is_exact_at_cuts}
 use Rattle.flow_accounts.specs.Balances.{Account, Credit, Balances, IsAccount, IsAsset, no_credit, credit_in, money_with_credit, units_with_credit}
 use Rattle.flow_orders.specs.Orders.{Order, remaining_quantity, terms_of, money_need, sold, unit_need, own_sum, needed_money, needed_units}
-use Rattle.flow_orders.specs.Trades.{Trade, paid, received, trader, after_fill, is_live, staying}
+use Rattle.flow_orders.specs.Trades.{Trade, paid, received, trader, after_fill, staying}
 use Rattle.fill_caps.specs.Settles.{Settles}
-use Rattle.flow_orders.proofs.TradeFacts.{before_fills, after_fills, IsAllowed}
+use Rattle.flow_orders.proofs.TradeFacts.{before_fills, after_fills, IsAllowed, is_live}
 use Rattle.fill_caps.specs.Covers.{CoversNeeds}
 use Rattle.list_sums.proofs.SumLemmas.{int_sum_by-filter}
 use Rattle.flow_orders.proofs.OwnSums.{own_sum-append}

@@ -8,9 +8,9 @@ use Rattle.std.proofs.lemmas.List.Kept.{AllPairs-filter}
 use Rattle.std.proofs.lemmas.List.{same_lists, get_or_default}
 use Rattle.flow_accounts.specs.Balances.{Account, Balances, IsAccount, asset_count, account_of, empty_account, units_in}
 use Rattle.flow_orders.specs.Orders.{Order}
-use Rattle.flow_orders.specs.Trades.{Trade, after_fill, is_live, staying}
+use Rattle.flow_orders.specs.Trades.{Trade, after_fill, staying}
 use Rattle.fill_caps.specs.Settles.{Settles}
-use Rattle.flow_orders.proofs.TradeFacts.{before_fills, after_fills, IsAllowed}
+use Rattle.flow_orders.proofs.TradeFacts.{before_fills, after_fills, IsAllowed, is_live}
 
 -- an account is its money and its units, asset by asset
 same_account : (n : ℕ) (a b : Account) → length a.units ≡ n → length b.units ≡ n → a.money ≡ b.money → ((asset : ℕ) → asset < n → units_in a asset ≡ units_in b asset) → a ≡ b

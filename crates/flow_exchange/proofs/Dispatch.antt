@@ -7,7 +7,7 @@ use Rattle.flow_exchange.specs.declared.form.Form.{Form}
 use Rattle.flow_exchange.specs.declared.form.Form.TheVariants.{Run, Audit, Explain, Report, Encode, Sample, Statement, Checkpoint, Resume}
 use Rattle.flow_exchange.specs.declared.status.Status.{Status}
 use Rattle.flow_exchange.specs.declared.status.Status.TheVariants as answer
-use Rattle.flow_exchange.specs.Forms.{Asks, AsksNothing}
+use Rattle.flow_exchange.specs.Forms.{Asks}
 use Rattle.flow_exchange.specs.Statuses.{line_of}
 use Rattle.flow_exchange.specs.Program.{ServesCall}
 use Rattle.flow_exchange.specs.Allocating.{MayRunOut}
@@ -35,7 +35,7 @@ module _ (limit : ℕ) (words : List (List ℕ)) (form : Form) (status : Status)
   paced_form paced also = paced (one_form words form Run asks also)
 
 -- the arguments are no form
-pub serves_none : (limit : ℕ) (words : List (List ℕ)) (source out notes : Change) → AsksNothing words → ((¬ Rose notes.faults notes.faults_after) → Grows notes.before notes.after (line_of answer.Usage)) → GrowsByPrefix notes.before notes.after (line_of answer.Usage) → ServesCall limit words answer.Usage source out notes
+pub serves_none : (limit : ℕ) (words : List (List ℕ)) (source out notes : Change) → ((form : Form) → ¬ Asks words form) → ((¬ Rose notes.faults notes.faults_after) → Grows notes.before notes.after (line_of answer.Usage)) → GrowsByPrefix notes.before notes.after (line_of answer.Usage) → ServesCall limit words answer.Usage source out notes
 serves_none limit words source out notes none noted cut = record {
   usage = (λ e. none, λ not. refl);
   does = λ form asks. absurd (none form asks);

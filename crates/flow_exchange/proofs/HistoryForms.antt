@@ -31,11 +31,10 @@ use Rattle.flow_exchange.specs.declared.form.Form.TheVariants.{Audit, Report}
 use Rattle.flow_exchange.specs.declared.status.Status.TheVariants as answer
 use Rattle.flow_exchange.specs.Statuses.{ended_status}
 use Rattle.flow_exchange.specs.Private.{rejected}
-use Rattle.flow_exchange.specs.JournalFiles.{audit_status}
 use Rattle.flow_exchange.specs.HistoryFiles.{History}
 use Rattle.flow_exchange.specs.Auditing.{legal_line, audit_text, AuditsTo, AuditsShort}
 use Rattle.flow_exchange.specs.Reporting.{AreReported, ReportsTo, ReportsShort}
-use Rattle.flow_exchange.proofs.HistoryOf.{history_of, makes_of, judged_all, judged_some, at_pair}
+use Rattle.flow_exchange.proofs.HistoryOf.{history_of, makes_of, judged_all, judged_some, at_pair, audit_status}
 use Rattle.flow_exchange.proofs.Words.{IsOwn, Nothing, IsForm, history_form}
 
 cleared_more : (pair : Pair Record Outcome) (pairs : List (Pair Record Outcome)) → cleared_in (pair ∷ pairs) ≡ cleared_by pair.answer + cleared_in pairs

@@ -133,11 +133,11 @@ begins_none bytes s (inr unsound) = unsound.0.0
 history_one : (judge : History → Status) (Writes : History → List ℕ → Type 0) → ((history : History) (x y : List ℕ) → Writes history x → Writes history y → x ≡ y) → (limit : ℕ) (bytes : List ℕ) (s t : Status) (x y : List ℕ)
     → HistoryTo judge Writes limit bytes s x → HistoryTo judge Writes limit bytes t y → (s ≡ t) × (x ≡ y)
 history_one judge Writes one limit bytes s t x y (inl a) (inl b) = (no_history_one (take limit bytes) s t a.0 b.0, a.1 ∙ sym b.1)
-history_one judge Writes one limit bytes s t x y (inl a) (inr b) = let reads = b.is.reads in absurd (begins_none (take limit bytes) s a.0 b.history.start reads.0 reads.1.0 reads.1.1)
-history_one judge Writes one limit bytes s t x y (inr a) (inl b) = let reads = a.is.reads in absurd (begins_none (take limit bytes) t b.0 a.history.start reads.0 reads.1.0 reads.1.1)
+history_one judge Writes one limit bytes s t x y (inl a) (inr b) = let reads = b.1.reads in absurd (begins_none (take limit bytes) s a.0 b.0.start reads.0 reads.1.0 reads.1.1)
+history_one judge Writes one limit bytes s t x y (inr a) (inl b) = let reads = a.1.reads in absurd (begins_none (take limit bytes) t b.0 a.0.start reads.0 reads.1.0 reads.1.1)
 history_one judge Writes one limit bytes s t x y (inr a) (inr b) =
-    let same = one_history limit bytes a.history b.history a.is b.is in
-    (a.ends ∙ ap judge same ∙ sym b.ends, one b.history x y (subst (λ (h : History). Writes h x) same a.writes) b.writes)
+    let same = one_history limit bytes a.0 b.0 a.1 b.1 in
+    (a.2 ∙ ap judge same ∙ sym b.2, one b.0 x y (subst (λ (h : History). Writes h x) same a.3) b.3)
 
 -- an explanation writes one line of a journal
 explained_once : (market : Market) (legal : List (Pair Record Outcome)) (following : List (Record × Record)) (line x y : List ℕ) → Explains market legal following line x → Explains market legal following line y → x ≡ y

@@ -20,7 +20,3 @@ Asks words (Sample number orders) = AskSample words number orders
 Asks words (Statement number) = AskStatement words number
 Asks words Checkpoint = words ≡ codes "checkpoint" ∷ []
 Asks words Resume = words ≡ codes "resume" ∷ []
-
--- the arguments ask for no form
-abbrev pub AsksNothing : List (List ℕ) → Type 0
-AsksNothing words = (form : Form) → ¬ Asks words form

@@ -1,5 +1,5 @@
 -- What the subcommands over a history have in common: what is read of it, and its status.
-use Rattle.std.specs.Prelude.{◌≡◌, ◌⊎◌, ℕ, List, [], ◌∷◌, ◌++◌, map, take, All}
+use Rattle.std.specs.Prelude.{◌≡◌, ◌⊎◌, ℕ, ◌+◌, ◌==◌, if◌then◌else◌, List, [], ◌∷◌, ◌++◌, length, map, take, All}
 use Rattle.wire_records.specs.Records.{Record}
 use Rattle.wire_records.specs.Commands.{Pair}
 use Rattle.wire_records.specs.Versions.{IsReadAs}
@@ -13,8 +13,8 @@ use Rattle.market_snapshot.specs.Checkpoints.{HasCheckpointMagic}
 use Rattle.market_history.specs.Histories.{Start, market_of, histories, BeginsUnsound, BeginsOtherwise}
 use Rattle.batch_audit.specs.Legal.{StopsAt}
 use Rattle.flow_exchange.specs.declared.status.Status.{Status}
-use Rattle.flow_exchange.specs.declared.status.Status.TheVariants.{NotFlow, BadCheckpoint}
-use Rattle.flow_exchange.specs.JournalFiles.{audit_status}
+use Rattle.flow_exchange.specs.declared.status.Status.TheVariants.{NotFlow, Rejected, BadCheckpoint}
+use Rattle.flow_exchange.specs.Statuses.{ending_status}
 
 -- A history as it was read: its beginning, its valid entries, the market that they lead to from the one that it begins in, the entries from
 -- the first invalid one on (`following`), and how the reading ended.
@@ -38,25 +38,21 @@ pub record IsHistory (limit : ℕ) (bytes : List ℕ) (history : History) : Type
   pub legal : AreLegalFrom history.start history.legal history.market
   pub stops : StopsAt history.market history.following
 
--- the status of a history, which is found as that of a journal
+-- the status of a history: that of its ending if no entry follows the valid ones, and else the number of the first invalid one, counted
+-- from 1
 abbrev pub history_status : ℕ → History → Status
-history_status limit history = audit_status limit history.ending history.legal history.following
+history_status limit history = if length history.following == 0 then ending_status limit history.ending else Rejected (length history.legal + 1)
 
 -- the status of bytes that begin no history: a bad checkpoint has a status of its own
 abbrev pub IsNoHistory : List ℕ → Status → Type 0
 IsNoHistory bytes status = (BeginsOtherwise bytes × (status ≡ NotFlow)) ⊎ (BeginsUnsound bytes × (status ≡ BadCheckpoint))
 
--- The bytes are a history, of which a subcommand makes this text, and a status by `judge`.
-pub record MakesOfHistory (limit : ℕ) (bytes : List ℕ) (judge : History → Status) (Writes : History → List ℕ → Type 0) (status : Status) (text : List ℕ) : Type 0 where
-  pub history : History
-  pub is : IsHistory limit bytes history
-  pub ends : status ≡ judge history
-  pub writes : Writes history text
-
 -- a subcommand makes this status and text of the first `limit` bytes: they begin no history, and nothing is written, or they are one,
 -- whose status is by `judge`
 abbrev pub HistoryTo : (History → Status) → (History → List ℕ → Type 0) → ℕ → List ℕ → Status → List ℕ → Type 0
-HistoryTo judge Writes limit bytes status text = (IsNoHistory (take limit bytes) status × (text ≡ [])) ⊎ MakesOfHistory limit bytes judge Writes status text
+HistoryTo judge Writes limit bytes status text =
+    (IsNoHistory (take limit bytes) status × (text ≡ []))
+    ⊎ ((history : History) × IsHistory limit bytes history × (status ≡ judge history) × Writes history text)
 
 -- The entries of the history begin with these valid ones, which lead to this market, and another one follows.
 pub record IsAtPairOf (limit : ℕ) (bytes : List ℕ) (start : Start) (legal : List (Pair Record Outcome)) (market : Market) (next : Record × Record) : Type 0 where

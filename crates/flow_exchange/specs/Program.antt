@@ -8,7 +8,7 @@ use Rattle.flow_exchange.specs.declared.form.Form.{Form}
 use Rattle.flow_exchange.specs.declared.form.Form.TheVariants.{Run, Audit, Explain, Report, Encode, Sample, Statement, Checkpoint, Resume}
 use Rattle.flow_exchange.specs.declared.status.Status.{Status}
 use Rattle.flow_exchange.specs.declared.status.Status.TheVariants.{Done, Usage, ReadFault, WriteFault, NoMemory}
-use Rattle.flow_exchange.specs.Forms.{Asks, AsksNothing}
+use Rattle.flow_exchange.specs.Forms.{Asks}
 use Rattle.flow_exchange.specs.Statuses.{line_of}
 use Rattle.flow_exchange.specs.Running.{RunsTo}
 use Rattle.flow_exchange.specs.Auditing.{AuditsTo}
@@ -113,7 +113,7 @@ pub record Does (form : Form) (limit : ℕ) (status : Status) (source out : Chan
 -- What a call of the program does, with a limit of its input.
 pub record ServesCall (limit : ℕ) (words : List (List ℕ)) (status : Status) (source out notes : Change) : Type 0 where
   -- Usage comes exactly if the arguments are no form.
-  pub usage : (status ≡ Usage) ↔ AsksNothing words
+  pub usage : (status ≡ Usage) ↔ ((form : Form) → ¬ Asks words form)
   pub does : (form : Form) → Asks words form → Does form limit status source out
   -- Standard error grew by the line of the status, or by a prefix of it if a write of it failed. That changes nothing else.
   pub noted : (¬ Rose notes.faults notes.faults_after) → Grows notes.before notes.after (line_of status)

@@ -1,6 +1,7 @@
 //! What the arguments on the command line ask for.
 ghost use Rattle.std.specs.Prelude.{◌≡◌, ◌↔◌, IfSome, IfNone, IsTrue, map, string_bytes, [], ◌∷◌};
-ghost use Rattle.flow_exchange.specs.Forms.{Asks, AsksNothing};
+ghost use Rattle.flow_exchange.specs.declared.form.Form.{Form};
+ghost use Rattle.flow_exchange.specs.Forms.{Asks};
 
 use crate::sample_form::sample_of;
 use crate::statement_form::statement_of;
@@ -52,7 +53,7 @@ fn are_two(words: &[String], first: &str, second: &str) -> bool
 /// Returns the form that the arguments ask for.
 pub(crate) fn form_of(words: &[String]) -> Option<Form>
     ensures form { IfSome result (λ form. Asks (map string_bytes words.now) form) }
-    ensures none { IfNone result (AsksNothing (map string_bytes words.now)) }
+    ensures none { IfNone result ((form : Form) → ¬ Asks (map string_bytes words.now) form) }
 {
     if is_word(words, "run") {
         return Some(Form::Run);

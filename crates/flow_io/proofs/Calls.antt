@@ -1,33 +1,19 @@
 -- How the calls of a sink grow in number.
-use Rattle.std.proofs.Common.{ℕ, List, [], ◌++◌, Option, Some, None, sym, append_assoc}
+use Rattle.std.proofs.Common.{ℕ, List, [], ◌++◌, Option}
 use Rattle.std.specs.List.{flat_map}
-use Rattle.std.proofs.lemmas.List.{append-nil}
 use Rattle.std.proofs.lemmas.Grind.{flat_map-append}
-use Rattle.flow_io.specs.Streams.{Called, HandsOver}
+use Rattle.flow_io.specs.Streams.{Grows, HandsOver}
 use Rattle.flow_io.proofs.Growth.{Grows-nothing, Grows-more}
-
--- no call was made
-pub Called-nothing : (calls : Option (List (List ℕ))) → Called calls calls []
-Called-nothing None = tt
-Called-nothing (Some pieces) = sym (append-nil pieces)
-
--- calls were made, and then more
-pub Called-more : (first second third : Option (List (List ℕ))) (pieces more : List (List ℕ)) → Called first second pieces → Called second third more → Called first third (pieces ++ more)
-Called-more first second None pieces more a b = tt
-Called-more None None (Some z) pieces more a b = absurd b
-Called-more None (Some y) (Some z) pieces more a b = absurd a
-Called-more (Some x) None (Some z) pieces more a b = absurd b
-Called-more (Some x) (Some y) (Some z) pieces more a b = rw (b, a) (append_assoc x pieces more)
 
 module _ {O : Type 0} (calls : O → Option (List (List ℕ))) (held : O → Option (List ℕ)) where
   -- nothing was handed over
   pub hands_nothing : {Failed : Type 0} (out : O) → HandsOver calls held out out Failed []
-  hands_nothing out = record { called = Called-nothing (calls out); written = λ not. Grows-nothing (held out) }
+  hands_nothing out = record { called = Grows-nothing (calls out); written = λ not. Grows-nothing (held out) }
 
   -- pieces were handed over, of which none failed, and then more
   pub hands_more : {One Failed : Type 0} (first second third : O) (pieces more : List (List ℕ)) → ¬ One → HandsOver calls held first second One pieces → HandsOver calls held second third Failed more → HandsOver calls held first third Failed (pieces ++ more)
   hands_more first second third pieces more none a b = record {
-    called = Called-more (calls first) (calls second) (calls third) pieces more a.called b.called;
+    called = Grows-more (calls first) (calls second) (calls third) pieces more a.called b.called;
     written = λ not. rw (flat_map-append (λ (piece : List ℕ). piece) pieces more) (Grows-more (held first) (held second) (held third) (flat_map (λ piece. piece) pieces) (flat_map (λ piece. piece) more) (a.written none) (b.written not));
   }
 

@@ -5,18 +5,18 @@ use Rattle.std.proofs.Math.Seq.{take-length, take-append-add}
 use Rattle.std.proofs.lemmas.List.{take-append-le}
 use Rattle.flow_io.specs.Streams.{Grows, GrowsByPrefix}
 
--- nothing was written
-pub Grows-nothing : (held : Option (List ℕ)) → Grows held held []
+-- nothing was written, or handed over
+pub Grows-nothing : {A : Type 0} (held : Option (List A)) → Grows held held []
 Grows-nothing None = tt
-Grows-nothing (Some bytes) = sym (append-nil bytes)
+Grows-nothing (Some old) = sym (append-nil old)
 
--- bytes were written, and then more
-pub Grows-more : (first second third : Option (List ℕ)) (bytes more : List ℕ) → Grows first second bytes → Grows second third more → Grows first third (bytes ++ more)
-Grows-more first second None bytes more a b = tt
-Grows-more None None (Some z) bytes more a b = absurd b
-Grows-more None (Some y) (Some z) bytes more a b = absurd a
-Grows-more (Some x) None (Some z) bytes more a b = absurd b
-Grows-more (Some x) (Some y) (Some z) bytes more a b = rw (b, a) (append_assoc x bytes more)
+-- something was, and then more
+pub Grows-more : {A : Type 0} (first second third : Option (List A)) (added more : List A) → Grows first second added → Grows second third more → Grows first third (added ++ more)
+Grows-more first second None added more a b = tt
+Grows-more None None (Some z) added more a b = absurd b
+Grows-more None (Some y) (Some z) added more a b = absurd a
+Grows-more (Some x) None (Some z) added more a b = absurd b
+Grows-more (Some x) (Some y) (Some z) added more a b = rw (b, a) (append_assoc x added more)
 
 -- all of the bytes are a prefix of them
 pub GrowsByPrefix-whole : (first second : Option (List ℕ)) (bytes : List ℕ) → Grows first second bytes → GrowsByPrefix first second bytes

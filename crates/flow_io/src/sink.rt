@@ -1,6 +1,6 @@
 ghost use Rattle.std.specs.Prelude.{◌≡◌, ◌∷◌, [], ℕ, List, Option, OnOk, OnErr, IsErr};
 ghost use Rattle.flow_io.specs.Faults.{Blames};
-ghost use Rattle.flow_io.specs.Streams.{Grows, GrowsByPrefix, Called};
+ghost use Rattle.flow_io.specs.Streams.{Grows, GrowsByPrefix};
 
 /// A write failed. The sink's count of faults has risen.
 #[derive(Clone, Copy, Debug, PartialEq, Eq)]
@@ -25,6 +25,6 @@ pub trait Sink {
         ensures written { OnOk result (Grows (held self.old) (held self.new) bytes.now) }
         ensures cut { OnErr result (GrowsByPrefix (held self.old) (held self.new) bytes.now) }
         // This holds whether the write fails or not.
-        ensures called { Called (calls self.old) (calls self.new) (bytes.now ∷ []) }
+        ensures called { Grows (calls self.old) (calls self.new) (bytes.now ∷ []) }
         ensures cause { Blames (IsErr result) (faults self.old) (faults self.new) };
 }

@@ -24,11 +24,11 @@ use Rattle.history_words.proofs.Starts.{other_magics}
 use Rattle.session_resume.specs.Firsts.{BeginsIllegal}
 use Rattle.journal_words.specs.Findings.{IsExplained}
 use Rattle.flow_exchange.specs.declared.status.Status.TheVariants as answer
-use Rattle.flow_exchange.specs.JournalFiles.{if_whole, audit_status}
+use Rattle.flow_exchange.specs.JournalFiles.{if_whole}
 use Rattle.flow_exchange.specs.HistoryFiles.{History, AreLegalFrom, IsHistory, IsNoHistory}
 use Rattle.flow_exchange.specs.Auditing.{legal_line, audit_text}
 use Rattle.flow_exchange.specs.Explaining.{Explains}
-use Rattle.flow_exchange.proofs.HistoryOf.{history_of, makes_of, judged_all, judged_some}
+use Rattle.flow_exchange.proofs.HistoryOf.{history_of, makes_of, judged_all, judged_some, audit_status}
 use Rattle.flow_laws.specs.Laws.{EncodesHistory, EncodesLegal, DoneIsForHistories, DoneForLegalJournals, HasFirstIllegal, RejectedIsFirstIllegal, FirstIllegalOfJournals}
 
 -- ---- what a status tells
@@ -108,9 +108,9 @@ done_is_for_histories limit bytes text = (
       elim comes [
         | inl none ↦ absurd (no_history_done (take limit bytes) none.0)
         | inr file ↦
-            let h = file.history in
-            let all = done_all limit h.ending h.legal h.following file.ends in
-            (h.start, h.legal, h.market, to_end limit bytes h all file.is, file.writes ∙ all_made h.following h.ending (legal_line h.legal) [] all)
+            let h = file.0 in
+            let all = done_all limit h.ending h.legal h.following file.2 in
+            (h.start, h.legal, h.market, to_end limit bytes h all file.1, file.3 ∙ all_made h.following h.ending (legal_line h.legal) [] all)
       ],
   λ (start, pairs, market, so, is). makes_of audited limit bytes answer.Done text (history_of start pairs market [] End) (from_end limit bytes start pairs market so) refl is,
 )
@@ -206,9 +206,9 @@ rejected_is_first limit number bytes text = (
       elim comes [
         | inl none ↦ absurd (no_history_rejected (take limit bytes) number none.0)
         | inr file ↦
-            let h = file.history in (
-              rejected_file limit number bytes h.start h.legal h.market h.following h.ending file.is file.ends,
-              file.writes ∙ none_made limit number h.ending h.legal h.following (legal_line h.legal) [] file.ends,
+            let h = file.0 in (
+              rejected_file limit number bytes h.start h.legal h.market h.following h.ending file.1 file.2,
+              file.3 ∙ none_made limit number h.ending h.legal h.following (legal_line h.legal) [] file.2,
             )
       ],
   λ illegal.

@@ -13,12 +13,13 @@ use Rattle.wire_records.specs.declared.command.BodyFault.{BodyFault}
 use Rattle.wire_records.specs.declared.reply.Refusal.{Refusal}
 use Rattle.flow_orders.specs.Orders.{Order}
 use Rattle.flow_orders.specs.Outcomes.{Fill, Outcome, Cleared, Skipped, IsAdmissibleOutcome, trades_of}
-use Rattle.flow_orders.specs.Trades.{Trade, after_fill, is_live, staying}
-use Rattle.flow_orders.proofs.TradeFacts.{All-trades}
+use Rattle.flow_orders.specs.Trades.{Trade, after_fill, staying}
+use Rattle.flow_orders.proofs.TradeFacts.{All-trades, is_live}
 use Rattle.journal_records.specs.Pairs.{pair_encoding}
 use Rattle.journal_records.specs.Formats.{journal_magic_of}
 use Rattle.market_rules.specs.Market.{Market, empty_market}
-use Rattle.market_rules.specs.Step.{Accepts, Answers, ServesRead, after_batch, placed}
+use Rattle.market_rules.specs.Step.{Accepts, ServesRead, after_batch, placed}
+use Rattle.market_rules.proofs.ByFirst.{Answers}
 use Rattle.market_rules.specs.Journal.{Follows}
 use Rattle.market_rules.proofs.LawProofs.{journals_stay_consistent}
 use Rattle.market_snapshot.specs.Checkpoints.{checkpoint_bytes}
@@ -28,8 +29,8 @@ use Rattle.flow_exchange.specs.declared.status.Status.{Status}
 use Rattle.flow_exchange.specs.declared.status.Status.TheVariants as answer
 use Rattle.flow_exchange.specs.Auditing.{audit_text}
 use Rattle.flow_exchange.specs.Checkpointing.{checkpoint_text, CheckpointsTo}
-use Rattle.flow_exchange.specs.JournalFiles.{if_whole, audit_status}
-use Rattle.flow_exchange.proofs.HistoryOf.{history_of, makes_of, consistent_start}
+use Rattle.flow_exchange.specs.JournalFiles.{if_whole}
+use Rattle.flow_exchange.proofs.HistoryOf.{history_of, makes_of, consistent_start, audit_status}
 use Rattle.flow_exchange.proofs.Outcomes.{one_end}
 use Rattle.flow_laws.specs.Laws.{EncodesHistory, CheckpointsOfHistories, HistoriesHaveCheckpoints, LegalJournalsHaveCheckpoints}
 use Rattle.flow_laws.proofs.AuditLaws.{done_all, all_made, no_history_done, to_end, from_end}
@@ -43,9 +44,9 @@ done_to : (limit : ℕ) (bytes text : List ℕ) → CheckpointsTo limit bytes an
     → (start : Start) × (pairs : List (Pair Record Outcome)) × (market : Market) × EncodesHistory limit bytes start pairs market × (text ≡ checkpoint_bytes market)
 done_to limit bytes text (inl none) = absurd (no_history_done (take limit bytes) none.0)
 done_to limit bytes text (inr file) =
-    let h = file.history in
-    let all = done_all limit h.ending h.legal h.following file.ends in
-    (h.start, h.legal, h.market, to_end limit bytes h all file.is, file.writes ∙ all_made h.following h.ending (checkpoint_bytes h.market) [] all)
+    let h = file.0 in
+    let all = done_all limit h.ending h.legal h.following file.2 in
+    (h.start, h.legal, h.market, to_end limit bytes h all file.1, file.3 ∙ all_made h.following h.ending (checkpoint_bytes h.market) [] all)
 
 -- nothing is written on another status
 nothing_else : (limit : ℕ) (status : Status) (market : Market) (ending : Ending) (legal : List (Pair Record Outcome)) (following : List (Record × Record)) → status ≡ audit_status limit ending legal following → status ≢ answer.Done → if_whole following ending (checkpoint_bytes market) [] ≡ []
@@ -64,10 +65,10 @@ checkpoints_of_histories = record {
   audited = λ limit bytes text line status other comes audits.
       elim comes [
         | inl none ↦ (one_end Audit limit bytes status other text line (inl none) audits).0
-        | inr file ↦ (one_end Audit limit bytes status other (audit_text file.history) line (inr (record { history = file.history; is = file.is; ends = file.ends; writes = refl })) audits).0
+        | inr file ↦ (one_end Audit limit bytes status other (audit_text file.0) line (inr ((file.0, file.1, file.2, refl))) audits).0
       ];
   nothing = λ limit bytes text status comes other.
-      elim comes [ inl none ↦ none.1 | inr file ↦ file.writes ∙ nothing_else limit status file.history.market file.history.ending file.history.legal file.history.following file.ends other ];
+      elim comes [ inl none ↦ none.1 | inr file ↦ file.3 ∙ nothing_else limit status file.0.market file.0.ending file.0.legal file.0.following file.2 other ];
 }
 
 -- ---- that they are checkpoints

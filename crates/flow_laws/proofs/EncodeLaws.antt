@@ -25,8 +25,8 @@ use Rattle.line_records.specs.Lines.{encode_commands}
 use Rattle.line_records.proofs.Fitting.{commands_fit, no_tickers}
 use Rattle.encode_word.specs.declared.stop.EncodeStop.{EncodeStop}
 use Rattle.encode_word.specs.declared.stop.EncodeStop.TheVariants as stop
-use Rattle.encode_word.specs.Starts.{Start, Nothing, Kept, known_after, BeginsUnkept, IsBefore}
-use Rattle.encode_word.specs.Encoding.{EncodeEnds, EncodesLines, Encodes}
+use Rattle.encode_word.specs.Starts.{known_after, BeginsUnkept, IsBefore}
+use Rattle.encode_word.specs.Encoding.{EncodesLines, Encodes}
 use Rattle.exchange_session.specs.Journals.{Journals}
 use Rattle.session_resume.specs.declared.first.Origin.TheVariants.{Checkpoint}
 use Rattle.session_resume.specs.declared.first.Unfit.{Unfit}
@@ -57,9 +57,9 @@ file_of version most text cs each is fits =
     (file_read commands commands_readable (λ over. states_none-from_few over.0 [] (omega arith) over.1) most version (map record_of cs) tt each (rw (ap length file_equal) fits))
 
 -- the tickers that are known before the first line are tickers
-pub are_known : (version : Version) (More : Type 0) (bytes : List ℕ) (start : Start) (lines : List ℕ) → IsBefore version More bytes start lines → AreTickers (known_after start)
-are_known version More bytes Nothing lines before = no_tickers
-are_known version More bytes (Kept market) lines before = before.is_one.consistent.tickers
+pub are_known : (version : Version) (More : Type 0) (bytes : List ℕ) (start : Option Market) (lines : List ℕ) → IsBefore version More bytes start lines → AreTickers (known_after start)
+are_known version More bytes None lines before = no_tickers
+are_known version More bytes (Some market) lines before = before.0.consistent.tickers
 
 -- so what is encoded fits
 pub encoded_fit : (version : Version) (More : Type 0) (bytes text : List ℕ) (ended : Ended EncodeStop) (encoded : EncodesLines version More bytes ended text)
@@ -122,9 +122,9 @@ pub encoded_is_resumed : EncodedIsResumed
 encoded_is_resumed version limit most bytes text checkpoint entries ended resumed_as market encoded kept is_one fits (end, resumes, is) =
     let cs = encoded.comes.commands in
     let fit = encoded_fit version (limit < length bytes) (take limit bytes) text ended encoded in
-    let before = subst (λ (start : Start). IsBefore version (limit < length bytes) (take limit bytes) start encoded.lines) kept encoded.begins in
+    let before = subst (λ (start : Option Market). IsBefore version (limit < length bytes) (take limit bytes) start encoded.lines) kept encoded.begins in
     let file_equal : text ≡ command_magic_of market.version ++ encode_all commands.units (map record_of cs) =
-    encoded.comes.writes ∙ ap (λ (v : Version). command_magic_of v ++ encode_commands cs) (sym before.of_version) ∙ ap (λ xs. command_magic_of market.version ++ xs) (sym (flat_map-map encoding record_of cs))
+    encoded.comes.writes ∙ ap (λ (v : Version). command_magic_of v ++ encode_commands cs) (sym before.1) ∙ ap (λ xs. command_magic_of market.version ++ xs) (sym (flat_map-map encoding record_of cs))
     in
     let no_more : ¬ (most < length (checkpoint ++ text)) = λ more. omega (arith, more, fits) in
     let here = subst (λ (xs : List ℕ). Resumes (most < length (checkpoint ++ text)) xs end entries) (take_all most (checkpoint ++ text) fits ∙ ap (λ xs. checkpoint ++ xs) file_equal) resumes in

@@ -9,10 +9,9 @@ use Rattle.journal_words.specs.Findings.{IsExplained}
 use Rattle.flow_exchange.specs.declared.form.Form.TheVariants.{Audit}
 use Rattle.flow_exchange.specs.declared.status.Status.{Status}
 use Rattle.flow_exchange.specs.declared.status.Status.TheVariants as answer
-use Rattle.flow_exchange.specs.JournalFiles.{audit_status}
 use Rattle.flow_exchange.specs.Auditing.{audit_text}
 use Rattle.flow_exchange.specs.Explaining.{Explains}
-use Rattle.flow_exchange.proofs.HistoryOf.{history_of, makes_of}
+use Rattle.flow_exchange.proofs.HistoryOf.{history_of, makes_of, audit_status}
 use Rattle.flow_exchange.proofs.Outcomes.{one_end}
 use Rattle.flow_laws.specs.Laws.{ExplainIsAudit, RejectedIsExplained}
 use Rattle.flow_laws.proofs.AuditLaws.{no_history_rejected, history_first, explained_file}
@@ -28,10 +27,10 @@ explain_is_audit limit bytes text line status other (inl none) audits =
     let same = one_end Audit limit bytes status other text line (inl none) audits in
     (same.0, λ not. same.1)
 explain_is_audit limit bytes text line status other (inr file) audits =
-    let h = file.history in
+    let h = file.0 in
     let told = audit_text h in
-    let same = one_end Audit limit bytes status other told line (inr (record { history = h; is = file.is; ends = file.ends; writes = refl })) audits in
-    (same.0, λ not. explained_alike limit h.market h.legal h.following h.ending status told text file.ends not file.writes ∙ same.1)
+    let same = one_end Audit limit bytes status other told line (inr ((h, file.1, file.2, refl))) audits in
+    (same.0, λ not. explained_alike limit h.market h.legal h.following h.ending status told text file.2 not file.3 ∙ same.1)
 
 pub rejected_is_explained : RejectedIsExplained
 rejected_is_explained limit number bytes text = (
@@ -39,8 +38,8 @@ rejected_is_explained limit number bytes text = (
       elim comes [
         | inl none ↦ absurd (no_history_rejected (take limit bytes) number none.0)
         | inr file ↦
-            let h = file.history in
-            explained_file limit number bytes h.start h.legal h.market h.following h.ending (audit_text h) text file.is file.ends file.writes
+            let h = file.0 in
+            explained_file limit number bytes h.start h.legal h.market h.following h.ending (audit_text h) text file.1 file.2 file.3
       ],
   λ illegal.
       let first = illegal.0 in

@@ -11,7 +11,7 @@ use Rattle.market_history.specs.Histories.{Empty, Kept, market_of, starts, Begin
 use Rattle.market_history.proofs.Starting.{kept_magic}
 use Rattle.history_words.proofs.Starts.{other_magics}
 use Rattle.flow_exchange.specs.declared.status.Status.TheVariants as answer
-use Rattle.flow_exchange.specs.JournalFiles.{if_whole, audit_status}
+use Rattle.flow_exchange.specs.JournalFiles.{if_whole}
 use Rattle.flow_exchange.specs.HistoryFiles.{History, history_status, HistoryTo}
 use Rattle.flow_exchange.specs.Stating.{statement_status, States}
 use Rattle.statement_rules.specs.Views.{is_there}
@@ -20,6 +20,7 @@ use Rattle.flow_exchange.specs.Auditing.{audit_text}
 use Rattle.flow_exchange.specs.Explaining.{Explains}
 use Rattle.flow_exchange.specs.Reporting.{AreReported}
 use Rattle.flow_exchange.specs.Checkpointing.{checkpoint_text}
+use Rattle.flow_exchange.proofs.HistoryOf.{audit_status}
 use Rattle.flow_laws.specs.Laws.{BadIsUnsound}
 use Rattle.flow_laws.proofs.AuditLaws.{audited}
 
@@ -63,7 +64,7 @@ module _ (judge : History → Status) (never_bad : (history : History) → answe
     λ comes.
         elim comes [
           | inl none ↦ elim none.0 [ inl other ↦ absurd (let no = other.1 in cc) | inr so ↦ (so.0.1, no_checkpoint (take limit bytes) so.0.0, none.1) ]
-          | inr file ↦ absurd (never_bad file.history file.ends)
+          | inr file ↦ absurd (never_bad file.0 file.2)
         ],
     λ (magic, none, empty). inl (inr (unsound (take limit bytes) magic none, refl), empty),
   )
@@ -73,7 +74,7 @@ module _ (judge : History → Status) (never_bad : (history : History) → answe
     λ comes.
         elim comes [
           | inl none ↦ elim none.0 [ inl other ↦ (no_journal (take limit bytes) other.0.0, other.0.1, none.1) | inr so ↦ absurd (let no = so.1 in cc) ]
-          | inr file ↦ absurd (never_other file.history file.ends)
+          | inr file ↦ absurd (never_other file.0 file.2)
         ],
     λ (none, not, empty). inl (inl (otherwise (take limit bytes) none not, refl), empty),
   )

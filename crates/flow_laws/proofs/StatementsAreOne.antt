@@ -24,11 +24,11 @@ use Rattle.statement_rules.proofs.Texts.{all_stay}
 use Rattle.flow_exchange.specs.declared.form.Form.TheVariants.{Statement}
 use Rattle.flow_exchange.specs.declared.status.Status.{Status}
 use Rattle.flow_exchange.specs.declared.status.Status.TheVariants as answer
-use Rattle.flow_exchange.specs.JournalFiles.{if_whole, audit_status}
-use Rattle.flow_exchange.specs.HistoryFiles.{MakesOfHistory}
+use Rattle.flow_exchange.specs.JournalFiles.{if_whole}
+use Rattle.flow_exchange.specs.HistoryFiles.{History, IsHistory}
 use Rattle.flow_exchange.specs.Stating.{statement_status, States}
 use Rattle.flow_exchange.specs.Program.{ComesTo}
-use Rattle.flow_exchange.proofs.HistoryOf.{history_of, makes_by, consistent_start}
+use Rattle.flow_exchange.proofs.HistoryOf.{history_of, makes_by, consistent_start, audit_status}
 use Rattle.flow_exchange.proofs.Outcomes.{one_end}
 use Rattle.flow_laws.specs.Laws.{EncodesHistory, EncodesLegal, StatementsOfHistories, StatementsOfLegalJournals, OneViewOneStatement, StatementsGoOn}
 use Rattle.flow_laws.proofs.AuditLaws.{all_made, to_end, from_end, journal_history}
@@ -82,16 +82,16 @@ absent_so account number true e = absurd cc
 absent_so account number false e = (refl, cc)
 
 -- a history whose entries are all valid
-legal_file : (account limit number : ℕ) (bytes : List ℕ) (status : Status) (text : List ℕ) (file : MakesOfHistory limit bytes (statement_status account limit) (States account) status text) → (status ≡ answer.Done) ⊎ (status ≡ answer.NoAccount number)
-    → EncodesHistory limit bytes file.history.start file.history.legal file.history.market
-    × (status ≡ by_there account (is_there file.history.market account)) × (text ≡ text_there (statement_from account (market_of file.history.start) file.writes.view) (is_there file.history.market account))
+legal_file : (account limit number : ℕ) (bytes : List ℕ) (status : Status) (text : List ℕ) (file : (history : History) × IsHistory limit bytes history × (status ≡ statement_status account limit history) × States account history text) → (status ≡ answer.Done) ⊎ (status ≡ answer.NoAccount number)
+    → EncodesHistory limit bytes file.0.start file.0.legal file.0.market
+    × (status ≡ by_there account (is_there file.0.market account)) × (text ≡ text_there (statement_from account (market_of file.0.start) file.3.view) (is_there file.0.market account))
 legal_file account limit number bytes status text file is =
-    let h = file.history in
-    let all = all_legal account limit number h.market h.ending h.legal h.following status is file.ends in
-    let whole = text_there (statement_from account (market_of h.start) file.writes.view) (is_there h.market account) in (
-      to_end limit bytes h all file.is,
-      file.ends ∙ all_made h.following h.ending (by_there account (is_there h.market account)) (audit_status limit h.ending h.legal h.following) all,
-      file.writes.writes ∙ all_made h.following h.ending whole (text_from account (market_of h.start) file.writes.view) all,
+    let h = file.0 in
+    let all = all_legal account limit number h.market h.ending h.legal h.following status is file.2 in
+    let whole = text_there (statement_from account (market_of h.start) file.3.view) (is_there h.market account) in (
+      to_end limit bytes h all file.1,
+      file.2 ∙ all_made h.following h.ending (by_there account (is_there h.market account)) (audit_status limit h.ending h.legal h.following) all,
+      file.3.writes ∙ all_made h.following h.ending whole (text_from account (market_of h.start) file.3.view) all,
     )
 
 pub statements_of_histories : StatementsOfHistories
@@ -101,10 +101,10 @@ statements_of_histories = record {
         elim comes [
           | inl none ↦ elim none.0 [ inl other ↦ absurd (let no : answer.Done ≡ answer.NotFlow = other.1 in cc) | inr unsound ↦ absurd (let no : answer.Done ≡ answer.BadCheckpoint = unsound.1 in cc) ]
           | inr file ↦
-              let h = file.history in
+              let h = file.0 in
               let legal = legal_file account limit 0 bytes answer.Done text file (inl refl) in
               let there = there_so account (is_there h.market account) legal.1 in
-              (h.start, h.legal, h.market, file.writes.view, legal.0, file.writes.sees, is_account h.market account there, legal.2 ∙ ap (text_there (statement_from account (market_of h.start) file.writes.view)) there)
+              (h.start, h.legal, h.market, file.3.view, legal.0, file.3.sees, is_account h.market account there, legal.2 ∙ ap (text_there (statement_from account (market_of h.start) file.3.view)) there)
         ],
     λ (start, pairs, market, view, so, sees, there, is).
         subst (λ (x : List ℕ). ComesTo (Statement account) limit bytes answer.Done x) (sym is) (made_there account limit bytes start pairs market view so sees there),
@@ -114,10 +114,10 @@ statements_of_histories = record {
         elim comes [
           | inl none ↦ elim none.0 [ inl other ↦ absurd (let no : answer.NoAccount number ≡ answer.NotFlow = other.1 in cc) | inr unsound ↦ absurd (let no : answer.NoAccount number ≡ answer.BadCheckpoint = unsound.1 in cc) ]
           | inr file ↦
-              let h = file.history in
+              let h = file.0 in
               let legal = legal_file account limit number bytes (answer.NoAccount number) text file (inr refl) in
               let so = absent_so account number (is_there h.market account) legal.1 in
-              (h.start, h.legal, h.market, legal.0, λ there. isn't_account h.market account so.0 there, so.1, legal.2 ∙ ap (text_there (statement_from account (market_of h.start) file.writes.view)) so.0)
+              (h.start, h.legal, h.market, legal.0, λ there. isn't_account h.market account so.0 there, so.1, legal.2 ∙ ap (text_there (statement_from account (market_of h.start) file.3.view)) so.0)
         ],
     λ (start, pairs, market, so, absent, number_is, none).
         let view = one_view.some account (market_of start) pairs market so.legal.steps in

@@ -24,7 +24,6 @@ use Rattle.word_driver.specs.Ended.{Ended}
 use Rattle.word_driver.specs.Word.{Goes}
 use Rattle.encode_word.specs.declared.stop.EncodeStop.{EncodeStop}
 use Rattle.encode_word.specs.Starts.{BeginsUnkept}
-use Rattle.encode_word.specs.Starts as lines
 use Rattle.encode_word.specs.Encoding.{EncodesLines}
 use Rattle.exchange_session.specs.Journals.{Journals}
 use Rattle.exchange_session.specs.Running.{run}
@@ -152,7 +151,7 @@ EncodedIsServed = (version : Version) (limit most : ℕ) (bytes text journal : L
 -- so is a resumption of it after the checkpoint that is before the lines, and it writes the entries of these records from its market on
 abbrev pub EncodedIsResumed : Type 0
 EncodedIsResumed = (version : Version) (limit most : ℕ) (bytes text checkpoint entries : List ℕ) (ended : Ended EncodeStop) (resumed : Status) (market : Market) (encoded : AreEncoded version limit bytes ended text)
-    → encoded.start ≡ lines.Kept market → IsCheckpoint market checkpoint → length (checkpoint ++ text) ≤ most
+    → encoded.start ≡ Some market → IsCheckpoint market checkpoint → length (checkpoint ++ text) ≤ most
     → ComesTo Resume most (checkpoint ++ text) resumed entries → (resumed ≡ Done) × (new : Market) × Continues market (map record_of encoded.comes.commands) new entries
 
 -- a checkpoint before lines is bad exactly if the input begins as one, and within the limit with one of no market of the version, whether it
@@ -243,9 +242,9 @@ BegunIsAPrefix = (form : Form) (limit : ℕ) (bytes : List ℕ) (status : Status
 -- a resumption leads to.
 pub record TickersAgree : Type 0 where
   pub ran : (version : Version) (limit : ℕ) (bytes text journal : List ℕ) (ended : Ended EncodeStop) (encoded : AreEncoded version limit bytes ended text) (market : Market)
-      → encoded.start ≡ lines.Nothing → Journals version (map record_of encoded.comes.commands) market journal → market.tickers ≡ encoded.comes.reads.tickers
+      → encoded.start ≡ None → Journals version (map record_of encoded.comes.commands) market journal → market.tickers ≡ encoded.comes.reads.tickers
   pub resumed : (version : Version) (limit : ℕ) (bytes text entries : List ℕ) (ended : Ended EncodeStop) (encoded : AreEncoded version limit bytes ended text) (old market : Market)
-      → encoded.start ≡ lines.Kept old → Continues old (map record_of encoded.comes.commands) market entries → market.tickers ≡ encoded.comes.reads.tickers
+      → encoded.start ≡ Some old → Continues old (map record_of encoded.comes.commands) market entries → market.tickers ≡ encoded.comes.reads.tickers
 
 -- The bytes are the journal of some entries, and the text is that of entries that follow, which answer these records. Together they are one
 -- valid journal, which leads to this market: a replay of it answers the market, and an audit of it is done.

@@ -1,6 +1,6 @@
 -- Trades of orders with one rate each: the orders before and after their fills.
 use Rattle.std.proofs.Common.{◌≡◌, ℕ, zero, suc, ◌<◌, ◌≤◌, List, [], ◌∷◌, map, length, refl, ap, arith}
-use Rattle.std.specs.Prelude.{◌<ℤ◌, All, ℤ}
+use Rattle.std.specs.Prelude.{◌<ℤ◌, All, ℤ, Bool, nat_lt}
 use Rattle.weight_rows.specs.Rows.{portfolio_price}
 use Rattle.flow_orders.specs.Orders.{Order, remaining_quantity}
 use Rattle.flow_orders.specs.Trades.{Trade, trades, after_fill}
@@ -13,6 +13,10 @@ before_fills ts = map (λ t. t.order) ts
 -- all orders after their fills
 abbrev pub after_fills : List Trade → List Order
 after_fills ts = map after_fill ts
+
+-- whether an order isn't filled to its cap
+abbrev pub is_live : Order → Bool
+is_live o = nat_lt o.filled o.cap
 
 -- a trade is within what its order allows: the remaining quantity, and nothing at or above the high limit
 pub record IsAllowed (prices : List ℤ) (t : Trade) : Type 0 where

@@ -41,13 +41,9 @@ residual_cost prices ts = int_sum_by (λ asset. price_of prices asset *ℤ resid
 abbrev pub after_fill : Trade → Order
 after_fill t = record (t.order) { filled = t.order.filled + t.traded }
 
--- whether an order isn't filled to its cap
-abbrev pub is_live : Order → Bool
-is_live o = nat_lt o.filled o.cap
-
 -- the orders that aren't filled to their cap by their trades
 abbrev pub staying : List Trade → List Order
-staying ts = filter is_live (map after_fill ts)
+staying ts = filter (λ (o : Order). nat_lt o.filled o.cap) (map after_fill ts)
 
 -- the orders that stay live after batch number `batch`, cleared or skipped: all but those whose last batch it was
 abbrev pub going_on : ℕ → List Order → List Order

@@ -12,11 +12,21 @@ use Rattle.journal_disk.specs.Entries.{IsHead, framed, head_bytes, entry, entrie
 use Rattle.journal_disk.specs.Stepping.{HasEntryAt}
 use Rattle.journal_disk.proofs.Entries.{entries_none, magic_alone, first_after, magic_first, pair_short, disk_magics_told, eight}
 use Rattle.journal_disk.proofs.OneList.{frame_unique}
-use Rattle.journal_keeping.specs.Starts.{head_of, HasFirst}
+use Rattle.journal_keeping.specs.Starts.{head_of}
+use Rattle.journal_keeping.specs.Beginning.{HasFirst}
+use Rattle.journal_keeping.specs.Openings.{BeginsLegal}
 use Rattle.journal_keeping.proofs.Starts.{one_kept_market}
+use Rattle.journal_keeping.proofs.Auditing.{none_read}
 
 tails : (a b : ℕ) (x y : List ℕ) → a ∷ x ≡ b ∷ y → x ≡ y
 tails a b x y e = cc
+
+-- a first entry that holds a checkpoint is how a journal begins, with no entry after it
+pub first_legal : (m : Market) (bytes : List ℕ) → HasFirst m bytes → BeginsLegal (Kept m) bytes [] m (length (entries (head_of (Kept m)) []))
+first_legal m bytes first = record { lawful = first.lawful; journal = none_read (Kept m) m first.is_one refl; rest = first.rest; encoded = first.encoded; begins = refl }
+
+pub legal_first : (m : Market) (bytes : List ℕ) (place : ℕ) → BeginsLegal (Kept m) bytes [] m place → HasFirst m bytes
+legal_first m bytes place begins = record { is_one = begins.journal.starts; lawful = begins.lawful; rest = begins.rest; encoded = begins.encoded }
 
 -- bytes with a first entry that holds a checkpoint, and with entries after it
 has_first : (m : Market) (p : List RecordPair) (x bytes : List ℕ) → IsCheckpoint m (checkpoint_bytes m) → IsHead (head_of (Kept m)) → bytes ≡ entries (head_of (Kept m)) p ++ x → HasFirst m bytes

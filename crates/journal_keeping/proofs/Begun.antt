@@ -24,15 +24,15 @@ use Rattle.journal_disk.proofs.GoingOn.{looks_hold}
 use Rattle.journal_keeping.specs.declared.fault.KeepFault.{KeepFault}
 use Rattle.journal_keeping.specs.declared.fault.KeepFault.TheVariants.{Read, Write, Disk, Memory, NotDisk, Damaged, Rejected, NotFlow, BadCheckpoint, Torn, TooLong}
 use Rattle.journal_keeping.specs.Faults.{kept_fault}
-use Rattle.journal_keeping.specs.Starts.{version_of, head_of, HasFirst}
+use Rattle.journal_keeping.specs.Starts.{version_of, head_of}
 use Rattle.journal_keeping.specs.Keeping.{IsKeptJournal, StandsForJournal, HoldsLegal, GoesOnIn}
 use Rattle.journal_keeping.specs.Openings.{Legal, IsOpening, OpensAs, KeepNone}
 use Rattle.journal_keeping.specs.Auditing.{StopsAs}
-use Rattle.journal_keeping.specs.Beginning.{IsReadUp, IsOpened, IsCounted, IsBegun, IsKeptOn, BeginsAt, StopsFirst, OpensNot, IsOfDisk, WhileOpening, OpensSafely}
+use Rattle.journal_keeping.specs.Beginning.{IsReadUp, IsOpened, IsCounted, IsBegun, IsKeptOn, BeginsAt, StopsFirst, OpensNot, IsOfDisk, WhileOpening, OpensSafely, HasFirst}
 use Rattle.journal_keeping.proofs.Auditing.{none_read}
 use Rattle.journal_keeping.proofs.Making.{SourceBegins}
 use Rattle.journal_keeping.proofs.Opened.{has_them, same_journal}
-use Rattle.journal_keeping.proofs.Beginnings.{bare_place}
+use Rattle.journal_keeping.proofs.Beginnings.{bare_place, legal_first}
 use Rattle.journal_keeping.proofs.OneOpening.{one_opening}
 
 abbrev Pairs : Type 0
@@ -58,27 +58,25 @@ ends_have head pairs place disk bytes ends told =
 pub first_opened : (version : Version) (rest held : List ℕ) (next : DiskState) (fault : KeepFault) → (¬ IsNewDisk held) → (¬ IsForeign held) → next.content ≡ Some held → held ≡ entries (head_of (Empty version)) [] ++ rest → StopsFirst fault held → OpensNot held next fault
 first_opened version rest held next Disk long known same is stops = tt
 first_opened version rest held next Memory long known same is stops = tt
-first_opened version rest held next (Damaged place) long known same is stops = record {
-  is = (
+first_opened version rest held next (Damaged place) long known same is stops = (
+  (
     long,
     known,
+    Empty version,
+    [],
+    empty_market version,
     record {
-      begin = Empty version;
-      legal = [];
-      market = empty_market version;
-      begins = record {
-        lawful = tt;
-        journal = none_read (Empty version) (empty_market version) tt refl;
-        rest = rest;
-        encoded = is;
-        begins = stops.0 ∙ sym (bare_place (Empty version) [] (version, refl, refl));
-      };
-      damage = subst (λ (n : ℕ). IsDamagedAt n held) (sym stops.0) stops.1;
-      unfit = λ at. stops.2;
+      lawful = tt;
+      journal = none_read (Empty version) (empty_market version) tt refl;
+      rest = rest;
+      encoded = is;
+      begins = stops.0 ∙ sym (bare_place (Empty version) [] (version, refl, refl));
     },
-  );
-  stays = same;
-}
+    subst (λ (n : ℕ). IsDamagedAt n held) (sym stops.0) stops.1,
+    λ at first after kept. stops.2 first (legal_first first held after kept),
+  ),
+  same,
+)
 first_opened version rest held next NotDisk long known same is stops = absurd stops
 first_opened version rest held next (Rejected number) long known same is stops = absurd stops
 first_opened version rest held next Read long known same is stops = absurd stops
@@ -96,22 +94,20 @@ pub stops_opened : (begin : Start) (held : List ℕ) (next : DiskState) (fault :
     → (length (entries (head_of begin) []) ≡ 8 → (first : Market) → ¬ HasFirst first held) → StopsAs begin fault held → OpensNot held next fault
 stops_opened begin held next Disk long known same unfit stops = tt
 stops_opened begin held next Memory long known same unfit stops = tt
-stops_opened begin held next (Damaged place) long known same unfit stops = record {
-  is = (
+stops_opened begin held next (Damaged place) long known same unfit stops = (
+  (
     long,
     known,
-    record {
-      begin = begin;
-      legal = stops.0;
-      market = stops.1;
-      begins = stops.2;
-      damage = stops.3;
-      unfit = λ at. unfit (first_place begin (map records_of stops.0) (sym stops.2.begins ∙ at));
-    },
-  );
-  stays = same;
-}
-stops_opened begin held next (Rejected number) long known same unfit stops = record { is = (long, known, begin, stops.0, stops.1, stops.2, stops.3, stops.4, stops.5, stops.6, stops.7, stops.8); stays = same }
+    begin,
+    stops.0,
+    stops.1,
+    stops.2,
+    stops.3,
+    λ at first after kept. unfit (first_place begin (map records_of stops.0) (sym stops.2.begins ∙ at)) first (legal_first first held after kept),
+  ),
+  same,
+)
+stops_opened begin held next (Rejected number) long known same unfit stops = ((long, known, begin, stops.0, stops.1, stops.2, stops.3, stops.4, stops.5, stops.6, stops.7, stops.8), same)
 stops_opened begin held next NotDisk long known same unfit stops = absurd stops
 stops_opened begin held next Read long known same unfit stops = absurd stops
 stops_opened begin held next Write long known same unfit stops = absurd stops

@@ -17,8 +17,8 @@ use Rattle.journal_disk.proofs.FirstEntry.{first_holds}
 use Rattle.journal_disk.proofs.GoingOn.{looks_hold}
 use Rattle.journal_keeping.specs.declared.fault.KeepFault.{KeepFault}
 use Rattle.journal_keeping.specs.declared.fault.KeepFault.TheVariants.{Damaged, Memory}
-use Rattle.journal_keeping.specs.Starts.{head_of, HasFirst}
-use Rattle.journal_keeping.specs.Beginning.{BeginsAt, StopsFirst}
+use Rattle.journal_keeping.specs.Starts.{head_of}
+use Rattle.journal_keeping.specs.Beginning.{BeginsAt, StopsFirst, HasFirst}
 use Rattle.journal_keeping.proofs.Starts.{magic_first as checkpoint_first, no_pair}
 
 tails : (a b : ℕ) (x y : List ℕ) → a ∷ x ≡ b ∷ y → x ≡ y

@@ -15,12 +15,13 @@ use Rattle.journal_disk.specs.Recovering.{IsForeign}
 use Rattle.journal_disk.specs.Stepping.{HasEntryAt, IsDamagedAt}
 use Rattle.journal_disk.proofs.Entries.{each_more}
 use Rattle.journal_disk.proofs.Excluding.{one_after}
-use Rattle.journal_keeping.specs.Starts.{head_of, HasFirst}
+use Rattle.journal_keeping.specs.Starts.{head_of}
+use Rattle.journal_keeping.specs.Beginning.{HasFirst}
 use Rattle.journal_keeping.specs.Keeping.{IsKeptJournal}
 use Rattle.journal_keeping.specs.Openings.{Opening, Foreign, New, Damaged, Rejected, Legal, BeginsLegal, IsDamaged, IsOpening}
 use Rattle.journal_keeping.specs.Laws.{OneOpening}
 use Rattle.journal_keeping.proofs.Judging.{one_judgement}
-use Rattle.journal_keeping.proofs.Beginnings.{begin_alike, first_no_entry, bare_place}
+use Rattle.journal_keeping.proofs.Beginnings.{first_legal, begin_alike, first_no_entry, bare_place}
 use Rattle.journal_keeping.proofs.Opened.{kept_each, not_rejected, same_begins, legal_is_opened}
 use Rattle.journal_keeping.proofs.Prefixes.{are_prefixes, ends_at_damage}
 
@@ -108,21 +109,21 @@ module _ (bytes : List ℕ) where
 
   one_damage : (m n : ℕ) → (¬ IsForeign bytes) → IsDamaged m bytes → IsDamaged n bytes → m ≡ n
   one_damage m n known x y =
-      elim (both_begin x.begin y.begin x.legal y.legal x.market y.market m n x.begins y.begins) [
+      elim (both_begin x.0 y.0 x.1 y.1 x.2 y.2 m n x.3 y.3) [
         | inl b ↦
-            same_damage x.begin bytes (small_known bytes known) (map records_of x.legal) (map records_of y.legal) x.begins.rest b.rest m n (kept_each x.legal x.begins.journal.each) (kept_each y.legal b.journal.each)
-            x.begins.encoded b.encoded x.begins.begins b.begins x.damage y.damage
-        | inr left ↦ elim left [ inl here ↦ absurd (x.unfit here.0 here.1 here.2) | inr there ↦ absurd (y.unfit there.0 there.1 there.2) ]
+            same_damage x.0 bytes (small_known bytes known) (map records_of x.1) (map records_of y.1) x.3.rest b.rest m n (kept_each x.1 x.3.journal.each) (kept_each y.1 b.journal.each)
+            x.3.encoded b.encoded x.3.begins b.begins x.4 y.4
+        | inr left ↦ elim left [ inl here ↦ absurd (x.5 here.0 here.1 _ (first_legal here.1 bytes here.2)) | inr there ↦ absurd (y.5 there.0 there.1 _ (first_legal there.1 bytes there.2)) ]
       ]
 
   no_damage : (m : ℕ) → (¬ IsForeign bytes) → IsDamaged m bytes → (w : Start) (legal : List (Pair Record Outcome)) (n : Market) (place : ℕ) → BeginsLegal w bytes legal n place
       → (bad : RecordPair) (rest : List ℕ) → HasEntryAt place bad rest bytes → IsIllegalPair n bad → ⊥
   no_damage m known x w legal n place begins bad rest has illegal =
-      elim (both_begin x.begin w x.legal legal x.market n m place x.begins begins) [
-        | inl b ↦ no_illegal x.begin bytes (small_known bytes known) x.legal x.market m legal n bad rest x.begins x.damage (has_illegal x.begin bytes legal n place bad rest b has illegal)
+      elim (both_begin x.0 w x.1 legal x.2 n m place x.3 begins) [
+        | inl b ↦ no_illegal x.0 bytes (small_known bytes known) x.1 x.2 m legal n bad rest x.3 x.4 (has_illegal x.0 bytes legal n place bad rest b has illegal)
         | inr left ↦
             elim left [
-              | inl here ↦ x.unfit here.0 here.1 here.2
+              | inl here ↦ x.5 here.0 here.1 _ (first_legal here.1 bytes here.2)
               | inr there ↦ first_no_entry bytes there.1 there.2 bad rest (subst (λ (k : ℕ). HasEntryAt k bad rest bytes) there.0 has)
             ]
       ]

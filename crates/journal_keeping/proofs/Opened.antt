@@ -18,13 +18,14 @@ use Rattle.journal_disk.proofs.Entries.{each_more}
 use Rattle.journal_disk.proofs.OneList.{same_disk}
 use Rattle.journal_disk.proofs.OpenedEntries.{not_foreign}
 use Rattle.journal_disk.proofs.Excluding.{prefix_of, one_after, undamaged}
-use Rattle.journal_keeping.specs.Starts.{head_of, HasFirst}
+use Rattle.journal_keeping.specs.Starts.{head_of}
+use Rattle.journal_keeping.specs.Beginning.{HasFirst}
 use Rattle.journal_keeping.specs.Keeping.{IsKeptJournal, StandsForJournal}
 use Rattle.journal_keeping.specs.Openings.{Opening, Foreign, New, Damaged, Rejected, Legal, BeginsLegal, IsDamaged, IsOpening}
 use Rattle.journal_keeping.specs.Laws.{LegalIsOpened}
 use Rattle.journal_keeping.proofs.Judging.{one_judgement}
 use Rattle.journal_keeping.proofs.Starts.{one_begin}
-use Rattle.journal_keeping.proofs.Beginnings.{IsBare, begin_alike, first_no_entry, bare_place, bare_new}
+use Rattle.journal_keeping.proofs.Beginnings.{IsBare, first_legal, begin_alike, first_no_entry, bare_place, bare_new}
 
 -- the two records of an entry of a journal are an entry that may be kept
 pub kept_each : (pairs : List (Pair Record Outcome)) → All IsPair pairs → AllByRecursion IsRecordPair (map records_of pairs)
@@ -75,13 +76,13 @@ module _ (begin : Start) (pairs : List (Pair Record Outcome)) (market : Market) 
 
   not_damaged : (place : ℕ) → (¬ IsNewDisk bytes) → IsDamaged place bytes → ⊥
   not_damaged place long is =
-      elim (alike long is.begin is.legal is.market place is.begins) [
+      elim (alike long is.0 is.1 is.2 place is.3) [
         | inl same ↦
-            let begins = same_begins is.begin begin bytes is.legal is.market place same is.begins in
-            undamaged (head_of begin) (map records_of is.legal) kept begins.rest bytes place (kept_each is.legal begins.journal.each) begins.encoded begins.begins (has_kept long) small is.damage
+            let begins = same_begins is.0 begin bytes is.1 is.2 place same is.3 in
+            undamaged (head_of begin) (map records_of is.1) kept begins.rest bytes place (kept_each is.1 begins.journal.each) begins.encoded begins.begins (has_kept long) small is.4
         | inr other ↦
             elim other [
-              | inl here ↦ is.unfit (is.begins.begins ∙ bare_place is.begin (map records_of is.legal) here.0) here.1 here.2
+              | inl here ↦ is.5 (is.3.begins ∙ bare_place is.0 (map records_of is.1) here.0) here.1 _ (first_legal here.1 bytes here.2)
               | inr there ↦ long (bare_new begin kept bytes there.0 (has_kept long))
             ]
       ]

@@ -24,9 +24,11 @@ use Rattle.journal_disk.proofs.Entries.{empty_disk, magic_alone, magic_first, le
 use Rattle.journal_disk.proofs.OneList.{unset_commit}
 use Rattle.journal_disk.proofs.OpenedEntries.{new_not_foreign}
 use Rattle.journal_disk.proofs.Excluding.{one_after}
-use Rattle.journal_keeping.specs.Starts.{head_of, HasFirst}
+use Rattle.journal_keeping.specs.Starts.{head_of}
+use Rattle.journal_keeping.specs.Beginning.{HasFirst}
 use Rattle.journal_keeping.specs.Openings.{Opening, Foreign, New, Damaged, Rejected, Legal, BeginsLegal, IsOpening}
 use Rattle.journal_keeping.specs.Laws.{SomeOpening}
+use Rattle.journal_keeping.proofs.Beginnings.{legal_first}
 use Rattle.journal_keeping.proofs.Auditing.{none_read, one_read}
 use Rattle.journal_keeping.proofs.Opened.{kept_each}
 
@@ -47,7 +49,7 @@ module _ (begin : Start) (bytes : List ℕ) (long : ¬ IsNewDisk bytes) (known :
 
   damaged_at : (legal : List (Pair Record Outcome)) (market : Market) (place : ℕ) (begins : At legal market place) → IsDamagedAt place bytes → Opens
   damaged_at legal market place begins damage =
-      (Damaged place, (long, known, record { begin = begin; legal = legal; market = market; begins = begins; damage = damage; unfit = λ at. unfit legal (sym begins.begins ∙ at) }))
+      (Damaged place, (long, known, begin, legal, market, begins, damage, λ at first after kept. unfit legal (sym begins.begins ∙ at) first (legal_first first bytes after kept)))
 
   -- nothing follows
   ended : (legal : List (Pair Record Outcome)) (market : Market) (place : ℕ) (begins : At legal market place) → begins.rest ≡ [] → Opens

@@ -27,7 +27,7 @@ use Rattle.journal_keeping.specs.declared.fault.KeepFault.{KeepFault}
 use Rattle.journal_keeping.specs.declared.fault.KeepFault.TheVariants.{Read, Write, Disk, Memory, NotDisk, Damaged, Rejected, NotFlow, BadCheckpoint, Torn, TooLong}
 use Rattle.journal_keeping.specs.Starts.{head_of, source_start, sources}
 use Rattle.journal_keeping.specs.Keeping.{IsKeptJournal, StandsForJournal, IsLegalImage, HoldsLegal, GoesOn, GoesOnIn, StandIn, Runs, KeepsIn}
-use Rattle.journal_keeping.specs.Openings.{Opening, New, Legal, IsOpening, OpensAs, ReadsKept}
+use Rattle.journal_keeping.specs.Openings.{Opening, New, Legal, IsOpening, OpensAs}
 use Rattle.journal_keeping.specs.Openings as opening
 use Rattle.journal_keeping.specs.Ended.{IsRefused, HasKeptAll, ComesTo, IsRefusal, MayBeginAgain}
 use Rattle.journal_keeping.specs.Private.{Adds, IfEnded, ServesOn}
@@ -168,7 +168,7 @@ not_begun_kept version limit None content left at next m place fault found begun
 not_begun_kept version limit (Some held) content left at next m place fault found (begin, of, (old, inr new, keeps)) why = absurd (found.0 new.0.0)
 not_begun_kept version limit (Some held) content left at next m place NotFlow found (begin, of, (old, inl legal, keeps)) why = λ before. (
   Grows-nothing before,
-  inl (begin, old, m, legal.0, subst (λ (v : Version). IfSome content (λ bytes. ReadsKept v limit bytes reading.NotFlow)) (sym of) why, place, keeps),
+  inl (begin, old, m, legal.0, subst (λ (v : Version). IfSome content (λ bytes. (body : List ℕ) → ¬ BeginsWith commands.magics (take limit bytes) v body)) (sym of) why, place, keeps),
 )
 not_begun_kept version limit (Some held) content left at next m place BadCheckpoint found (begin, of, (old, inl legal, keeps)) why = absurd (not_none version why.0)
   where
@@ -410,7 +410,7 @@ not_of_serving (Err TooLong) P ended refusal = refusal
 -- a disk that keeps a valid journal is not refused
 module _ (begin : Start) (held : List ℕ) (old : Pairs) (market : Market) (legal : IsKeptJournal begin old market) (keeps : StandsForJournal begin old held) (small : length held ≤ 2 ^ 60) (end : DiskState) where
   opened : (opens : Opening) → IsRefused held opens end → (opens ≡ New) ⊎ (opens ≡ Legal begin old market)
-  opened opens refused = legal_is_opened begin old market held opens legal keeps small refused.is
+  opened opens refused = legal_is_opened begin old market held opens legal keeps small refused.0
 
   not_foreign_one : (opening.Foreign ≡ New) ⊎ (opening.Foreign ≡ Legal begin old market) → ⊥
   not_foreign_one (inl e) = absurd cc

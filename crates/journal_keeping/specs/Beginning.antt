@@ -18,7 +18,7 @@ use Rattle.disk_edge.specs.Images.{Images}
 use Rattle.journal_disk.specs.Entries.{framed, Holds, EndsAt, Keeps}
 use Rattle.journal_disk.specs.Lengths.{HasAtMost, LeavesAtMost}
 use Rattle.journal_disk.specs.Stepping.{IsDamagedAt}
-use Rattle.journal_keeping.specs.Starts.{version_of, head_of, source_start, sources, BeginsUnsound, BeginsOtherwise, HasFirst}
+use Rattle.journal_keeping.specs.Starts.{version_of, head_of, source_start, sources, BeginsUnsound, BeginsOtherwise}
 use Rattle.journal_keeping.specs.Keeping.{IsKeptJournal, StandsForJournal, HoldsLegal, GoesOnIn, IsStillNew}
 use Rattle.journal_keeping.specs.Openings.{Legal, IsOpening, OpensAs}
 use Rattle.journal_keeping.specs.Openings as opening
@@ -56,6 +56,13 @@ pub record IsAfterStart (limit : ℕ) (input : Start) (window : WindowState) (be
   pub magic : BeginsWith sources.magics first input window.held
   pub few : length first ≤ limit
   pub held : length window.held ≤ longest_record
+
+-- the bytes of a disk begin with the magic of a version, and its first entry holds the checkpoint of this market of the version
+pub record HasFirst (market : Market) (bytes : List ℕ) : Type 0 where
+  pub is_one : IsCheckpoint market (checkpoint_bytes market)
+  pub lawful : IsHead (head_of (Kept market))
+  pub rest : List ℕ
+  pub encoded : bytes ≡ entries (head_of (Kept market)) [] ++ rest
 
 -- A disk of a version, which holds these bytes, begins in this market; its entries begin at the place. The first entry isn't left out if it
 -- holds a checkpoint of the version.

@@ -4,7 +4,9 @@ use Rattle.std.specs.List.{flat_map}
 use Rattle.flow_io.specs.Streams.{Grows}
 use Rattle.wire_records.specs.Records.{Record}
 use Rattle.wire_records.specs.Commands.{Pair}
+use Rattle.wire_records.specs.Grammars.{BeginsWith}
 use Rattle.wire_records.specs.Reading.{Reads}
+use Rattle.wire_records.specs.Formats.{commands}
 use Rattle.wire_records.specs.Reading as reading
 use Rattle.flow_orders.specs.Outcomes.{Outcome}
 use Rattle.journal_records.specs.Pairs.{pair_encoding}
@@ -16,15 +18,14 @@ use Rattle.disk_edge.specs.Images.{LeavesOnly}
 use Rattle.journal_disk.specs.Entries.{Keeps}
 use Rattle.journal_keeping.specs.Starts.{version_of, head_of, sources, BeginsUnsound, BeginsOtherwise}
 use Rattle.journal_keeping.specs.Keeping.{IsLegalImage, HoldsLegal, GoesOn}
-use Rattle.journal_keeping.specs.Openings.{Opening, New, Legal, IsOpening, OpensAs, ReadsKept}
+use Rattle.journal_keeping.specs.Openings.{Opening, New, Legal, IsOpening, OpensAs}
 use Rattle.journal_keeping.specs.Openings as opening
 use Rattle.journal_keeping.specs.declared.fault.KeepFault.{KeepFault}
 use Rattle.journal_keeping.specs.declared.fault.KeepFault.TheVariants.{Read, Write, Disk, Memory, NotDisk, Damaged, Rejected, NotFlow, BadCheckpoint, Torn, TooLong}
 
 -- The disk held these bytes, which were opened so, and still holds them.
-pub record IsRefused (held : List ℕ) (opens : Opening) (end : DiskState) : Type 0 where
-  pub is : IsOpening held opens
-  pub stays : end.content ≡ Some held
+abbrev pub IsRefused : List ℕ → Opening → DiskState → Type 0
+IsRefused held opens end = IsOpening held opens × (end.content ≡ Some held)
 
 -- The disk held the bytes of a valid journal, or was new, and the source begins so and has these records and this ending, if its content is
 -- known. All its records were served, from the market after the old entries. The disk keeps its beginning, the old entries and after them
@@ -54,7 +55,7 @@ abbrev pub HasLeftAll : ℕ → List ℕ → Option (List ℕ) → DiskState →
 HasLeftAll limit held content end before after =
     Grows before after []
     × (((begin : Start) × (old : List (Pair Record Outcome)) × (market : Market) × IsOpening held (Legal begin old market)
-    × IfSome content (λ bytes. ReadsKept (version_of begin) limit bytes reading.NotFlow) × (place : ℕ) × Keeps (head_of begin) (map records_of old) place end)
+    × IfSome content (λ bytes. (body : List ℕ) → ¬ BeginsWith commands.magics (take limit bytes) (version_of begin) body) × (place : ℕ) × Keeps (head_of begin) (map records_of old) place end)
     ⊎ StaysNew BeginsOtherwise limit held content end)
 
 -- what keeping a journal results in, if the disk is known to have held these bytes

@@ -1,21 +1,17 @@
--- What the bytes of a disk, and of a source, are opened as.
-use Rattle.std.specs.Prelude.{◌≡◌, ◌⊎◌, ℕ, ◌+◌, List, [], ◌++◌, length, map, take}
+-- What the bytes of a disk are opened as.
+use Rattle.std.specs.Prelude.{◌≡◌, ◌⊎◌, ℕ, ◌+◌, List, [], ◌++◌, length, map}
 use Rattle.wire_records.specs.Records.{Record}
 use Rattle.wire_records.specs.Commands.{Pair}
-use Rattle.wire_records.specs.Grammars.{BeginsWith}
-use Rattle.wire_records.specs.Reading.{Reading, NotFlow, File, Reads}
-use Rattle.wire_records.specs.Formats.{commands}
-use Rattle.wire_records.specs.declared.version.Version.{Version}
 use Rattle.flow_orders.specs.Outcomes.{Outcome}
 use Rattle.journal_records.specs.Formats.{records_of}
 use Rattle.market_rules.specs.Market.{Market}
-use Rattle.market_history.specs.Histories.{Start, Empty, market_of}
+use Rattle.market_history.specs.Histories.{Start, Empty, Kept, market_of}
 use Rattle.batch_audit.specs.Legal.{IsIllegalPair}
 use Rattle.journal_disk.specs.Pairs.{RecordPair}
 use Rattle.journal_disk.specs.Entries.{IsHead, entries, IsNewDisk, HasEntries}
 use Rattle.journal_disk.specs.Recovering.{IsForeign}
 use Rattle.journal_disk.specs.Stepping.{HasEntryAt, IsDamagedAt}
-use Rattle.journal_keeping.specs.Starts.{version_of, head_of, sources, HasFirst}
+use Rattle.journal_keeping.specs.Starts.{version_of, head_of}
 use Rattle.journal_keeping.specs.Keeping.{IsKeptJournal}
 
 -- What a disk is when it is opened: no journal's, new, damaged at the commit byte at this place, one whose first invalid entry has this
@@ -36,13 +32,10 @@ pub record BeginsLegal (begin : Start) (bytes : List ℕ) (legal : List (Pair Re
   pub begins : place ≡ length (entries (head_of begin) (map records_of legal))
 
 -- at this place, after valid entries, the bytes are damaged; the first entry isn't so if it holds a checkpoint of the disk's version
-pub record IsDamaged (place : ℕ) (bytes : List ℕ) : Type 0 where
-  pub begin : Start
-  pub legal : List (Pair Record Outcome)
-  pub market : Market
-  pub begins : BeginsLegal begin bytes legal market place
-  pub damage : IsDamagedAt place bytes
-  pub unfit : place ≡ 8 → (first : Market) → ¬ HasFirst first bytes
+abbrev pub IsDamaged : ℕ → List ℕ → Type 0
+IsDamaged place bytes =
+    (begin : Start) × (legal : List (Pair Record Outcome)) × (market : Market) × BeginsLegal begin bytes legal market place × IsDamagedAt place bytes
+    × (place ≡ 8 → (first : Market) (after : ℕ) → ¬ BeginsLegal (Kept first) bytes [] first after)
 
 -- these bytes are opened so: one of the five ways
 abbrev pub IsOpening : List ℕ → Opening → Type 0
@@ -65,8 +58,3 @@ abbrev pub OpensAs : List ℕ → Start → List (Pair Record Outcome) → Marke
 OpensAs bytes begin old market input =
     (IsOpening bytes (Legal begin old market) × (input ≡ Empty (version_of begin)))
     ⊎ (IsOpening bytes New × (old ≡ []) × (market ≡ market_of begin) × (input ≡ begin))
-
--- what the first `limit` bytes of the source are read as, for a disk of a version: no command file of it, or its records and an ending
-abbrev pub ReadsKept : Version → ℕ → List ℕ → Reading Start Record → Type 0
-ReadsKept version limit bytes NotFlow = (body : List ℕ) → ¬ BeginsWith commands.magics (take limit bytes) version body
-ReadsKept version limit bytes (File input records ending) = (input ≡ Empty version) × Reads sources limit bytes (File input records ending)

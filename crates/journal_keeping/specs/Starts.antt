@@ -40,10 +40,3 @@ BeginsUnsound bytes = HasCheckpointMagic bytes × BeginsWithNoCheckpoint bytes
 -- the bytes begin neither with a command file nor with a checkpoint and a command file of its version, and not with an unsound checkpoint
 abbrev pub BeginsOtherwise : List ℕ → Type 0
 BeginsOtherwise bytes = BeginsWithNone sources.magics bytes × (¬ BeginsUnsound bytes)
-
--- the bytes of a disk begin with the magic of a version, and its first entry holds the checkpoint of this market of the version
-pub record HasFirst (market : Market) (bytes : List ℕ) : Type 0 where
-  pub is_one : IsCheckpoint market (checkpoint_bytes market)
-  pub lawful : IsHead (head_of (Kept market))
-  pub rest : List ℕ
-  pub encoded : bytes ≡ entries (head_of (Kept market)) [] ++ rest

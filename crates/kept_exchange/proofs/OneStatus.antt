@@ -7,12 +7,12 @@ use Rattle.wire_records.specs.Formats.{commands}
 use Rattle.wire_records.specs.declared.version.Version.{Version}
 use Rattle.market_history.specs.Histories.{Start, Empty}
 use Rattle.journal_keeping.specs.Starts.{version_of, source_start, sources}
-use Rattle.journal_keeping.specs.Openings.{Opening, Foreign, New, Damaged, Rejected, Legal, ReadsKept}
+use Rattle.journal_keeping.specs.Openings.{Opening, Foreign, New, Damaged, Rejected, Legal}
 use Rattle.journal_keeping.proofs.OneOpening.{one_opening}
 use Rattle.journal_keeping.proofs.Starts.{one_reading}
 use Rattle.flow_exchange.specs.declared.status.Status.{Status}
 use Rattle.flow_exchange.specs.Statuses.{reading_status}
-use Rattle.kept_exchange.specs.Statuses.{IsSourceStatus, OpensTo}
+use Rattle.kept_exchange.specs.Statuses.{IsSourceStatus, OpensTo, ReadsKept}
 use Rattle.kept_exchange.specs.Laws.{OneStatus}
 
 -- a source without a checkpoint is a command file

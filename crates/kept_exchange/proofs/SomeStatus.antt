@@ -14,13 +14,13 @@ use Rattle.word_driver.specs.Laws.{IsNotDenied}
 use Rattle.word_driver.proofs.Denying.{not_denied, follows, one_of}
 use Rattle.market_history.specs.Histories.{Start, Empty}
 use Rattle.journal_keeping.specs.Starts.{version_of, source_start, sources, BeginsUnsound}
-use Rattle.journal_keeping.specs.Openings.{Opening, Foreign, New, Damaged, Rejected, Legal, IsOpening, ReadsKept}
+use Rattle.journal_keeping.specs.Openings.{Opening, Foreign, New, Damaged, Rejected, Legal, IsOpening}
 use Rattle.journal_keeping.proofs.SomeOpening.{some_opening}
 use Rattle.journal_keeping.proofs.Starts.{of_source}
 use Rattle.flow_exchange.specs.declared.status.Status.{Status}
 use Rattle.flow_exchange.specs.declared.status.Status.TheVariants as status
 use Rattle.flow_exchange.specs.Statuses.{ending_status, reading_status}
-use Rattle.kept_exchange.specs.Statuses.{IsSourceStatus, AsksStatus}
+use Rattle.kept_exchange.specs.Statuses.{IsSourceStatus, AsksStatus, ReadsKept}
 use Rattle.kept_exchange.specs.Laws.{SomeStatus}
 
 -- a command file is a source without a checkpoint

@@ -1,13 +1,16 @@
 -- Which status keeping a journal, and serving lines, ends with: by its result, and by the bytes of the disk and of the source.
 use Rattle.std.specs.Prelude.{◌≡◌, ◌⊎◌, ◌<◌, ◌≤◌, ℕ, List, length, take, Result, Ok, Err}
 use Rattle.wire_records.specs.Records.{Record}
+use Rattle.wire_records.specs.Grammars.{BeginsWith}
 use Rattle.wire_records.specs.Reading.{Reading, NotFlow, File, Reads}
+use Rattle.wire_records.specs.Formats.{commands}
+use Rattle.wire_records.specs.declared.version.Version.{Version}
 use Rattle.market_snapshot.specs.Checkpoints.{HasCheckpointMagic}
-use Rattle.market_history.specs.Histories.{Start}
+use Rattle.market_history.specs.Histories.{Start, Empty}
 use Rattle.journal_keeping.specs.Starts.{version_of, sources, BeginsUnsound}
 use Rattle.journal_keeping.specs.declared.fault.KeepFault.{KeepFault}
 use Rattle.journal_keeping.specs.declared.fault.KeepFault.TheVariants as kept
-use Rattle.journal_keeping.specs.Openings.{Opening, Foreign, New, Damaged, Rejected, Legal, IsOpening, ReadsKept}
+use Rattle.journal_keeping.specs.Openings.{Opening, Foreign, New, Damaged, Rejected, Legal, IsOpening}
 use Rattle.flow_exchange.specs.declared.status.Status.{Status}
 use Rattle.flow_exchange.specs.declared.status.Status.TheVariants as status
 use Rattle.flow_exchange.specs.Statuses.{ending_status, reading_status}
@@ -32,6 +35,11 @@ abbrev pub IsSourceStatus : ℕ → List ℕ → Reading Start Record → Status
 IsSourceStatus limit bytes NotFlow ends =
     (BeginsUnsound (take limit bytes) × (ends ≡ status.BadCheckpoint)) ⊎ ((¬ BeginsUnsound (take limit bytes)) × (ends ≡ status.NotFlow))
 IsSourceStatus limit bytes (File input records ending) ends = ends ≡ ending_status limit ending
+
+-- what the first `limit` bytes of the source are read as, for a disk of a version: no command file of it, or its records and an ending
+abbrev pub ReadsKept : Version → ℕ → List ℕ → Reading Start Record → Type 0
+ReadsKept version limit bytes NotFlow = (body : List ℕ) → ¬ BeginsWith commands.magics (take limit bytes) version body
+ReadsKept version limit bytes (File input records ending) = (input ≡ Empty version) × Reads sources limit bytes (File input records ending)
 
 -- The status after a disk was opened so: a disk that is refused has a status of its own; otherwise it is the status of the source, as for
 -- `run`, but for a disk that isn't new a source of another version, or one that begins with a checkpoint, is no command file.

@@ -3,9 +3,8 @@ use Rattle.std.proofs.Common.{◌≡◌, ℕ, ◌≤◌, List, [], ◌∷◌, �
 use Rattle.std.specs.List.{flat_map}
 use Rattle.std.proofs.lemmas.List.{append-nil}
 use Rattle.std.proofs.lemmas.Grind.{flat_map-append}
-use Rattle.flow_io.specs.Streams.{Grows, GrowsByPrefix, Called}
+use Rattle.flow_io.specs.Streams.{Grows, GrowsByPrefix}
 use Rattle.flow_io.proofs.Growth.{Grows-nothing, Grows-more}
-use Rattle.flow_io.proofs.Calls.{Called-nothing, Called-more}
 use Rattle.line_keeping.specs.Outputs.{Output, Gains}
 
 abbrev Texts : Type 0
@@ -19,7 +18,7 @@ take_nothing n = search rules
 
 pub gains_none : (Cut : Type 0) (out : Output) → Gains Cut out out []
 gains_none Cut out = record {
-  called = Called-nothing out.calls;
+  called = Grows-nothing out.calls;
   whole = [];
   last = [];
   parts = refl;
@@ -29,7 +28,7 @@ gains_none Cut out = record {
   written = Grows-nothing out.held;
 }
 
-pub gains_one : (Cut : Type 0) (out later : Output) (text : List ℕ) → Called out.calls later.calls (text ∷ []) → Grows out.held later.held text → Gains Cut out later (text ∷ [])
+pub gains_one : (Cut : Type 0) (out later : Output) (text : List ℕ) → Grows out.calls later.calls (text ∷ []) → Grows out.held later.held text → Gains Cut out later (text ∷ [])
 gains_one Cut out later text called grows = record {
   called = called;
   whole = text ∷ [];
@@ -41,7 +40,7 @@ gains_one Cut out later text called grows = record {
   written = subst (λ (l : List ℕ). Grows out.held later.held l) (sym (append-nil (text ++ []) ∙ append-nil text)) grows;
 }
 
-pub gains_cut : (out later : Output) (text : List ℕ) → Called out.calls later.calls (text ∷ []) → GrowsByPrefix out.held later.held text → Gains (Unit {0}) out later (text ∷ [])
+pub gains_cut : (out later : Output) (text : List ℕ) → Grows out.calls later.calls (text ∷ []) → GrowsByPrefix out.held later.held text → Gains (Unit {0}) out later (text ∷ [])
 gains_cut out later text called cut = record {
   called = called;
   whole = [];
@@ -76,7 +75,7 @@ whole_text out later texts gains =
 
 pub gains_more : (Cut : Type 0) (first second third : Output) (texts more : Texts) → Gains ⊥ first second texts → Gains Cut second third more → Gains Cut first third (texts ++ more)
 gains_more Cut first second third texts more a b = record {
-  called = Called-more first.calls second.calls third.calls texts more a.called b.called;
+  called = Grows-more first.calls second.calls third.calls texts more a.called b.called;
   whole = texts ++ b.whole;
   last = b.last;
   parts = ap (λ (l : Texts). texts ++ l) b.parts ∙ sym (append_assoc texts b.whole b.last);

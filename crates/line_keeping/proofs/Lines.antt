@@ -12,7 +12,7 @@ use Rattle.market_rules.specs.Market.{Market}
 use Rattle.market_history.specs.Histories.{Start}
 use Rattle.curve_ladder.specs.Segments.{segments_of, request_of}
 use Rattle.curve_ladder.proofs.SegmentLemmas.{segments_count}
-use Rattle.order_text.specs.Lines.{IsBlankByte, IsBlank, Asked, Alone, OfLadder, commands_of, AsksLadder, LineAsks, SaysNothing}
+use Rattle.order_text.specs.Lines.{IsBlank, Asked, Alone, OfLadder, commands_of, AsksLadder, LineAsks, SaysNothing}
 use Rattle.disk_edge.specs.Disks.{DiskState, IsDisk}
 use Rattle.journal_disk.specs.Entries.{Keeps}
 use Rattle.journal_keeping.specs.Starts.{head_of}
@@ -39,7 +39,7 @@ if_err (Err fault) P Q f p = f fault p
 
 -- a line that isn't blank has bytes
 pub line_some : (line : List ℕ) → ¬ IsBlank line → 1 ≤ length line
-line_some [] written = absurd (written (All-nil IsBlankByte))
+line_some [] written = absurd (written (All-nil _))
 line_some (byte ∷ line) written = omega arith
 
 -- what a line asks for, with a market's version and tickers

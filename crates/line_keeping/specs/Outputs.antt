@@ -1,7 +1,7 @@
 -- What an output got.
 use Rattle.std.specs.Prelude.{◌≡◌, ℕ, ◌≤◌, List, [], ◌++◌, Option, length, take}
 use Rattle.std.specs.List.{flat_map}
-use Rattle.flow_io.specs.Streams.{Grows, Called}
+use Rattle.flow_io.specs.Streams.{Grows}
 
 -- an output: the bytes that it holds, and those of each call, if they are known, and its count of faults
 pub record Output : Type 0 where
@@ -16,7 +16,7 @@ output held calls faults out = record { held = held out; calls = calls out; faul
 -- An output was handed these texts, each by one call, and gained them, all complete; only if a write was cut short, it may have a prefix of the last
 -- one instead of it.
 pub record Gains (Cut : Type 0) (old new : Output) (texts : List (List ℕ)) : Type 0 where
-  pub called : Called old.calls new.calls texts
+  pub called : Grows old.calls new.calls texts
   pub whole : List (List ℕ)
   pub last : List (List ℕ)
   pub parts : texts ≡ whole ++ last

@@ -14,7 +14,7 @@ use Rattle.flow_accounts.specs.Answers.{AcceptsDeposit, RefusesDeposit, AcceptsW
 use Rattle.flow_orders.specs.Outcomes.{BatchRule}
 use Rattle.flow_orders.specs.Orders.{needed}
 use Rattle.market_rules.specs.Market.{Market}
-use Rattle.market_rules.specs.Step.{DepositRefusal, WithdrawalRefusal, CreditRefusal, FirstRefusal, Accepts, Serves, gives}
+use Rattle.market_rules.specs.Step.{FirstRefusal, Accepts, Serves, gives}
 use Rattle.market_core.specs.Private.{refusal_for}
 
 -- the reply for the result of a change of an account
@@ -30,37 +30,36 @@ module _ (Rule : BatchRule) (m : Market) (now : Balances) where
   IsServed c IsAccepted IsRefused changed outcome reply =
       (IsOk outcome ↔ IsAccepted) → IfErr outcome IsRefused → OnOk outcome (now ≡ changed) → OnErr outcome (now ≡ m.balances) → Replies outcome reply → Serves Rule m c (Plain reply) made
 
-  -- a command that is refused so, and when it is accepted is done with these balances
-  record Says (c : Command) (Refuses : Option Refusal → Type 0) (changed : Balances) : Type 0 where
-    refuses : (first : Option Refusal) → Refuses first → FirstRefusal m c first
-    accepts : (reply : Reply) → gives (Plain Done) (record m { balances = changed }) (Plain reply) made → Accepts Rule m c (Plain reply) made
+  -- when the command is accepted, it is done with these balances
+  abbrev Makes : Command → Balances → Type 0
+  Makes c changed = (reply : Reply) → gives (Plain Done) (record m { balances = changed }) (Plain reply) made → Accepts Rule m c (Plain reply) made
 
-  accepted_by : {c : Command} {Refuses : Option Refusal → Type 0} {changed : Balances} → Says c Refuses changed → (reply : Reply) → Refuses None → reply ≡ Done → now ≡ changed → Serves Rule m c (Plain reply) made
-  accepted_by says reply none is ok = record { first = None; refused = says.refuses None none; answered = says.accepts reply (ap Plain is, ap (λ b. record m { balances = b }) ok) }
+  accepted_by : {c : Command} {changed : Balances} → Makes c changed → (reply : Reply) → FirstRefusal m c None → reply ≡ Done → now ≡ changed → Serves Rule m c (Plain reply) made
+  accepted_by makes reply none is ok = record { first = None; refused = none; answered = makes reply (ap Plain is, ap (λ b. record m { balances = b }) ok) }
 
-  refused_by : {c : Command} {Refuses : Option Refusal → Type 0} {changed : Balances} → Says c Refuses changed → (reply : Reply) (refusal : Refusal) → Refuses (Some refusal) → reply ≡ Refused refusal → now ≡ m.balances → Serves Rule m c (Plain reply) made
-  refused_by says reply refusal first is err = record { first = Some refusal; refused = says.refuses (Some refusal) first; answered = (ap Plain is, ap (λ b. record m { balances = b }) err) }
+  refused_by : (c : Command) (reply : Reply) (refusal : Refusal) → FirstRefusal m c (Some refusal) → reply ≡ Refused refusal → now ≡ m.balances → Serves Rule m c (Plain reply) made
+  refused_by c reply refusal first is err = record { first = Some refusal; refused = first; answered = (ap Plain is, ap (λ b. record m { balances = b }) err) }
 
   module _ (account : ℕ) where
-    says_deposit : (kind : Option ℕ) (count : ℕ) → Says (Deposit account kind count) (DepositRefusal m account kind count) (change_balance m.balances account kind (value_of kind count))
-    says_deposit kind count = record { refuses = λ first refusal. refusal; accepts = λ reply given. given }
+    makes_deposit : (kind : Option ℕ) (count : ℕ) → Makes (Deposit account kind count) (change_balance m.balances account kind (value_of kind count))
+    makes_deposit kind count reply given = given
 
-    says_withdrawal : (kind : Option ℕ) (count : ℕ) → Says (Withdraw account kind count) (WithdrawalRefusal m account kind count) (change_balance m.balances account kind (neg_ℤ (value_of kind count)))
-    says_withdrawal kind count = record { refuses = λ first refusal. refusal; accepts = λ reply given. given }
+    makes_withdrawal : (kind : Option ℕ) (count : ℕ) → Makes (Withdraw account kind count) (change_balance m.balances account kind (neg_ℤ (value_of kind count)))
+    makes_withdrawal kind count reply given = given
 
-    says_credit : (kind : Option ℕ) (count : ℕ) → Says (SetCredit account kind count) (CreditRefusal m account kind count) (set_credit m.balances account kind count)
-    says_credit kind count = record { refuses = λ first refusal. refusal; accepts = λ reply given. given }
+    makes_credit : (kind : Option ℕ) (count : ℕ) → Makes (SetCredit account kind count) (set_credit m.balances account kind count)
+    makes_credit kind count reply given = given
 
     pub serves-deposit : {T : Type 0} (kind : Option ℕ) (count : ℕ) (outcome : Result T AccountFault) (reply : Reply)
         → IsServed (Deposit account kind count) (AcceptsDeposit m.balances account kind count) (RefusesDeposit m.balances account kind count) (change_balance m.balances account kind (value_of kind count)) outcome reply
     serves-deposit kind count (Ok x) reply accepted refused ok err is =
         let a = accepted.0 refl in
-        accepted_by (says_deposit kind count) reply (inr (a.account_there, inr (a.kind_there, inr (λ zero. omega (arith, zero, a.not_zero), inr (λ over. omega (arith, ints, over, a.within_limit), refl))))) is ok
-    serves-deposit kind count (Err fault.NoAccount) reply accepted refused ok err is = refused_by (says_deposit kind count) reply refusals.NoAccount (inl (refused, refl)) is err
-    serves-deposit kind count (Err fault.NoAsset) reply accepted refused ok err is = refused_by (says_deposit kind count) reply refusals.NoAsset (inr (refused.0, inl (refused.1, refl))) is err
-    serves-deposit kind count (Err fault.Zero) reply accepted refused ok err is = refused_by (says_deposit kind count) reply refusals.ZeroAmount (inr (refused.0, inr (refused.1, inl (refused.2, refl)))) is err
+        accepted_by (makes_deposit kind count) reply (inr (a.account_there, inr (a.kind_there, inr (λ zero. omega (arith, zero, a.not_zero), inr (λ over. omega (arith, ints, over, a.within_limit), refl))))) is ok
+    serves-deposit kind count (Err fault.NoAccount) reply accepted refused ok err is = refused_by (Deposit account kind count) reply refusals.NoAccount (inl (refused, refl)) is err
+    serves-deposit kind count (Err fault.NoAsset) reply accepted refused ok err is = refused_by (Deposit account kind count) reply refusals.NoAsset (inr (refused.0, inl (refused.1, refl))) is err
+    serves-deposit kind count (Err fault.Zero) reply accepted refused ok err is = refused_by (Deposit account kind count) reply refusals.ZeroAmount (inr (refused.0, inr (refused.1, inl (refused.2, refl)))) is err
     serves-deposit kind count (Err fault.TotalLimit) reply accepted refused ok err is =
-        refused_by (says_deposit kind count) reply refusals.TotalLimit (inr (refused.0, inr (refused.1, inr (λ zero. omega (arith, zero, refused.2), inl (refused.3, refl))))) is err
+        refused_by (Deposit account kind count) reply refusals.TotalLimit (inr (refused.0, inr (refused.1, inr (λ zero. omega (arith, zero, refused.2), inl (refused.3, refl))))) is err
     serves-deposit kind count (Err fault.Full) reply accepted refused ok err is = absurd refused
     serves-deposit kind count (Err (fault.NotFree free)) reply accepted refused ok err is = absurd refused
     serves-deposit kind count (Err fault.CreditLimit) reply accepted refused ok err is = absurd refused
@@ -72,12 +71,12 @@ module _ (Rule : BatchRule) (m : Market) (now : Balances) where
         IsServed (Withdraw account kind count) (AcceptsWithdrawal m.balances account kind count reserved) (RefusesWithdrawal m.balances account kind count reserved) (change_balance m.balances account kind (neg_ℤ (value_of kind count))) outcome reply
     serves-withdrawal kind count (Ok x) reply accepted refused ok err is =
         let a = accepted.0 refl in
-        accepted_by (says_withdrawal kind count) reply (inr (a.account_there, inr (a.kind_there, inr (λ zero. omega (arith, zero, a.not_zero), inr (λ over. omega (arith, ints, over, a.free), refl))))) is ok
-    serves-withdrawal kind count (Err fault.NoAccount) reply accepted refused ok err is = refused_by (says_withdrawal kind count) reply refusals.NoAccount (inl (refused, refl)) is err
-    serves-withdrawal kind count (Err fault.NoAsset) reply accepted refused ok err is = refused_by (says_withdrawal kind count) reply refusals.NoAsset (inr (refused.0, inl (refused.1, refl))) is err
-    serves-withdrawal kind count (Err fault.Zero) reply accepted refused ok err is = refused_by (says_withdrawal kind count) reply refusals.ZeroAmount (inr (refused.0, inr (refused.1, inl (refused.2, refl)))) is err
+        accepted_by (makes_withdrawal kind count) reply (inr (a.account_there, inr (a.kind_there, inr (λ zero. omega (arith, zero, a.not_zero), inr (λ over. omega (arith, ints, over, a.free), refl))))) is ok
+    serves-withdrawal kind count (Err fault.NoAccount) reply accepted refused ok err is = refused_by (Withdraw account kind count) reply refusals.NoAccount (inl (refused, refl)) is err
+    serves-withdrawal kind count (Err fault.NoAsset) reply accepted refused ok err is = refused_by (Withdraw account kind count) reply refusals.NoAsset (inr (refused.0, inl (refused.1, refl))) is err
+    serves-withdrawal kind count (Err fault.Zero) reply accepted refused ok err is = refused_by (Withdraw account kind count) reply refusals.ZeroAmount (inr (refused.0, inr (refused.1, inl (refused.2, refl)))) is err
     serves-withdrawal kind count (Err (fault.NotFree free)) reply accepted refused ok err is =
-        refused_by (says_withdrawal kind count) reply refusals.NotFree
+        refused_by (Withdraw account kind count) reply refusals.NotFree
         (inr (refused.0, inr (refused.1, inr (λ zero. omega (arith, zero, refused.2), inl (omega (arith, ints, refused.3, refused.4), refl))))) is err
     serves-withdrawal kind count (Err fault.TotalLimit) reply accepted refused ok err is = absurd refused
     serves-withdrawal kind count (Err fault.Full) reply accepted refused ok err is = absurd refused
@@ -90,12 +89,12 @@ module _ (Rule : BatchRule) (m : Market) (now : Balances) where
         IsServed (SetCredit account kind count) (AcceptsCredit m.balances account kind count reserved) (RefusesCredit m.balances account kind count reserved) (set_credit m.balances account kind count) outcome reply
     serves-credit kind count (Ok x) reply accepted refused ok err is =
         let a = accepted.0 refl in
-        accepted_by (says_credit kind count) reply (inr (a.account_there, inr (a.kind_there, inr (λ above. omega (arith, above, a.within_limit), inr (λ short. omega (arith, ints, short, a.covers), refl))))) is ok
-    serves-credit kind count (Err fault.NoAccount) reply accepted refused ok err is = refused_by (says_credit kind count) reply refusals.NoAccount (inl (refused, refl)) is err
-    serves-credit kind count (Err fault.NoAsset) reply accepted refused ok err is = refused_by (says_credit kind count) reply refusals.NoAsset (inr (refused.0, inl (refused.1, refl))) is err
-    serves-credit kind count (Err fault.CreditLimit) reply accepted refused ok err is = refused_by (says_credit kind count) reply refusals.CreditLimit (inr (refused.0, inr (refused.1, inl (refused.2, refl)))) is err
+        accepted_by (makes_credit kind count) reply (inr (a.account_there, inr (a.kind_there, inr (λ above. omega (arith, above, a.within_limit), inr (λ short. omega (arith, ints, short, a.covers), refl))))) is ok
+    serves-credit kind count (Err fault.NoAccount) reply accepted refused ok err is = refused_by (SetCredit account kind count) reply refusals.NoAccount (inl (refused, refl)) is err
+    serves-credit kind count (Err fault.NoAsset) reply accepted refused ok err is = refused_by (SetCredit account kind count) reply refusals.NoAsset (inr (refused.0, inl (refused.1, refl))) is err
+    serves-credit kind count (Err fault.CreditLimit) reply accepted refused ok err is = refused_by (SetCredit account kind count) reply refusals.CreditLimit (inr (refused.0, inr (refused.1, inl (refused.2, refl)))) is err
     serves-credit kind count (Err (fault.InUse used)) reply accepted refused ok err is =
-        refused_by (says_credit kind count) reply refusals.CreditInUse
+        refused_by (SetCredit account kind count) reply refusals.CreditInUse
         (inr (refused.0, inr (refused.1, inr (λ above. omega (arith, above, refused.2), inl (omega (arith, ints, refused.3, refused.4), refl))))) is err
     serves-credit kind count (Err fault.Zero) reply accepted refused ok err is = absurd refused
     serves-credit kind count (Err fault.TotalLimit) reply accepted refused ok err is = absurd refused

@@ -19,8 +19,8 @@ use Rattle.flow_orders.specs.Outcomes.{BatchRule}
 use Rattle.order_book.specs.Book.{Book, HasOrder, without}
 use Rattle.market_rules.specs.Market.{Market, IsConsistent, usable_balance}
 use Rattle.market_rules.proofs.ByKind.{affords}
-use Rattle.market_rules.specs.Step.{◌unless◌else◌, FirstRefusal, RefusesRow, Serves, placed, IsAffordable}
-use Rattle.market_core.specs.Private.{cancel_reply, RefusesNumbers, HasRightNumbers, no_other, IsFreeFor}
+use Rattle.market_rules.specs.Step.{◌unless◌else◌, FirstRefusal, Serves, placed, IsAffordable}
+use Rattle.market_core.specs.Private.{cancel_reply, RefusesNumbers, RefusesRow, HasRightNumbers, no_other, IsFreeFor}
 use Rattle.market_rules.proofs.Accepted.{past_when, past_unless, not_least}
 
 -- ---- leg by leg

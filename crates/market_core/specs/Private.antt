@@ -1,17 +1,18 @@
 -- Definitions that only private functions of the market use.
-use Rattle.std.specs.Prelude.{Bool, true, false, Option, None}
+use Rattle.std.specs.Prelude.{Bool, true, false, Option, None, ◌≤◌, length, All}
+use Rattle.weight_rows.specs.Rows.{IsWeightVector}
 use Rattle.demand_curve.specs.Demand.{most_rate}
-use Rattle.flow_accounts.specs.Balances.{IsAccount}
-use Rattle.flow_orders.specs.Orders.{most_cap, AreLimits, IsFrom1To}
+use Rattle.flow_accounts.specs.Balances.{IsAccount, IsAsset}
+use Rattle.flow_orders.specs.Orders.{Order, most_cap, most_orders, AreLimits, IsFrom1To}
 use Rattle.wire_records.specs.Commands.{Request}
 use Rattle.market_rules.specs.Market.{Market}
-use Rattle.market_rules.specs.Step.{◌unless◌else◌, IsAffordable, placed}
+use Rattle.market_rules.specs.Step.{◌when◌else◌, ◌unless◌else◌, accept, IsAffordable, placed}
 use Rattle.ticker_table.specs.declared.table.TickerFault.{TickerFault}
 use Rattle.ticker_table.specs.declared.table.TickerFault.TheVariants as ticker
 use Rattle.flow_accounts.specs.declared.fault.AccountFault.{AccountFault}
 use Rattle.flow_accounts.specs.declared.fault.AccountFault.TheVariants as fault
 use Rattle.wire_records.specs.declared.reply.Refusal.{Refusal}
-use Rattle.wire_records.specs.declared.reply.Refusal.TheVariants.{AssetLimit, TickerTaken, BadTicker, AccountLimit, NoAccount, NoAsset, ZeroAmount, TotalLimit, NotFree, NoOrder, BadLimits, BadRate, BadCap, CreditLimit, CreditInUse}
+use Rattle.wire_records.specs.declared.reply.Refusal.TheVariants.{AssetLimit, TickerTaken, BadTicker, AccountLimit, NoAccount, NoAsset, ZeroAmount, TotalLimit, NotFree, NoOrder, BadLimits, BadRate, BadCap, BadRow, OrderLimit, CreditLimit, CreditInUse}
 use Rattle.wire_records.specs.declared.reply.Reply.{Reply}
 use Rattle.wire_records.specs.declared.reply.Reply.TheVariants.{Done, Refused}
 
@@ -58,6 +59,14 @@ RefusesNumbers m r others =
     BadLimits unless AreLimits r.low r.high else
     BadRate unless IsFrom1To most_rate r.rate else
     BadCap unless IsFrom1To most_cap r.cap else others
+
+-- the refusals of an order whose numbers are within their limits: for its weight vector, for a full book, or for what it needs
+abbrev pub RefusesRow : Market → Order → Option Refusal → Type 0
+RefusesRow m o =
+    BadRow unless IsWeightVector o.row else
+    NoAsset unless All (λ e. IsAsset m.balances e.asset) o.row else
+    OrderLimit when most_orders ≤ length m.orders else
+    NotFree unless IsAffordable m o else accept
 
 -- no refusal of an order for its account or its numbers holds
 pub record HasRightNumbers (m : Market) (r : Request) : Type 0 where

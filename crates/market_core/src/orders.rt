@@ -8,9 +8,9 @@ ghost use Rattle.wire_records.specs.Commands.{Place, CancelOrder, Plain};
 ghost use Rattle.wire_records.specs.Versions.{IsOfVersion};
 ghost use Rattle.wire_records.specs.CommandRecords.{IsCommand};
 ghost use Rattle.market_rules.specs.Market.{IsConsistent, usable_balance};
-ghost use Rattle.market_rules.specs.Step.{FirstRefusal, RefusesRow, placed, ServesPlain};
+ghost use Rattle.market_rules.specs.Step.{FirstRefusal, placed, ServesPlain};
 ghost use Rattle.market_rules.specs.Allocating.{MayAllocate};
-ghost use Rattle.market_core.specs.Private.{cancel_reply, RefusesNumbers, HasRightNumbers, no_other, IsFreeFor};
+ghost use Rattle.market_core.specs.Private.{cancel_reply, RefusesNumbers, RefusesRow, HasRightNumbers, no_other, IsFreeFor};
 
 use crate::Market;
 use flow_accounts::grains_of;

@@ -12,7 +12,8 @@ use Rattle.flow_orders.specs.Outcomes.{IsAdmissibleOutcome, Outcome}
 use Rattle.wire_records.specs.Commands.{Request, Command, AddAsset, OpenAccount, Deposit, Withdraw, Place, CancelOrder, RunBatch, SetCredit, Answer, Pair}
 use Rattle.wire_records.specs.declared.reply.Refusal.{Refusal}
 use Rattle.market_rules.specs.Market.{Market, IsConsistent, IsInTime, empty_market}
-use Rattle.market_rules.specs.Step.{FirstRefusal, Accepts, Answers, Serves, placed, ServesRead}
+use Rattle.market_rules.specs.Step.{FirstRefusal, Accepts, Serves, placed, ServesRead}
+use Rattle.market_rules.proofs.ByFirst.{Answers}
 use Rattle.wire_records.specs.declared.command.BodyFault.{BodyFault}
 use Rattle.wire_records.specs.declared.version.Version.{Version}
 use Rattle.wire_records.specs.Versions.{IsOfVersion}

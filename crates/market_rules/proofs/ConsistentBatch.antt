@@ -12,12 +12,12 @@ use Rattle.flow_accounts.specs.Balances.{Account, Balances, IsAccount, account_c
 use Rattle.flow_orders.specs.Orders.{Order, terms_of}
 use Rattle.flow_orders.specs.Excess.{price_for, residual_bound}
 use Rattle.flow_orders.specs.Outcomes.{Clearing, Fill, Outcome, Cleared, Skipped, trades_of, IsAdmissibleClearing, IsAdmissibleOutcome}
-use Rattle.flow_orders.specs.Trades.{Trade, trader, residual, residual_cost, after_fill, is_live, staying, going_on}
+use Rattle.flow_orders.specs.Trades.{Trade, trader, residual, residual_cost, after_fill, staying, going_on}
 use Rattle.fill_caps.specs.Settlement.{settled_balances, settled_exchange}
 use Rattle.market_rules.specs.Market.{Market, IsConsistent, IsLiveOrder, IsInTime, search_of, start_prices, most_batches}
 use Rattle.market_rules.specs.Step.{after_batch}
 use Rattle.fill_caps.specs.Settles.{Settles}
-use Rattle.flow_orders.proofs.TradeFacts.{IsAllowed, before_fills, after_fills}
+use Rattle.flow_orders.proofs.TradeFacts.{IsAllowed, before_fills, after_fills, is_live}
 use Rattle.fill_caps.proofs.Needs.{rounding_is_allowed, needs_kept_by_batch}
 use Rattle.fill_caps.proofs.Totals.{money_kept, units_kept}
 use Rattle.flow_orders.proofs.Moved.{exchange_units_move, exchange_money_moves}

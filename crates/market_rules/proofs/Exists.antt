@@ -7,7 +7,7 @@ use Rattle.wire_records.specs.Commands.{Command, AddAsset, OpenAccount, Deposit,
 use Rattle.wire_records.specs.declared.reply.Refusal.{Refusal}
 use Rattle.wire_records.specs.declared.reply.Reply.TheVariants.{Refused}
 use Rattle.market_rules.specs.Market.{Market}
-use Rattle.market_rules.specs.Step.{NoOutcome, ServesPlain, ◌when◌else◌, ◌unless◌else◌, accept, FirstRefusal, DepositRefusal, WithdrawalRefusal, CreditRefusal, Accepts, placed}
+use Rattle.market_rules.specs.Step.{NoOutcome, ServesPlain, ◌when◌else◌, ◌unless◌else◌, accept, FirstRefusal, Accepts, placed}
 use Rattle.demand_curve.specs.Demand.{most_rate}
 use Rattle.market_rules.proofs.Decided.{Either, either_le, either_eq, either_lt_z, either_account, either_kind, either_from_1, either_limits, either_row, either_assets, either_affordable, either_order, either_taken, either_ticker}
 
@@ -31,30 +31,21 @@ either_later : (m : Market) (last : Option ℕ) → Either (IfSome last (λ batc
 either_later m None = inl tt
 either_later m (Some last) = either_le _ _
 
-deposit_refusal : (m : Market) (account : ℕ) (kind : Option ℕ) (count : ℕ) → Has (DepositRefusal m account kind count)
-deposit_refusal m account kind count =
-    has_unless _ _ _ (either_account m.balances account) (has_unless _ _ _ (either_kind m.balances kind) (has_when _ _ _ (either_eq count 0) (has_when _ _ _ (either_lt_z _ _) has_accept)))
-
-withdrawal_refusal : (m : Market) (account : ℕ) (kind : Option ℕ) (count : ℕ) → Has (WithdrawalRefusal m account kind count)
-withdrawal_refusal m account kind count =
-    has_unless _ _ _ (either_account m.balances account) (has_unless _ _ _ (either_kind m.balances kind) (has_when _ _ _ (either_eq count 0) (has_when _ _ _ (either_lt_z _ _) has_accept)))
-
-credit_refusal : (m : Market) (account : ℕ) (kind : Option ℕ) (count : ℕ) → Has (CreditRefusal m account kind count)
-credit_refusal m account kind count =
-    has_unless _ _ _ (either_account m.balances account) (has_unless _ _ _ (either_kind m.balances kind) (has_when _ _ _ (either_le _ _) (has_when _ _ _ (either_lt_z _ _) has_accept)))
-
 pub first_is_there : (m : Market) (c : Command) → Has (FirstRefusal m c)
 first_is_there m (AddAsset ticker) = has_unless _ _ _ (either_ticker ticker) (has_when _ _ _ (either_taken m.tickers ticker) (has_when _ _ _ (either_le _ _) has_accept))
 first_is_there m OpenAccount = has_when _ _ _ (either_le _ _) has_accept
-first_is_there m (Deposit account kind count) = deposit_refusal m account kind count
-first_is_there m (Withdraw account kind count) = withdrawal_refusal m account kind count
+first_is_there m (Deposit account kind count) =
+    has_unless _ _ _ (either_account m.balances account) (has_unless _ _ _ (either_kind m.balances kind) (has_when _ _ _ (either_eq count 0) (has_when _ _ _ (either_lt_z _ _) has_accept)))
+first_is_there m (Withdraw account kind count) =
+    has_unless _ _ _ (either_account m.balances account) (has_unless _ _ _ (either_kind m.balances kind) (has_when _ _ _ (either_eq count 0) (has_when _ _ _ (either_lt_z _ _) has_accept)))
 first_is_there m (CancelOrder account number) = has_unless _ _ _ (either_account m.balances account) (has_unless _ _ _ (either_order m account number) has_accept)
 first_is_there m (RunBatch budget) = has_unless _ _ _ (either_from_1 most_budget budget) (has_when _ _ _ (either_le _ _) has_accept)
 first_is_there m (Place last r) =
     has_unless _ _ _ (either_account m.balances r.account) (has_unless _ _ _ (either_limits r.low r.high) (has_unless _ _ _ (either_from_1 most_rate r.rate)
     (has_unless _ _ _ (either_from_1 most_cap r.cap) (has_unless _ _ _ (either_later m last) (has_unless _ _ _ (either_row r.row) (has_unless _ _ _ (either_assets m.balances r.row)
     (has_when _ _ _ (either_le _ _) (has_unless _ _ _ (either_affordable m (placed m last r)) has_accept))))))))
-first_is_there m (SetCredit account kind count) = credit_refusal m account kind count
+first_is_there m (SetCredit account kind count) =
+    has_unless _ _ _ (either_account m.balances account) (has_unless _ _ _ (either_kind m.balances kind) (has_when _ _ _ (either_le _ _) (has_when _ _ _ (either_lt_z _ _) has_accept)))
 
 -- ---- steps
 

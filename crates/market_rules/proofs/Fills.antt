@@ -8,17 +8,18 @@ use Rattle.std.proofs.lemmas.List.Sums.{sum_by-cons, sum_by-append}
 use Rattle.std.proofs.lemmas.Bool.Decides.{eqb_tells}
 use Rattle.flow_orders.specs.Orders.{Order}
 use Rattle.flow_orders.specs.Outcomes.{Clearing, Fill, Outcome, Cleared, Skipped, trades_of, IsAdmissibleOutcome, IsAdmissibleClearing}
-use Rattle.flow_orders.specs.Trades.{Trade, after_fill, is_live, staying}
+use Rattle.flow_orders.specs.Trades.{Trade, after_fill, staying}
 use Rattle.wire_records.specs.Commands.{Request, Command, Place, CancelOrder, RunBatch, Answer, Plain, Batch, Pair}
 use Rattle.wire_records.specs.declared.reply.Refusal.{Refusal}
 use Rattle.wire_records.specs.declared.reply.Reply.TheVariants.{Order as OrderPlaced, Refused}
 use Rattle.std.proofs.lemmas.Bool.{cases_lt}
 use Rattle.market_rules.specs.Market.{IsLiveOrder, Market, IsConsistent, search_of, start_prices}
-use Rattle.market_rules.specs.Step.{Accepts, Answers, Serves, after_batch, placed, ServesRead}
+use Rattle.market_rules.specs.Step.{Accepts, Serves, after_batch, placed, ServesRead}
+use Rattle.market_rules.proofs.ByFirst.{Answers}
 use Rattle.wire_records.specs.declared.command.BodyFault.{BodyFault}
 use Rattle.wire_records.specs.declared.version.Version.{Version}
 use Rattle.market_rules.specs.Journal.{Step, Follows, filled_in, filled_by, fills_of, Places}
-use Rattle.flow_orders.proofs.TradeFacts.{before_fills, after_fills}
+use Rattle.flow_orders.proofs.TradeFacts.{before_fills, after_fills, is_live}
 use Rattle.market_rules.proofs.ConsistentBatch.{orders_before, allowed}
 use Rattle.market_rules.proofs.Consistency.{ReadsOwn, consistent_step, consistent_follows}
 use Rattle.market_rules.proofs.Versions.{follows_version}

@@ -12,7 +12,8 @@ use Rattle.flow_orders.specs.Outcomes.{Outcome, BatchRule, Cleared, Skipped, IsA
 use Rattle.wire_records.specs.Commands.{Command, AddAsset, Deposit, Withdraw, RunBatch, Answer, Pair}
 use Rattle.wire_records.specs.declared.reply.Refusal.{Refusal}
 use Rattle.market_rules.specs.Market.{Market, IsConsistent, empty_market, held_balance}
-use Rattle.market_rules.specs.Step.{FirstRefusal, Accepts, Answers, after_batch, ServesRead}
+use Rattle.market_rules.specs.Step.{FirstRefusal, Accepts, after_batch, ServesRead}
+use Rattle.market_rules.proofs.ByFirst.{Answers}
 use Rattle.wire_records.specs.declared.command.BodyFault.{BodyFault}
 use Rattle.wire_records.specs.declared.version.Version.{Version}
 use Rattle.market_rules.specs.Journal.{Follows}

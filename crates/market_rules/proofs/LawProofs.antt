@@ -6,8 +6,8 @@ use Rattle.flow_accounts.specs.Lawful.{AreLawful}
 use Rattle.flow_accounts.proofs.EachKind.{each_kind}
 use Rattle.flow_accounts.proofs.Bounds.{no_balance_is_below_its_credit}
 use Rattle.flow_orders.specs.Orders.{Order, IsOrder}
-use Rattle.flow_orders.specs.Trades.{trades, after_fill, is_live, staying}
-use Rattle.flow_orders.proofs.TradeFacts.{All-trades}
+use Rattle.flow_orders.specs.Trades.{trades, after_fill, staying}
+use Rattle.flow_orders.proofs.TradeFacts.{All-trades, is_live}
 use Rattle.market_rules.proofs.Ending.{all_go_on, goes_on}
 use Rattle.wire_records.proofs.Numbered.{first_tags}
 use Rattle.market_rules.proofs.Versions.{some_parts, step_version}
@@ -21,7 +21,8 @@ use Rattle.wire_records.specs.declared.reply.Reply.{Reply}
 use Rattle.wire_records.specs.declared.reply.Reply.TheVariants.{Done, Asset as AssetAdded, Account as AccountOpened, Order as OrderPlaced, Refused}
 use Rattle.market_rules.specs.Market.{Market, IsConsistent, IsInTime, IsNoCredit, parts_of, start_prices, usable_balance, free_balance, search_of}
 use Rattle.wire_records.specs.declared.command.BodyFault.{BodyFault}
-use Rattle.market_rules.specs.Step.{NoOutcome, ServesPlain, FirstRefusal, Accepts, Answers, Serves, ServesRead, after_batch}
+use Rattle.market_rules.specs.Step.{NoOutcome, ServesPlain, FirstRefusal, Accepts, Serves, ServesRead, after_batch}
+use Rattle.market_rules.proofs.ByFirst.{Answers}
 use Rattle.market_rules.specs.Laws.{MarketIsDetermined, JournalsDetermineTheMarket, OneRefusal, PlainCommandsHaveOneAnswer, PlainCommandsHoldNoBatch, StepsKeepConsistency, HeldIsDeposited, BatchesKeepTotals, SkipsOnlyEndOrders, OrdersEndInTime, VersionOneIsAsBefore, BatchesOfVersionOne, OrdersMayLeave, SkipsLowerTheDual, LargeBudgetsClear, ClearedBatchesAreOptimal, FillsKeepCaps, SequencesCompose, LimitsAgree, JournalsStayConsistent, JournalsHoldDeposits, LegalStepsNumberOne}
 use Rattle.std.proofs.lemmas.Int.{ints}
 use Rattle.std.proofs.lemmas.List.{length-map, get_or_past}

@@ -1,4 +1,5 @@
 pub mod Accepted
+pub mod ByFirst
 mod Decided
 mod Ending
 pub mod Exists

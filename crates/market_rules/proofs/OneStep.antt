@@ -4,7 +4,8 @@ use Rattle.flow_orders.specs.Outcomes.{Outcome, BatchRule}
 use Rattle.wire_records.specs.Commands.{Command, AddAsset, OpenAccount, Place, CancelOrder, RunBatch, Answer, Batch}
 use Rattle.wire_records.specs.declared.reply.Refusal.{Refusal}
 use Rattle.market_rules.specs.Market.{Market, search_of, start_prices}
-use Rattle.market_rules.specs.Step.{◌when◌else◌, ◌unless◌else◌, accept, FirstRefusal, Accepts, Answers, Serves, after_batch}
+use Rattle.market_rules.specs.Step.{◌when◌else◌, ◌unless◌else◌, accept, FirstRefusal, Accepts, Serves, after_batch}
+use Rattle.market_rules.proofs.ByFirst.{Answers}
 
 -- there is at most one first refusal
 abbrev pub IsOne : (Option Refusal → Type 0) → Type 0

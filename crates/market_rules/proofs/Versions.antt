@@ -8,7 +8,8 @@ use Rattle.wire_records.specs.declared.version.Version.TheVariants.{One}
 use Rattle.wire_records.specs.Versions.{most_tag}
 use Rattle.flow_orders.specs.Outcomes.{Outcome, BatchRule, Cleared, Skipped}
 use Rattle.market_rules.specs.Market.{Market, parts_of}
-use Rattle.market_rules.specs.Step.{Accepts, Answers, ServesRead, after_batch}
+use Rattle.market_rules.specs.Step.{Accepts, ServesRead, after_batch}
+use Rattle.market_rules.proofs.ByFirst.{Answers}
 use Rattle.market_rules.specs.Journal.{Step, Follows}
 
 -- a version with tags above 9 isn't One

@@ -1,6 +1,6 @@
 -- One step of the market: the first refusal of a command, or the answer to the accepted command and the market after it. Which
 -- outcomes a batch may have is a parameter, a rule: any admissible outcome, or the program's canonical one.
-use Rattle.std.specs.Prelude.{◌≡◌, ℕ, ◌+◌, ◌<◌, ◌≤◌, pos, neg_ℤ, ◌+ℤ◌, ◌≤ℤ◌, ◌<ℤ◌, [], ◌∷◌, ◌++◌, length, ◌⊎◌, Option, Some, None, unwrap_or, IfSome, Result, Ok, Err, All, Contains}
+use Rattle.std.specs.Prelude.{◌≡◌, ℕ, ◌+◌, ◌<◌, ◌≤◌, pos, neg_ℤ, ◌+ℤ◌, ◌≤ℤ◌, ◌<ℤ◌, [], ◌∷◌, ◌++◌, length, ◌⊎◌, Option, Some, None, unwrap_or, IfSome, MatchOption, Result, Ok, Err, All, Contains}
 use Rattle.weight_rows.specs.Rows.{IsWeightVector}
 use Rattle.wire_records.specs.Commands.{Request, Command, AddAsset, OpenAccount, Deposit, Withdraw, Place, CancelOrder, RunBatch, SetCredit, Answer, Plain, Batch}
 use Rattle.wire_records.specs.declared.reply.Reply.TheVariants as reply
@@ -58,39 +58,8 @@ placed m last r = ordered m.next_order last r
 abbrev pub IsAffordable : Market → Order → Type 0
 IsAffordable market o = (kind : Option ℕ) → IsKind market.balances kind → pos (need_of kind o) ≤ℤ usable_balance market o.account kind
 
--- the refusals of an order whose numbers are within their limits: for its weight vector, for a full book, or for what it needs
-abbrev pub RefusesRow : Market → Order → Option Refusal → Type 0
-RefusesRow m o =
-    BadRow unless IsWeightVector o.row else
-    NoAsset unless All (λ e. IsAsset m.balances e.asset) o.row else
-    OrderLimit when most_orders ≤ length m.orders else
-    NotFree unless IsAffordable m o else accept
-
--- the first refusal of a deposit of so many ticks or units; money is a kind that is always there
-abbrev pub DepositRefusal : Market → ℕ → Option ℕ → ℕ → Option Refusal → Type 0
-DepositRefusal m account kind count =
-    NoAccount unless IsAccount m.balances account else
-    NoAsset unless IsKind m.balances kind else
-    ZeroAmount when count ≡ 0 else
-    TotalLimit when total_limit kind <ℤ (total_of m.balances kind +ℤ value_of kind count) else accept
-
--- the first refusal of a withdrawal of so many ticks or units
-abbrev pub WithdrawalRefusal : Market → ℕ → Option ℕ → ℕ → Option Refusal → Type 0
-WithdrawalRefusal m account kind count =
-    NoAccount unless IsAccount m.balances account else
-    NoAsset unless IsKind m.balances kind else
-    ZeroAmount when count ≡ 0 else
-    NotFree when free_balance m account kind <ℤ value_of kind count else accept
-
--- the first refusal of a credit of so many ticks or units
-abbrev pub CreditRefusal : Market → ℕ → Option ℕ → ℕ → Option Refusal → Type 0
-CreditRefusal m account kind count =
-    NoAccount unless IsAccount m.balances account else
-    NoAsset unless IsKind m.balances kind else
-    CreditLimit when most_credit < count else
-    CreditInUse when (free_balance m account kind +ℤ value_of kind count) <ℤ pos 0 else accept
-
--- the first refusal of a command: the conditions in the order in which they are tested, or None if no refusal holds
+-- the first refusal of a command: the conditions in the order in which they are tested, or None if no refusal holds; money is a kind that
+-- is always there
 abbrev pub FirstRefusal : Market → Command → Option Refusal → Type 0
 FirstRefusal m (AddAsset ticker) =
     BadTicker unless IsTicker ticker else
@@ -98,21 +67,37 @@ FirstRefusal m (AddAsset ticker) =
     AssetLimit when ticker_limit ≤ length m.tickers else accept
 FirstRefusal m OpenAccount =
     AccountLimit when most_accounts ≤ account_count m.balances else accept
-FirstRefusal m (Deposit account kind count) = DepositRefusal m account kind count
-FirstRefusal m (Withdraw account kind count) = WithdrawalRefusal m account kind count
+FirstRefusal m (Deposit account kind count) =
+    NoAccount unless IsAccount m.balances account else
+    NoAsset unless IsKind m.balances kind else
+    ZeroAmount when count ≡ 0 else
+    TotalLimit when total_limit kind <ℤ (total_of m.balances kind +ℤ value_of kind count) else accept
+FirstRefusal m (Withdraw account kind count) =
+    NoAccount unless IsAccount m.balances account else
+    NoAsset unless IsKind m.balances kind else
+    ZeroAmount when count ≡ 0 else
+    NotFree when free_balance m account kind <ℤ value_of kind count else accept
 FirstRefusal m (Place last r) =
     NoAccount unless IsAccount m.balances r.account else
     BadLimits unless AreLimits r.low r.high else
     BadRate unless IsFrom1To most_rate r.rate else
     BadCap unless IsFrom1To most_cap r.cap else
-    BadLast unless IfSome last (λ batch. m.batches < batch) else RefusesRow m (ordered m.next_order last r)
+    BadLast unless IfSome last (λ batch. m.batches < batch) else
+    BadRow unless IsWeightVector r.row else
+    NoAsset unless All (λ e. IsAsset m.balances e.asset) r.row else
+    OrderLimit when most_orders ≤ length m.orders else
+    NotFree unless IsAffordable m (ordered m.next_order last r) else accept
 FirstRefusal m (CancelOrder account number) =
     NoAccount unless IsAccount m.balances account else
     NoOrder unless HasOrder m.orders account number else accept
 FirstRefusal m (RunBatch budget) =
     BadBudget unless IsFrom1To most_budget budget else
     BatchLimit when most_batches ≤ m.batches else accept
-FirstRefusal m (SetCredit account kind count) = CreditRefusal m account kind count
+FirstRefusal m (SetCredit account kind count) =
+    NoAccount unless IsAccount m.balances account else
+    NoAsset unless IsKind m.balances kind else
+    CreditLimit when most_credit < count else
+    CreditInUse when (free_balance m account kind +ℤ value_of kind count) <ℤ pos 0 else accept
 
 -- ---- accepted commands
 
@@ -154,16 +139,12 @@ Accepts Rule m (CancelOrder account number) = gives (Plain reply.Done) (record m
 Accepts Rule m (RunBatch budget) = holds_batch Rule m budget
 Accepts Rule m (SetCredit account kind count) = gives (Plain reply.Done) (record m { balances = set_credit m.balances account kind count })
 
--- the first refusal is the answer and changes nothing; if there is none, the command is accepted
-abbrev pub Answers : BatchRule → Market → Command → Option Refusal → Answer Outcome → Market → Type 0
-Answers Rule m command (Some first) = gives (Plain (reply.Refused first)) m
-Answers Rule m command None = Accepts Rule m command
-
--- a command gets this answer, and leads from the old market to the new one
+-- a command gets this answer, and leads from the old market to the new one: the first refusal is the answer and changes nothing; if there
+-- is none, the command is accepted
 pub record Serves (Rule : BatchRule) (old : Market) (command : Command) (answer : Answer Outcome) (new : Market) : Type 0 where
   pub first : Option Refusal
   pub refused : FirstRefusal old command first
-  pub answered : Answers Rule old command first answer new
+  pub answered : MatchOption first (Accepts Rule old command answer new) (λ refusal. gives (Plain (reply.Refused refusal)) old answer new)
 
 -- the rule that allows no outcome of a batch
 abbrev pub NoOutcome : BatchRule

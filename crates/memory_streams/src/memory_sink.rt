@@ -3,7 +3,7 @@ ghost use Rattle.memory_streams.specs.Fakes.{NextIsListed, SinkState, after_writ
 ghost use Rattle.flow_io.specs.Faults.{Blames};
 ghost use Rattle.memory_streams.specs.Memory.{told};
 ghost use Rattle.memory_streams.specs.Handed.{handed_by};
-ghost use Rattle.flow_io.specs.Streams.{Grows, GrowsByPrefix, Called};
+ghost use Rattle.flow_io.specs.Streams.{Grows, GrowsByPrefix};
 
 use crate::SteadySink;
 use crate::calls::Calls;
@@ -78,7 +78,7 @@ impl MemorySink {
 
 // Returns the calls and one more, if they are known and there is memory for it.
 fn with_call(handed: Option<Vec<Vec<u8>>>, bytes: &[u8]) -> Option<Vec<Vec<u8>>>
-    ensures { Called (handed_by handed) (handed_by result) (bytes.now ∷ []) }
+    ensures { Grows (handed_by handed) (handed_by result) (bytes.now ∷ []) }
 {
     let mut calls = handed?;
     let call = bytes.to_vec(*calls.allocator()).ok()?;
@@ -96,7 +96,7 @@ impl Sink for MemorySink {
     fn write(&mut self, bytes: &[u8]) -> Result<(), WriteFailed>
         ensures written { OnOk result (Grows (told self.old.kept) (told self.new.kept) bytes.now) }
         ensures cut { OnErr result (GrowsByPrefix (told self.old.kept) (told self.new.kept) bytes.now) }
-        ensures called { Called self.old.handed self.new.handed (bytes.now ∷ []) }
+        ensures called { Grows self.old.handed self.new.handed (bytes.now ∷ []) }
         ensures cause { Blames (IsErr result) self.old.faults self.new.faults }
         // It fails if its number is listed, and then writes the first half.
         ensures fails { IsErr result ↔ NextIsListed self.old.failing self.old.calls }

@@ -6,8 +6,8 @@ use Rattle.std.proofs.lemmas.Bool.{lt-ltb, le-ltb}
 use Rattle.std.proofs.lemmas.List.{length-set, take-set, take-set-le, drop-set, drop-set-lt, drop-drop, drop_more, get_or-set_same}
 use Rattle.std.proofs.lemmas.List.Filters.{FiltersInPlace, FiltersInPlace-more_no, FiltersInPlace-more_swap, FiltersInPlace-all}
 use Rattle.flow_orders.specs.Orders.{Order, IsOrder, terms_of}
-use Rattle.flow_orders.specs.Trades.{Trade, trades, after_fill, is_live, staying}
-use Rattle.flow_orders.proofs.TradeFacts.{before_fills, after_fills}
+use Rattle.flow_orders.specs.Trades.{Trade, trades, after_fill, staying}
+use Rattle.flow_orders.proofs.TradeFacts.{before_fills, after_fills, is_live}
 use Rattle.order_book.proofs.Traded.{length-trades, get_or-trades}
 
 -- the orders, of which the first i are filled

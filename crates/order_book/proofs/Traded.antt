@@ -8,8 +8,8 @@ use Rattle.std.proofs.lemmas.List.Kept.{AllPairs-filter}
 use Rattle.weight_rows.specs.Rows.{weight_in}
 use Rattle.demand_curve.specs.Numbers.{or_zero}
 use Rattle.flow_orders.specs.Orders.{Order, IsOrder, remaining_quantity, sold}
-use Rattle.flow_orders.specs.Trades.{Trade, trades, after_fill, is_live, staying}
-use Rattle.flow_orders.proofs.TradeFacts.{before_fills, after_fills}
+use Rattle.flow_orders.specs.Trades.{Trade, trades, after_fill, staying}
+use Rattle.flow_orders.proofs.TradeFacts.{before_fills, after_fills, is_live}
 use Rattle.order_book.specs.declared.sums.Need.{Need}
 use Rattle.order_book.specs.declared.sums.Need.TheVariants.{Money, Units}
 use Rattle.order_book.specs.Needs.{need_for, need_of, needed, needed_for}

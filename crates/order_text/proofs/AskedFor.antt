@@ -14,7 +14,7 @@ use Rattle.wire_records.proofs.Numbered.{first_tags, all_tags}
 use Rattle.order_text.specs.declared.line.LineFault.{LineFault}
 use Rattle.order_text.specs.declared.line.LineFault.TheVariants.{NoCommand, Memory}
 use Rattle.std.proofs.lemmas.List.Elements.{All-from_recursion, recursion_from_All}
-use Rattle.order_text.specs.Lines.{HasKeys, Value, Text, Ticker, Small, Number, Weights, HasAt, order_members, amount_members, members_of, Asks}
+use Rattle.order_text.specs.Lines.{HasKeys, Value, Text, Ticker, Small, Number, Weights, HasAt, order_members, amount_members, members_of, AsksFor, Alone}
 use Rattle.order_text.specs.Private.{text_at, word_of, Has, HasOrder, Fits, IsOrder, IsUntil, IsPlaced, HasMoney, HasUnits, HasLimits}
 
 -- a command of the first version is one of each
@@ -76,22 +76,19 @@ pub rest_of : (tickers : List (List ℕ)) (d : Data) (m : List ℕ × Value) (me
 rest_of tickers d m members has = has.1
 
 -- an object that asks for a command has the word at `do`, and the other members
-all_asked : (version : Version) (tickers : List (List ℕ)) (d : Data) (command : Command) → Asks version tickers d command → Has tickers d ((codes "do", Text (word_of command)) ∷ drop 1 (members_of command))
-all_asked version tickers d command asks = subst (Has tickers d) (word_first command) (recursion_from_All (λ m. HasAt tickers d m.0 m.1) (members_of command) asks.members)
+all_asked : (version : Version) (tickers : List (List ℕ)) (d : Data) (command : Command) → AsksFor version tickers d (Alone command) → Has tickers d ((codes "do", Text (word_of command)) ∷ drop 1 (members_of command))
+all_asked version tickers d command asks = subst (Has tickers d) (word_first command) (recursion_from_All (λ m. HasAt tickers d m.0 m.1) (members_of command) asks.0.0)
 
-pub word_asked : (version : Version) (tickers : List (List ℕ)) (d : Data) (command : Command) → Asks version tickers d command → text_at (codes "do") d ≡ Some (word_of command)
+pub word_asked : (version : Version) (tickers : List (List ℕ)) (d : Data) (command : Command) → AsksFor version tickers d (Alone command) → text_at (codes "do") d ≡ Some (word_of command)
 word_asked version tickers d command asks = text_of tickers d (codes "do") (word_of command) (all_asked version tickers d command asks).0
 
-pub fits_asked : (version : Version) (tickers : List (List ℕ)) (d : Data) (command : Command) → Asks version tickers d command → Fits tickers d command
-fits_asked version tickers d command asks = (rest_of tickers d (codes "do", Text (word_of command)) (drop 1 (members_of command)) (all_asked version tickers d command asks), asks.keys)
+pub fits_asked : (version : Version) (tickers : List (List ℕ)) (d : Data) (command : Command) → AsksFor version tickers d (Alone command) → Fits tickers d command
+fits_asked version tickers d command asks = (rest_of tickers d (codes "do", Text (word_of command)) (drop 1 (members_of command)) (all_asked version tickers d command asks), asks.0.1)
 
 -- an object with the word at `do` and the other members asks for the command
-pub asks_of : (version : Version) (tickers : List (List ℕ)) (d : Data) (command : Command) → text_at (codes "do") d ≡ Some (word_of command) → Fits tickers d command → IsOfVersion version command → Asks version tickers d command
-asks_of version tickers d command word fits of = record {
-  members = All-from_recursion (λ m. HasAt tickers d m.0 m.1) (members_of command) (subst (Has tickers d) (sym (word_first command)) (text_where tickers d (codes "do") (word_of command) word, fits.0));
-  keys = fits.1;
-  of_version = of;
-}
+pub asks_of : (version : Version) (tickers : List (List ℕ)) (d : Data) (command : Command) → text_at (codes "do") d ≡ Some (word_of command) → Fits tickers d command → IsOfVersion version command → AsksFor version tickers d (Alone command)
+asks_of version tickers d command word fits of =
+    ((All-from_recursion (λ m. HasAt tickers d m.0 m.1) (members_of command) (subst (Has tickers d) (sym (word_first command)) (text_where tickers d (codes "do") (word_of command) word, fits.0)), fits.1), of)
 
 module _ (tickers : List (List ℕ)) (d : Data) where
   -- this word is at `do`
@@ -99,8 +96,8 @@ module _ (tickers : List (List ℕ)) (d : Data) where
   Word word = text_at (codes "do") d ≡ Some word
 
   -- the word of a command that is asked for
-  pub one_word : {version : Version} → (word : List ℕ) (command : Command) → text_at (codes "do") d ≡ Some word → Asks version tickers d command → word_of command ≡ word
-  one_word {version} word command asked asks = ap (λ o. unwrap_or o []) (sym (word_asked version tickers d command asks) ∙ asked)
+  pub one_word : (version : Version) (word : List ℕ) (command : Command) → text_at (codes "do") d ≡ Some word → AsksFor version tickers d (Alone command) → word_of command ≡ word
+  one_word version word command asked asks = ap (λ o. unwrap_or o []) (sym (word_asked version tickers d command asks) ∙ asked)
 
   -- an object that lacks a field of a command with a word of its own doesn't ask for it
   pub no_asset : ((ticker : List ℕ) → HasAt [] d (codes "ticker") (Ticker ticker) → ⊥) → (command : Command) → word_of command ≡ codes "asset" → Fits tickers d command → ⊥

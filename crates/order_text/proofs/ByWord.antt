@@ -44,7 +44,7 @@ module _ (tickers : List (List ℕ)) (d : Data) where
   -- what is found by a word is what is asked for
   pub found_asked : (version : Version) (text : List ℕ) (found : Option owned.Command) → text_at (codes "do") d ≡ Some text → (text ≡ codes "ladder" → ⊥) → IsFound text One tickers d found → IsAsked version tickers d (alone found)
   found_asked version text (Some command) is other found = (asks_of version tickers d (command_in command) (is ∙ ap Some (sym found.0)) found.1 (of_each version (command_in command) found.2), found.3)
-  found_asked version text None is other found = no_ladder version text is other (λ command asks. found command (one_word tickers d text command is asks) (fits_asked version tickers d command asks))
+  found_asked version text None is other found = no_ladder version text is other (λ command asks. found command (one_word tickers d version text command is asks) (fits_asked version tickers d command asks))
 
   -- what is found by the word `credit` is what is asked for in a version that has credit
   pub credit_asked : (version : Version) (found : Option owned.Command) → HasCredit version → IsWord words.Credit d → IsFound (codes "credit") Two tickers d found → IsAsked version tickers d (alone found)
@@ -52,16 +52,16 @@ module _ (tickers : List (List ℕ)) (d : Data) where
     asks_of version tickers d (command_in command) (is ∙ ap Some (sym found.0)) found.1 (of_later version (command_in command) (omega (arith, has)) found.2),
     found.3,
   )
-  credit_asked version None has is found = no_ladder version (codes "credit") is (no_command_word tickers d (SetCredit 0 None 0)) (λ command asks. found command (one_word tickers d (codes "credit") command is asks) (fits_asked version tickers d command asks))
+  credit_asked version None has is found = no_ladder version (codes "credit") is (no_command_word tickers d (SetCredit 0 None 0)) (λ command asks. found command (one_word tickers d version (codes "credit") command is asks) (fits_asked version tickers d command asks))
 
   -- an object with the word `credit` asks for nothing in a version without credit
   pub no_credit_asked : (version : Version) → (¬ HasCredit version) → IsWord words.Credit d → (asked : Asked) → AsksFor version tickers d asked → ⊥
-  no_credit_asked version has_none is = no_ladder version (codes "credit") is (no_command_word tickers d (SetCredit 0 None 0)) (λ command asks. has_none (gives_credit version command (one_word tickers d (codes "credit") command is asks) asks.of_version))
+  no_credit_asked version has_none is = no_ladder version (codes "credit") is (no_command_word tickers d (SetCredit 0 None 0)) (λ command asks. has_none (gives_credit version command (one_word tickers d version (codes "credit") command is asks) asks.1))
 
   -- an order that is placed is what is asked for
   pub placed_asked : (version : Version) (command : owned.Command) → IsWord words.Place d → IsPlaced version tickers d (Ok command) → IsAsked version tickers d (Ok (line_is.Asks command))
   placed_asked version command is placed = (asks_of version tickers d (command_in command) (is ∙ ap Some (sym placed.0)) placed.1 placed.2, placed.3)
 
   pub place_refused : (version : Version) (fault : LineFault) → IsWord words.Place d → IsPlaced version tickers d (Err fault) → IsAsked version tickers d (Err fault)
-  place_refused version NoCommand is none = no_ladder version (codes "place") is (λ same. absurd cc) (λ command asks. none command (one_word tickers d (codes "place") command is asks) asks.of_version (fits_asked version tickers d command asks))
+  place_refused version NoCommand is none = no_ladder version (codes "place") is (λ same. absurd cc) (λ command asks. none command (one_word tickers d version (codes "place") command is asks) asks.1 (fits_asked version tickers d command asks))
   place_refused version Memory is none = tt

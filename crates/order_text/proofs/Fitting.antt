@@ -19,7 +19,7 @@ use Rattle.wire_records.proofs.FieldForms.{command_fits}
 use Rattle.ticker_table.specs.Tickers.{AreTickers}
 use Rattle.wire_records.specs.Versions.{IsOfVersion}
 use Rattle.wire_records.specs.declared.version.Version.{Version}
-use Rattle.order_text.specs.Lines.{whole_of, signed_of, asset_named, IsTickerText, IsEntryOf, AreWeights, Asset, Small, Number, Signed, HasAt, order_members, Asks, AsksLadder, Asked, Alone, OfLadder, commands_of, LineAsks}
+use Rattle.order_text.specs.Lines.{whole_of, signed_of, padded, asset_named, IsEntryOf, AreWeights, Asset, Small, Number, Signed, HasAt, order_members, AsksLadder, Asked, Alone, OfLadder, commands_of, LineAsks, AsksFor}
 use Rattle.order_text.specs.Private.{HasOrder}
 use Rattle.curve_ladder.specs.declared.segment.Segment.{Segment}
 use Rattle.curve_ladder.specs.Segments.{segments_of, request_of}
@@ -122,7 +122,7 @@ spaces_fit n = All-replicate (λ b. b < 256) n 32 (omega arith)
 join_fits : (xs ys : List ℕ) → All (λ b. b < 128) xs → AreBytes ys → AreBytes (xs ++ ys)
 join_fits xs ys h g = All-append (λ b. b < 256) xs ys (All-weaker (λ b. b < 128) (λ b. b < 256) (λ b small. omega (arith, small)) xs h) g
 
-ticker_fits : (text ticker : List ℕ) → IsTickerText text ticker → (length ticker ≡ 8) × AreBytes ticker
+ticker_fits : (text ticker : List ℕ) → All (λ byte. byte < 128) text × (padded text ≡ Some ticker) → (length ticker ≡ 8) × AreBytes ticker
 ticker_fits text ticker h = by (nat_le (length text) 8) refl h.1
   where
     by : (b : Bool) → nat_le (length text) 8 ≡ b → (if b then Some (text ++ replicate (8 - length text) 32) else None) ≡ Some ticker → (length ticker ≡ 8) × AreBytes ticker
@@ -161,8 +161,8 @@ module _ (tickers : List (List ℕ)) (d : Data) (are : AreTickers tickers) (all 
       }
 
   -- the parts of the command that an object asks for fit its record
-  parts_fit : (version : Version) (command : Command) → Asks version tickers d command → FitsCommand command
-  parts_fit version (AddAsset ticker) asks = let f = (fits_asked version tickers d (AddAsset ticker) asks).0.0.2 in ticker_fits f.0 ticker f.2
+  parts_fit : (version : Version) (command : Command) → AsksFor version tickers d (Alone command) → FitsCommand command
+  parts_fit version (AddAsset ticker) asks = let f = (fits_asked version tickers d (AddAsset ticker) asks).0.0.2 in ticker_fits f.0 ticker (f.2, f.3)
   parts_fit version OpenAccount asks = tt
   parts_fit version (Deposit account None ticks) asks = money_fits account ticks _ (fits_asked version tickers d (Deposit account None ticks) asks).0
   parts_fit version (Deposit account (Some asset) units) asks = units_fit account asset units _ (fits_asked version tickers d (Deposit account (Some asset) units) asks).0
@@ -180,7 +180,7 @@ module _ (tickers : List (List ℕ)) (d : Data) (are : AreTickers tickers) (all 
   parts_fit version (SetCredit account (Some asset) units) asks = units_fit account asset units _ (fits_asked version tickers d (SetCredit account (Some asset) units) asks).0
 
   -- the command that an object asks for fits its record
-  pub command_asked_fits : (version : Version) (command : Command) → Asks version tickers d command → IsCommand command
+  pub command_asked_fits : (version : Version) (command : Command) → AsksFor version tickers d (Alone command) → IsCommand command
   command_asked_fits version command asks = command_fits command (parts_fit version command asks)
 
   -- the request of a segment
@@ -220,6 +220,6 @@ pub commands_fit : (version : Version) (tickers : List (List ℕ)) (line : List 
 commands_fit version tickers line (Alone command) are asks =
     let all = read_fits line asks.value asks.reads in (
       All-cons IsCommand command [] (command_asked_fits tickers asks.value are all version command asks.asks) (All-nil IsCommand),
-      All-cons (IsOfVersion version) command [] asks.asks.of_version (All-nil (IsOfVersion version)),
+      All-cons (IsOfVersion version) command [] asks.asks.1 (All-nil (IsOfVersion version)),
     )
 commands_fit version tickers line (OfLadder commands) are asks = ladder_fits tickers asks.value are (read_fits line asks.value asks.reads) version commands asks.asks

@@ -26,7 +26,7 @@ use Rattle.order_text.specs.declared.line.LineRead.TheVariants as line_is
 use Rattle.order_text.specs.Answers.{IsAskedAs, IsRead, IsShort}
 use Rattle.order_text.specs.declared.line.LineFault.{LineFault}
 use Rattle.order_text.specs.declared.line.LineFault.TheVariants.{NoCommand, Memory}
-use Rattle.order_text.specs.Lines.{IsBlank, Leave, LineAsks, SaysNothing, whole_of, signed_of, IsPoint, ArePoints, Small, Weights, Points, HasAt, ladder_members, Asks, AsksLadder, Asked, Alone, OfLadder, AsksFor}
+use Rattle.order_text.specs.Lines.{IsBlank, Leave, LineAsks, SaysNothing, whole_of, signed_of, IsPoint, ArePoints, Small, Weights, Points, HasAt, ladder_members, AsksLadder, Asked, Alone, OfLadder, AsksFor}
 use Rattle.order_text.specs.Private.{text_at, number_at, items_at, in_32_bits, rate_of, point_in, point_of, put_points, word_of, HasLadder, IsLaddered, IsAsked, AddsSome, AreAfter}
 use Rattle.order_text.proofs.AskedFor.{word_asked, text_of, text_where}
 
@@ -195,11 +195,11 @@ module _ (tickers : List (List ℕ)) (d : Data) where
   -- ---- the object of a ladder
   -- an object that asks for a ladder's orders has its members
   pub has_ladder : (commands : List Command) → (asks : AsksLadder tickers d commands) → HasLadder tickers d asks.ladder asks.account asks.row
-  has_ladder commands asks = (recursion_from_All (λ m. HasAt tickers d m.0 m.1) (ladder_members asks.ladder asks.account asks.row) asks.members).1
+  has_ladder commands asks = (recursion_from_All (λ m. HasAt tickers d m.0 m.1) (ladder_members asks.ladder asks.account asks.row) asks.members.0).1
 
   pub ladder_asked : (commands : List Command) → AsksLadder tickers d commands → text_at (codes "do") d ≡ Some (codes "ladder")
   ladder_asked commands asks =
-      text_of tickers d (codes "do") (codes "ladder") (recursion_from_All (λ m. HasAt tickers d m.0 m.1) (ladder_members asks.ladder asks.account asks.row) asks.members).0
+      text_of tickers d (codes "do") (codes "ladder") (recursion_from_All (λ m. HasAt tickers d m.0 m.1) (ladder_members asks.ladder asks.account asks.row) asks.members.0).0
 
   -- an object with a ladder's members asks for its orders
   pub asks_ladder : (commands : List owned.Command) → text_at (codes "do") d ≡ Some (codes "ladder") → IsLaddered tickers d (Ok commands) → AsksLadder tickers d (map command_in commands)
@@ -207,8 +207,7 @@ module _ (tickers : List (List ℕ)) (d : Data) where
     ladder = is.0.0;
     account = is.0.1;
     row = is.0.2;
-    members = All-from_recursion (λ m. HasAt tickers d m.0 m.1) (ladder_members is.0.0 is.0.1 is.0.2) (text_where tickers d (codes "do") (codes "ladder") word, is.0.3);
-    keys = is.0.4;
+    members = (All-from_recursion (λ m. HasAt tickers d m.0 m.1) (ladder_members is.0.0 is.0.1 is.0.2) (text_where tickers d (codes "do") (codes "ladder") word, is.0.3), is.0.4);
     lawful = is.0.5;
     commands_are = is.0.6;
   }
@@ -217,7 +216,7 @@ module _ (tickers : List (List ℕ)) (d : Data) where
   pub no_command_word : (command : Command) → word_of command ≡ codes "ladder" → ⊥
   no_command_word = search rules
 
-  pub not_alone : (version : Version) (command : Command) → text_at (codes "do") d ≡ Some (codes "ladder") → Asks version tickers d command → ⊥
+  pub not_alone : (version : Version) (command : Command) → text_at (codes "do") d ≡ Some (codes "ladder") → AsksFor version tickers d (Alone command) → ⊥
   not_alone version command word asks = no_command_word command (ap (λ o. unwrap_or o []) (sym (word_asked version tickers d command asks) ∙ word))
 
   -- an object without a weight vector asks for no ladder's orders
@@ -239,7 +238,7 @@ module _ (tickers : List (List ℕ)) (d : Data) where
   -- an object with the word of a ladder that asks for none asks for nothing
   pub no_ladder : (version : Version) → text_at (codes "do") d ≡ Some (codes "ladder") → IsLaddered tickers d (Err NoCommand) → (asked : Asked) → AsksFor version tickers d asked → ⊥
   no_ladder version word none (Alone command) asks = not_alone version command word asks
-  no_ladder version word none (OfLadder commands) asks = none asks.ladder asks.account asks.row (has_ladder commands asks) asks.keys asks.lawful
+  no_ladder version word none (OfLadder commands) asks = none asks.ladder asks.account asks.row (has_ladder commands asks) asks.members.1 asks.lawful
 
   -- a fault is the answer for an object with the word `ladder`
   pub ladder_refused : (version : Version) → text_at (codes "do") d ≡ Some (codes "ladder") → (fault : LineFault) → IsLaddered tickers d (Err fault) → IsAsked version tickers d (Err fault)

@@ -11,7 +11,7 @@ use Rattle.order_text.specs.declared.line.LineRead.TheVariants as line_is
 use Rattle.order_text.specs.declared.line.LineFault.{LineFault}
 use Rattle.order_text.specs.declared.line.LineFault.TheVariants.{NoCommand, Memory}
 use Rattle.wire_records.specs.declared.version.Version.{Version}
-use Rattle.order_text.specs.Lines.{HasKeys, padded, asset_named, Value, Text, Ticker, Asset, Small, Number, Signed, Weights, Points, HasAt, members_of, ladder_members, Asks, AsksLadder, Asked, Alone, OfLadder, AsksFor, commands_of, Leaves, Leave, Says}
+use Rattle.order_text.specs.Lines.{HasKeys, padded, asset_named, Value, Text, Ticker, Asset, Small, Number, Signed, Weights, Points, HasAt, members_of, ladder_members, AsksLadder, Asked, Alone, OfLadder, AsksFor, commands_of, Leaves, Leave, Says}
 use Rattle.order_text.specs.Private.{text_at, number_at, signed_at, members_at, items_at, word_of, Has, put_members, put_points}
 use Rattle.order_text.proofs.AskedFor.{word_asked, fits_asked}
 use Rattle.order_text.proofs.Weights.{made_where}
@@ -114,7 +114,7 @@ Gives tickers d key (Points points) = option_and_then (λ items. put_points item
 
 gives : (tickers : List (List ℕ)) (d : Data) (key : List ℕ) (value : Value) → HasAt tickers d key value → Gives tickers d key value
 gives tickers d key (Text text) has = rw has.1 has.2
-gives tickers d key (Ticker ticker) has = rw (has.1, has.2.1) has.2.2.1
+gives tickers d key (Ticker ticker) has = rw (has.1, has.2.1) has.2.3
 gives tickers d key (Asset asset) has = rw (has.1, has.2.1) has.2.2
 gives tickers d key (Small number) has = rw has.1 has.2.0
 gives tickers d key (Number number) has = rw has.1 has.2
@@ -132,7 +132,7 @@ record Tells (tickers : List (List ℕ)) (d : Data) (command : Command) : Type 0
   fields : AllByRecursion (λ m. Gives tickers d m.0 m.1) (drop 1 (members_of command))
   keys : HasKeys (length (members_of command)) d
 
-tells : (version : Version) (tickers : List (List ℕ)) (d : Data) (command : Command) → Asks version tickers d command → Tells tickers d command
+tells : (version : Version) (tickers : List (List ℕ)) (d : Data) (command : Command) → AsksFor version tickers d (Alone command) → Tells tickers d command
 tells version tickers d command asks =
     let fits = fits_asked version tickers d command asks in
     record { word = word_asked version tickers d command asks; fields = all_give tickers d (drop 1 (members_of command)) fits.0; keys = fits.1 }
@@ -142,7 +142,7 @@ one_told : (tickers : List (List ℕ)) (d : Data) (a b : Command) → Tells tick
 one_told = search (rules, refl)
 
 -- an object asks for one command
-one_asked : (version : Version) (tickers : List (List ℕ)) (d : Data) (a b : Command) → Asks version tickers d a → Asks version tickers d b → a ≡ b
+one_asked : (version : Version) (tickers : List (List ℕ)) (d : Data) (a b : Command) → AsksFor version tickers d (Alone a) → AsksFor version tickers d (Alone b) → a ≡ b
 one_asked version tickers d a b x y = one_told tickers d a b (tells version tickers d a x) (tells version tickers d b y)
 
 -- an object asks for the orders of one ladder: its values are determined

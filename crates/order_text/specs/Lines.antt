@@ -16,13 +16,9 @@ use Rattle.curve_ladder.specs.declared.points.Point.{Point}
 use Rattle.curve_ladder.specs.Ladders.{Ladder, IsLadder}
 use Rattle.curve_ladder.specs.Segments.{requests_of}
 
--- a space, a tab or a carriage return
-abbrev pub IsBlankByte : ℕ → Type 0
-IsBlankByte byte = (byte ≡ 32) ⊎ (byte ≡ 9) ⊎ (byte ≡ 13)
-
--- a blank line: spaces, tabs and carriage returns alone, or nothing
+-- a blank line: spaces (32), tabs (9) and carriage returns (13) alone, or nothing
 abbrev pub IsBlank : List ℕ → Type 0
-IsBlank line = All IsBlankByte line
+IsBlank line = All (λ byte. (byte ≡ 32) ⊎ (byte ≡ 9) ⊎ (byte ≡ 13)) line
 
 -- the whole number that a value is, 0 or more
 abbrev pub whole_of : Data → Option ℕ
@@ -35,10 +31,6 @@ signed_of d = option_and_then as_i64 (as_number d)
 -- a text of at most 8 bytes, padded with spaces (32) to 8
 abbrev pub padded : List ℕ → Option (List ℕ)
 padded text = if nat_le (length text) 8 then Some (text ++ replicate (8 - length text) 32) else None
-
--- the ticker that a text is: one of ASCII alone, padded
-abbrev pub IsTickerText : List ℕ → List ℕ → Type 0
-IsTickerText text ticker = All (λ byte. byte < 128) text × (padded text ≡ Some ticker)
 
 -- the number of the asset that a text names, given the tickers in the order of their numbers
 abbrev pub asset_named : List (List ℕ) → List ℕ → Option ℕ
@@ -73,7 +65,7 @@ ArePoints no_items (p ∷ points) = ⊥
 ArePoints (item d items) [] = ⊥
 ArePoints (item d items) (p ∷ points) = IsPoint d p × ArePoints items points
 
--- What may be at a key: a text as it is, the text of a ticker, one that names an asset, a whole number of 32 bits or of 64, one of
+-- What may be at a key: a text as it is, a ticker, whose text is one of ASCII alone and is padded, a text that names an asset, a whole number of 32 bits or of 64, one of
 -- 64 with a sign, a weight vector, and points.
 pub data Value : Type 0 where
   Text : (text : List ℕ) → Value
@@ -88,7 +80,7 @@ pub data Value : Type 0 where
 -- a JSON value has this meaning, given the tickers of the lines before
 abbrev pub IsValue : List (List ℕ) → Data → Value → Type 0
 IsValue tickers d (Text text) = as_str d ≡ Some text
-IsValue tickers d (Ticker ticker) = (text : List ℕ) × (as_str d ≡ Some text) × IsTickerText text ticker
+IsValue tickers d (Ticker ticker) = (text : List ℕ) × (as_str d ≡ Some text) × All (λ byte. byte < 128) text × (padded text ≡ Some ticker)
 IsValue tickers d (Asset asset) = (text : List ℕ) × (as_str d ≡ Some text) × (asset_named tickers text ≡ Some asset)
 IsValue tickers d (Small number) = (whole_of d ≡ Some number) × (number < 2 ^ 32)
 IsValue tickers d (Number number) = whole_of d ≡ Some number
@@ -103,6 +95,10 @@ HasAt tickers d key is = (value : Data) × (get key d ≡ Some value) × IsValue
 -- an object has `count` keys
 abbrev pub HasKeys : ℕ → Data → Type 0
 HasKeys count d = option_map members_len (as_object d) ≡ Some count
+
+-- an object has these members, and no further keys
+abbrev pub HasMembers : List (List ℕ) → Data → List (List ℕ × Value) → Type 0
+HasMembers tickers d members = All (λ m. HasAt tickers d m.0 m.1) members × HasKeys (length members) d
 
 -- the members of the object that asks for an order, besides `do` and `last`
 abbrev pub order_members : Request → List (List ℕ × Value)
@@ -126,25 +122,17 @@ members_of (RunBatch budget) = (codes "do", Text (codes "batch")) ∷ (codes "bu
 members_of (Place (Some last) request) = (codes "do", Text (codes "place")) ∷ (codes "last", Small last) ∷ order_members request
 members_of (SetCredit account kind count) = (codes "do", Text (codes "credit")) ∷ amount_members account kind count
 
--- an object asks for a command of a version: it has the command's members, and no further keys
-pub record Asks (version : Version) (tickers : List (List ℕ)) (d : Data) (command : Command) : Type 0 where
-  pub members : All (λ m. HasAt tickers d m.0 m.1) (members_of command)
-  pub keys : HasKeys (length (members_of command)) d
-  pub of_version : IsOfVersion version command
-
 -- the members of the object that asks for a ladder's orders
 abbrev pub ladder_members : Ladder → ℕ → List Entry → List (List ℕ × Value)
 ladder_members l account row =
     (codes "do", Text (codes "ladder")) ∷ (codes "account", Small account) ∷ (codes "points", Points l.points) ∷ (codes "turns", Small l.turns) ∷ (codes "weights", Weights row) ∷ []
 
--- An object asks for the orders of a ladder: it has the ladder's members, and no further keys, and the ladder has no fault. The
--- commands place its orders, one for each drop of its rate, in ascending prices; each version has them.
+-- An object asks for the orders of a ladder: it has the ladder's members, and the ladder has no fault. The commands place its orders, one for each drop of its rate, in ascending prices; each version has them.
 pub record AsksLadder (tickers : List (List ℕ)) (d : Data) (commands : List Command) : Type 0 where
   pub ladder : Ladder
   pub account : ℕ
   pub row : List Entry
-  pub members : All (λ m. HasAt tickers d m.0 m.1) (ladder_members ladder account row)
-  pub keys : HasKeys (length (ladder_members ladder account row)) d
+  pub members : HasMembers tickers d (ladder_members ladder account row)
   pub lawful : IsLadder ladder
   pub commands_are : commands ≡ map (Place None) (requests_of ladder account row)
 
@@ -160,7 +148,7 @@ commands_of (OfLadder commands) = commands
 
 -- an object asks for this in a version
 abbrev pub AsksFor : Version → List (List ℕ) → Data → Asked → Type 0
-AsksFor version tickers d (Alone command) = Asks version tickers d command
+AsksFor version tickers d (Alone command) = HasMembers tickers d (members_of command) × IsOfVersion version command
 AsksFor version tickers d (OfLadder commands) = AsksLadder tickers d commands
 
 -- a line asks for this in a version: it isn't blank, and it is the UTF-8 of an object that does

@@ -21,7 +21,7 @@ use Rattle.order_text.specs.declared.line.LineFault.{LineFault}
 use Rattle.order_text.specs.declared.word.Word.{Word}
 use Rattle.order_text.specs.declared.word.Word.TheVariants as words
 use Rattle.order_text.specs.declared.line.LineFault.TheVariants.{NoCommand, Memory}
-use Rattle.order_text.specs.Lines.{HasKeys, whole_of, signed_of, asset_named, Value, Asset, Small, Number, Signed, HasAt, order_members, members_of, ladder_members, Asks, AsksLadder, Asked, AsksFor, Leaves}
+use Rattle.order_text.specs.Lines.{HasKeys, whole_of, signed_of, asset_named, Value, Asset, Small, Number, Signed, HasAt, order_members, members_of, ladder_members, AsksLadder, Asked, AsksFor, Leaves, Alone}
 
 -- the text at a key
 abbrev pub text_at : List ℕ → Data → Option (List ℕ)
@@ -134,7 +134,7 @@ IsLaddered tickers d (Err Memory) = Unit {0}
 -- the answer for an object in a version
 abbrev pub IsAsked : Version → List (List ℕ) → Data → Result LineRead LineFault → Type 0
 IsAsked version tickers d (Ok line_is.Blank) = ⊥
-IsAsked version tickers d (Ok (line_is.Asks command)) = Asks version tickers d (command_in command) × HasShortRow (command_in command)
+IsAsked version tickers d (Ok (line_is.Asks command)) = AsksFor version tickers d (Alone (command_in command)) × HasShortRow (command_in command)
 IsAsked version tickers d (Ok (line_is.Many commands)) = AsksLadder tickers d (map command_in commands) × All (λ command. HasShortRow (command_in command)) commands
 IsAsked version tickers d (Err NoCommand) = (asked : Asked) → ¬ AsksFor version tickers d asked
 IsAsked version tickers d (Err Memory) = Unit {0}

@@ -8,7 +8,8 @@ use Rattle.flow_accounts.specs.Balances.{Account, Balances, IsAccount, account_c
 use Rattle.flow_accounts.proofs.ListLemmas.{zero_at}
 use Rattle.flow_orders.specs.Orders.{Order}
 use Rattle.flow_orders.specs.Outcomes.{trades_of, fill_of}
-use Rattle.flow_orders.specs.Trades.{Trade, trades, after_fill, is_live, staying, going_on}
+use Rattle.flow_orders.specs.Trades.{Trade, trades, after_fill, staying, going_on}
+use Rattle.flow_orders.proofs.TradeFacts.{is_live}
 use Rattle.order_book.specs.Book.{HasOrder, without}
 use Rattle.market_rules.specs.Market.{Market, IsConsistent}
 use Rattle.statement_rules.specs.Views.{own_trades}

@@ -20,7 +20,8 @@ use Rattle.fill_caps.specs.Settles.{Settles}
 use Rattle.fill_caps.proofs.SettledBalances.{settles}
 use Rattle.order_book.specs.Book.{without}
 use Rattle.market_rules.specs.Market.{Market, IsConsistent}
-use Rattle.market_rules.specs.Step.{FirstRefusal, Accepts, Answers, ServesRead, placed, after_batch}
+use Rattle.market_rules.specs.Step.{FirstRefusal, Accepts, ServesRead, placed, after_batch}
+use Rattle.market_rules.proofs.ByFirst.{Answers}
 use Rattle.market_rules.proofs.Accepted.{past_unless}
 use Rattle.market_rules.proofs.Lawful.{consistent_is_lawful}
 use Rattle.statement_rules.specs.Views.{Event, Adds, Opens, Deposits, Withdraws, Credits, Places, Cancels, Refuses, Clears, Skips, is_there, event_if, seen, own_trades, own_fills}

@@ -1,6 +1,6 @@
 -- What was handed to the output, call by call.
 use Rattle.std.proofs.Common.{◌≡◌, ◌≢◌, ◌+◌, ◌≤◌, ℕ, List, [], ◌∷◌, ◌++◌, length, Option, Some, None, Result, Ok, Err, OnOk, IsErr, inl, inr, append-nil, refl, sym, ap, ◌∙◌, arith}
-use Rattle.flow_io.specs.Streams.{Grows, Called, HandsOver}
+use Rattle.flow_io.specs.Streams.{Grows, HandsOver}
 use Rattle.flow_io.proofs.Calls.{hands_nothing, hands_more, hands_alike}
 use Rattle.wire_records.specs.Grammars.{encode_all}
 use Rattle.wire_records.specs.Reading as reading
@@ -21,7 +21,7 @@ piece_some (x ∷ xs) some = refl
 
 module _ {O : Type 0} (calls : O → Option (List (List ℕ))) (held : O → Option (List ℕ)) where
   -- bytes were written by one call
-  pub puts_some : {E : Type 0} (result : Result (Unit {0}) E) (before after : O) (bytes : List ℕ) → bytes ≢ [] → Called (calls before) (calls after) (bytes ∷ []) → OnOk result (Grows (held before) (held after) bytes) → HandsOver calls held before after (IsErr result) (piece bytes)
+  pub puts_some : {E : Type 0} (result : Result (Unit {0}) E) (before after : O) (bytes : List ℕ) → bytes ≢ [] → Grows (calls before) (calls after) (bytes ∷ []) → OnOk result (Grows (held before) (held after) bytes) → HandsOver calls held before after (IsErr result) (piece bytes)
   puts_some (Ok done) before after bytes some called written = rw (piece_some bytes some) (record { called = called; written = λ not. rw (append-nil bytes) written })
   puts_some (Err why) before after bytes some called written = rw (piece_some bytes some) (record { called = called; written = λ not. absurd (not refl) })
 
