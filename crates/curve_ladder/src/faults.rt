@@ -3,7 +3,7 @@ ghost use Rattle.std.specs.Prelude.{◌≡◌, ◌↔◌, ◌≤◌, ◌<ℤ◌,
 ghost use Rattle.demand_curve.specs.Demand.{IsWithin, most_rate};
 ghost use Rattle.flow_orders.specs.Orders.{most_ticks, IsFrom1To};
 ghost use Rattle.curve_ladder.specs.declared.faults.LadderFault.{LadderFault};
-ghost use Rattle.curve_ladder.specs.Ladders.{IsLadder, HasLawfulCount, most_points};
+ghost use Rattle.curve_ladder.specs.Ladders.{IsLadder, most_points};
 ghost use Rattle.curve_ladder.specs.Faults.{FailsFirstAt, IsFaultOf, HasConsistentPriceAt, HasConsistentRateAt, HasConsistentPrices, HasConsistentRates};
 
 use crate::points::Point;

@@ -1,5 +1,5 @@
 -- Days that are checked one after the other are one history.
-use Rattle.std.proofs.Common.{◌≡◌, ◌+◌, ◌<◌, ◌≤◌, ◌^◌, ℕ, List, [], ◌∷◌, ◌++◌, length, refl, sym, ap, subst, ◌∙◌, append_assoc, append-nil, length-append, arith}
+use Rattle.std.proofs.Common.{◌≡◌, ◌+◌, ◌<◌, ◌^◌, ℕ, List, [], ◌∷◌, ◌++◌, length, sym, ap, subst, ◌∙◌, append-nil, length-append, arith}
 use Rattle.std.specs.List.{concat, flat_map}
 use Rattle.std.proofs.lemmas.Grind.{flat_map-append}
 use Rattle.wire_records.specs.Records.{Record}
@@ -17,7 +17,7 @@ use Rattle.flow_exchange.specs.declared.status.Status.TheVariants.{Done}
 use Rattle.flow_exchange.specs.HistoryFiles.{AreLegalFrom}
 use Rattle.flow_exchange.specs.Program.{ComesTo}
 use Rattle.flow_exchange.proofs.HistoryOf.{consistent_start}
-use Rattle.flow_laws.specs.Days.{AreDays, AreOneHistory, DaysAreOneHistory}
+use Rattle.flow_laws.specs.Days.{AreDays, DaysAreOneHistory}
 use Rattle.flow_laws.proofs.RunsAudited.{pairs_short}
 use Rattle.flow_laws.proofs.GoingOn.{orders_few}
 use Rattle.flow_laws.proofs.CheckpointLaws.{checkpoints_of_histories, histories_have_checkpoints}

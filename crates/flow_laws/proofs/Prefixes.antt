@@ -1,14 +1,8 @@
 -- What a form gets to is a prefix of the text that the bytes determine.
-use Rattle.std.proofs.Common.{◌≡◌, ◌<◌, ◌⊎◌, ℕ, List, [], ◌∷◌, ◌++◌, Option, Some, None, length, take, drop, inl, inr, append-nil, append_assoc, length-append, refl, sym, ap, subst, ◌∙◌, arith}
-use Rattle.std.specs.List.{flat_map}
-use Rattle.std.proofs.lemmas.Bool.{cases_eq, cases_lt}
-use Rattle.std.proofs.lemmas.Grind.{flat_map-append}
+use Rattle.std.proofs.Common.{◌<◌, ℕ, List, [], ◌∷◌, ◌++◌, length, take, drop, inl, inr, append-nil, length-append, refl, sym, ap, subst, ◌∙◌, arith}
 use Rattle.std.proofs.lemmas.List.{take-append-drop, take_at}
-use Rattle.wire_records.specs.Records.{Record, encoding}
-use Rattle.wire_records.specs.CommandRecords.{record_of}
-use Rattle.wire_records.specs.Commands.{Command}
+use Rattle.wire_records.specs.Records.{Record}
 use Rattle.wire_records.specs.declared.version.Version.{Version}
-use Rattle.wire_records.specs.Formats.{command_magic_of}
 use Rattle.market_rules.specs.Market.{Market, IsConsistent}
 use Rattle.word_driver.specs.Ended.{Ended}
 use Rattle.word_driver.specs.Word.{Word}

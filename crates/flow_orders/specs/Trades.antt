@@ -1,5 +1,5 @@
 -- What orders trade in a batch, the imbalance of each asset, and which orders stay.
-use Rattle.std.specs.Prelude.{ℕ, ◌+◌, nat_lt, ◌==◌, Bool, not, ℤ, pos, ◌*ℤ◌, List, [], ◌∷◌, map, length}
+use Rattle.std.specs.Prelude.{ℕ, ◌+◌, nat_lt, ◌==◌, not, ℤ, pos, ◌*ℤ◌, List, [], ◌∷◌, map, length}
 use Rattle.std.specs.List.{range_with_len, filter}
 use Rattle.list_sums.specs.Sums.{int_sum_by}
 use Rattle.weight_rows.specs.Rows.{weight_in, price_of}

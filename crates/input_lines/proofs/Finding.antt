@@ -1,5 +1,5 @@
 -- Finding the next line of an input: looking further, passing over a long line, and what was found.
-use Rattle.std.proofs.Common.{◌≡◌, ◌≢◌, ◌⊎◌, inl, inr, ⊎_elim, Result, Ok, Err, IfOk, OnErr, ℕ, ◌+◌, ◌-◌, ◌<◌, ◌≤◌, List, [], ◌∷◌, ◌++◌, Option, Some, None, IfSome, length, take, drop, refl, sym, ap, subst, ◌∙◌, append_assoc, append-nil, length-append, take-append-drop, arith, rules}
+use Rattle.std.proofs.Common.{◌≡◌, ◌≢◌, ◌⊎◌, ⊎_elim, Result, Ok, Err, IfOk, OnErr, ℕ, ◌+◌, ◌-◌, ◌<◌, ◌≤◌, List, [], ◌∷◌, ◌++◌, Option, Some, None, IfSome, length, take, drop, refl, sym, ap, subst, ◌∙◌, append_assoc, append-nil, length-append, take-append-drop, arith}
 use Rattle.std.proofs.lemmas.List.{length-drop, length-take-le, drop-drop}
 use Rattle.std.proofs.lemmas.List.Elements.{Contains-append_cases}
 use Rattle.std.proofs.Math.Seq.{take-add, take-append_seam, drop-length}
@@ -14,7 +14,7 @@ use Rattle.file_units.proofs.Gone.{within_limit}
 use Rattle.line_records.specs.Lines.{IsPiece}
 use Rattle.line_records.proofs.Pieces.{empty_piece, line_found, no_line_found}
 use Rattle.input_lines.specs.Long.{most_line}
-use Rattle.input_lines.specs.Finding.{IsOpen, HasEnded, Found, Finds, FindsNone}
+use Rattle.input_lines.specs.Finding.{IsOpen, Found, Finds, FindsNone}
 use Rattle.input_lines.specs.Private.{IsPassing, IsSearching}
 use Rattle.input_lines.specs.declared.lines.Next.{Next}
 use Rattle.input_lines.specs.declared.lines.Next.TheVariants as next

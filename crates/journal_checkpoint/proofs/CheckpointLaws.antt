@@ -1,5 +1,5 @@
 -- The checkpoint subcommand results in one end and one text, and has an end for all bytes.
-use Rattle.std.proofs.Common.{◌≡◌, ◌+◌, ℕ, [], inl, refl, sym, ◌∙◌}
+use Rattle.std.proofs.Common.{◌≡◌, ◌+◌, [], inl, refl, sym, ◌∙◌}
 use Rattle.wire_records.specs.declared.version.Version.{Version}
 use Rattle.market_rules.specs.Market.{IsConsistent}
 use Rattle.market_snapshot.specs.Checkpoints.{checkpoint_bytes}

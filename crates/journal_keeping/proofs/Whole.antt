@@ -27,7 +27,7 @@ use Rattle.journal_keeping.specs.declared.fault.KeepFault.{KeepFault}
 use Rattle.journal_keeping.specs.declared.fault.KeepFault.TheVariants.{Read, Write, Disk, Memory, NotDisk, Damaged, Rejected, NotFlow, BadCheckpoint, Torn, TooLong}
 use Rattle.journal_keeping.specs.Starts.{head_of, source_start, sources}
 use Rattle.journal_keeping.specs.Keeping.{IsKeptJournal, StandsForJournal, IsLegalImage, HoldsLegal, GoesOn, GoesOnIn, StandIn, Runs, KeepsIn}
-use Rattle.journal_keeping.specs.Openings.{Opening, New, Legal, IsOpening, OpensAs}
+use Rattle.journal_keeping.specs.Openings.{Opening, New, Legal}
 use Rattle.journal_keeping.specs.Openings as opening
 use Rattle.journal_keeping.specs.Ended.{IsRefused, HasKeptAll, ComesTo, IsRefusal, MayBeginAgain}
 use Rattle.journal_keeping.specs.Private.{Adds, IfEnded, ServesOn}

@@ -1,14 +1,13 @@
 -- How a kept file begins, and how a source of commands begins: with a checkpoint, or without one.
-use Rattle.std.specs.Prelude.{◌≡◌, ℕ, List, [], ◌++◌, Some, None}
+use Rattle.std.specs.Prelude.{ℕ, List, ◌++◌, Some, None}
 use Rattle.wire_records.specs.Records.{Record}
 use Rattle.wire_records.specs.Grammars.{BeginsWithNone}
 use Rattle.wire_records.specs.Reading.{Format}
 use Rattle.wire_records.specs.Formats.{commands, command_magic_of}
 use Rattle.wire_records.specs.declared.version.Version.{Version}
-use Rattle.market_rules.specs.Market.{Market}
-use Rattle.market_snapshot.specs.Checkpoints.{checkpoint_bytes, IsCheckpoint, HasCheckpointMagic, BeginsWithNoCheckpoint}
+use Rattle.market_snapshot.specs.Checkpoints.{checkpoint_bytes, HasCheckpointMagic, BeginsWithNoCheckpoint}
 use Rattle.market_history.specs.Histories.{Start, Empty, Kept, CanStart}
-use Rattle.journal_disk.specs.Entries.{Head, IsHead, entries}
+use Rattle.journal_disk.specs.Entries.{Head}
 
 -- the version of a journal that begins so
 abbrev pub version_of : Start → Version

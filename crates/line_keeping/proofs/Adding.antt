@@ -1,25 +1,19 @@
 -- A disk that entries were added to, and then more: what a crash leaves at each moment and at the return.
-use Rattle.std.proofs.Common.{◌≡◌, ◌⊎◌, inl, inr, ℕ, ◌+◌, ◌≤◌, List, [], ◌∷◌, ◌++◌, Option, None, IfSome, IsSome, length, length-append, take, map, refl, sym, ap, subst, ◌∙◌, arith, append_assoc}
-use Rattle.std.proofs.lemmas.List.{append-nil, map-append, take_all}
+use Rattle.std.proofs.Common.{◌≡◌, ◌⊎◌, inl, inr, ℕ, ◌+◌, ◌≤◌, List, [], ◌∷◌, ◌++◌, Option, IfSome, length, length-append, take, map, refl, sym, ap, subst, ◌∙◌, arith, append_assoc}
 use Rattle.std.proofs.Math.Seq.{take-append-add, take-append_seam}
-use Rattle.wire_records.specs.Records.{Record}
-use Rattle.wire_records.specs.Commands.{Pair}
 use Rattle.wire_records.specs.Versions.{IsReadAs}
-use Rattle.flow_orders.specs.Outcomes.{Outcome}
 use Rattle.canonical_rule.specs.Canonical.{IsCanonicalOutcome}
 use Rattle.journal_records.specs.Formats.{records_of}
 use Rattle.market_rules.specs.Market.{Market}
 use Rattle.market_rules.specs.Journal.{Follows}
 use Rattle.market_history.specs.Histories.{Start}
-use Rattle.disk_edge.specs.Disks.{DiskState, AtEachMoment}
+use Rattle.disk_edge.specs.Disks.{DiskState}
 use Rattle.disk_edge.proofs.Moments.{weaker, then_more}
-use Rattle.journal_disk.specs.Pairs.{RecordPair}
-use Rattle.journal_disk.specs.Entries.{entries, IsNewDisk, StandsFor, Keeps}
+use Rattle.journal_disk.specs.Entries.{entries, IsNewDisk, Keeps}
 use Rattle.journal_disk.proofs.OneList.{new_none, few_first, few_none}
 use Rattle.journal_keeping.specs.Starts.{head_of}
-use Rattle.journal_keeping.specs.Keeping.{IsKeptJournal, StandsForJournal, GoesOn, KeepsFirst, IsStillNew, DuringCall, AtReturn, Runs}
+use Rattle.journal_keeping.specs.Keeping.{IsKeptJournal, StandsForJournal, GoesOn, KeepsFirst, IsStillNew, DuringCall, Runs}
 use Rattle.journal_keeping.specs.Serving.{HasKept}
-use Rattle.journal_keeping.specs.Private.{SoFar}
 use Rattle.journal_keeping.specs.Pacing.{asked_of}
 use Rattle.journal_keeping.proofs.Legal.{more_pairs_stay}
 use Rattle.line_keeping.specs.Private.{HasAdded}

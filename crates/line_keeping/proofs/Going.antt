@@ -1,14 +1,9 @@
 -- Lines that are answered one after the other: none yet, one more, and how it ends.
-use Rattle.std.proofs.Common.{◌≡◌, ◌≢◌, ◌⊎◌, inl, inr, ℕ, ◌+◌, ◌-◌, ◌*◌, ◌<◌, ◌≤◌, ◌^◌, List, [], ◌∷◌, ◌++◌, Option, None, Some, IfSome, Result, Ok, Err, length, length-append, take, drop, map, refl, sym, ap, subst, ◌∙◌, arith, append_assoc}
+use Rattle.std.proofs.Common.{◌≡◌, ◌≢◌, ◌⊎◌, inl, inr, ℕ, ◌+◌, ◌-◌, ◌≤◌, ◌^◌, List, [], ◌∷◌, ◌++◌, Option, None, Some, Result, Err, length, length-append, map, refl, sym, ap, subst, ◌∙◌, arith, append_assoc}
 use Rattle.std.specs.Prelude.{All}
-use Rattle.std.proofs.lemmas.List.{append-nil, take_all, length-take-le}
-use Rattle.std.proofs.lemmas.Bool.{cases_lt}
-use Rattle.std.proofs.Math.Seq.{take-append_seam, take-length}
+use Rattle.std.proofs.lemmas.List.{append-nil}
 use Rattle.std.proofs.lemmas.List.Elements.{All-push, All-nil}
 use Rattle.std.proofs.lemmas.Grind.{flat_map-append}
-use Rattle.wire_records.specs.Records.{Record}
-use Rattle.wire_records.specs.Commands.{Pair}
-use Rattle.flow_orders.specs.Outcomes.{Outcome}
 use Rattle.journal_records.specs.Formats.{records_of}
 use Rattle.market_rules.specs.Market.{Market}
 use Rattle.market_history.specs.Histories.{Start}
@@ -18,18 +13,17 @@ use Rattle.flow_io.proofs.Reading.{Takes-more}
 use Rattle.file_units.specs.Inputs.{known}
 use Rattle.disk_edge.specs.Disks.{DiskState, IsDisk}
 use Rattle.journal_disk.specs.Entries.{Keeps}
-use Rattle.line_records.specs.Lines.{IsPiece, AreLines, ended_by_feeds}
-use Rattle.line_records.proofs.Pieces.{lines_after, any_or_none}
+use Rattle.line_records.specs.Lines.{IsPiece, ended_by_feeds}
 use Rattle.journal_keeping.specs.Starts.{head_of}
 use Rattle.journal_keeping.specs.Keeping.{IsKeptJournal, Runs}
 use Rattle.journal_keeping.specs.Pacing.{asked_of}
 use Rattle.journal_keeping.specs.declared.fault.KeepFault.{KeepFault}
-use Rattle.journal_keeping.specs.declared.fault.KeepFault.TheVariants.{Read, Write, Disk, Memory, TooLong}
+use Rattle.journal_keeping.specs.declared.fault.KeepFault.TheVariants.{Write, Disk, Memory}
 use Rattle.journal_keeping.proofs.Serving.{ended}
 use Rattle.journal_keeping.proofs.Turns.{so_none}
-use Rattle.input_lines.specs.Finding.{IsOpen, HasEnded, FindsNone}
-use Rattle.line_keeping.specs.Answers.{IsNoCommand, no_command_text, IsLineBegun, AreLinesAnswered, AreAnsweredInto}
-use Rattle.line_keeping.specs.Outputs.{Output, Gains}
+use Rattle.input_lines.specs.Finding.{IsOpen}
+use Rattle.line_keeping.specs.Answers.{IsLineBegun, AreAnsweredInto}
+use Rattle.line_keeping.specs.Outputs.{Output}
 use Rattle.line_keeping.specs.Private.{HasAdded, AnswersLine, Breaks, BreaksLine, HasGone, StopAt, AreRead, AreDone, BrokeOff, AnswersOn}
 use Rattle.line_keeping.proofs.Gaining.{gains_none, gains_more, gains_wider}
 use Rattle.line_keeping.proofs.Joining.{Pairs, Texts, lines_more}

@@ -1,5 +1,5 @@
 -- An input of a new disk that is opened: what is before its lines, from the bytes that were taken of it.
-use Rattle.std.proofs.Common.{◌≡◌, ◌≢◌, ◌⊎◌, inl, inr, ℕ, ◌+◌, ◌-◌, ◌<◌, ◌≤◌, List, [], ◌∷◌, ◌++◌, Option, None, Some, IfSome, IsTrue, Bool, true, false, length, length-append, take, refl, sym, ap, subst, ◌∙◌, arith, append_assoc}
+use Rattle.std.proofs.Common.{◌≡◌, ◌⊎◌, inl, inr, ℕ, ◌+◌, ◌-◌, ◌≤◌, List, [], ◌∷◌, ◌++◌, Option, None, Some, IfSome, true, false, length, length-append, take, refl, sym, ap, subst, ◌∙◌, arith}
 use Rattle.std.proofs.lemmas.List.{take_all}
 use Rattle.flow_io.specs.Streams.{Takes}
 use Rattle.flow_io.specs.Windows.{WindowState, empty_window}
@@ -14,14 +14,12 @@ use Rattle.market_history.specs.Kept.{FindsNone, FindsKept}
 use Rattle.market_history.specs.declared.start.StartFault.TheVariants as start
 use Rattle.market_history.proofs.Starting.{kept_magic, magic_on}
 use Rattle.journal_disk.specs.Entries.{framed}
-use Rattle.journal_keeping.specs.declared.fault.KeepFault.{KeepFault}
 use Rattle.journal_keeping.specs.declared.fault.KeepFault.TheVariants.{Read, Memory, BadCheckpoint}
 use Rattle.journal_keeping.specs.Starts.{BeginsUnsound}
-use Rattle.journal_keeping.specs.Pacing.{IsInCheckpoint}
 use Rattle.journal_keeping.proofs.Starts.{magic_first, magic_long}
 use Rattle.journal_keeping.proofs.SourceStart.{first_taken, in_checkpoint}
 use Rattle.input_lines.specs.Long.{most_line}
-use Rattle.input_lines.specs.Finding.{IsOpen, HasEnded}
+use Rattle.input_lines.specs.Finding.{HasEnded}
 use Rattle.line_keeping.specs.Inputs.{newest, IsBefore, IsUnopened}
 use Rattle.line_keeping.specs.Making.{HasShownStart}
 use Rattle.line_keeping.specs.Private.{ShowsStart, ShowsNone, IsBehind, OpensInput, NotOpened}

@@ -1,5 +1,5 @@
 -- Commands that are served, kept and told one after the other: none yet, one more, and one at which it broke off.
-use Rattle.std.proofs.Common.{◌≡◌, ◌≢◌, inl, inr, ℕ, ◌+◌, ◌*◌, ◌<◌, ◌≤◌, ◌^◌, List, [], ◌∷◌, ◌++◌, Option, None, Some, IfSome, IsSome, length, length-append, take, drop, get_or, take-append-drop, map, refl, sym, ap, subst, ◌∙◌, arith, rules, append_assoc}
+use Rattle.std.proofs.Common.{◌≡◌, inl, inr, ℕ, ◌+◌, ◌*◌, ◌<◌, ◌≤◌, ◌^◌, List, [], ◌∷◌, ◌++◌, Option, None, Some, IfSome, IsSome, length, length-append, take, drop, get_or, take-append-drop, map, refl, sym, ap, subst, ◌∙◌, arith, rules, append_assoc}
 use Rattle.std.proofs.lemmas.List.{append-nil, map-append, drop_more}
 use Rattle.std.proofs.Math.Seq.{take-add}
 use Rattle.wire_records.specs.Records.{Record, encoding}
@@ -9,13 +9,12 @@ use Rattle.flow_orders.specs.Outcomes.{Outcome}
 use Rattle.journal_records.specs.Pairs.{IsPair, pair_encoding}
 use Rattle.journal_records.specs.Formats.{records_of}
 use Rattle.market_rules.specs.Market.{Market}
-use Rattle.market_history.specs.Histories.{Start}
 use Rattle.batch_report.specs.Reports.{IsReport}
 use Rattle.disk_edge.specs.Disks.{DiskState, IsDisk, AtEachMoment}
 use Rattle.journal_disk.specs.Pairs.{RecordPair, IsRecordPair, pair_bytes}
 use Rattle.journal_disk.specs.Entries.{Head, WithOrWithout, Keeps}
 use Rattle.journal_keeping.specs.Starts.{head_of}
-use Rattle.journal_keeping.specs.Keeping.{IsKeptJournal, Runs}
+use Rattle.journal_keeping.specs.Keeping.{Runs}
 use Rattle.journal_keeping.specs.Pacing.{asked_of}
 use Rattle.journal_keeping.specs.Private.{KeepsOneMore}
 use Rattle.journal_keeping.specs.declared.fault.KeepFault.{KeepFault}
@@ -24,9 +23,9 @@ use Rattle.journal_keeping.proofs.Serving.{ended, failed}
 use Rattle.journal_keeping.proofs.Turns.{canonical_is_admissible, is_record_pair, same_bytes, so_none, so_more}
 use Rattle.line_keeping.specs.Answers.{AreAnswered}
 use Rattle.line_keeping.specs.Outputs.{Output, Gains}
-use Rattle.line_keeping.specs.Private.{HasAdded, IsReadyFor, IsServed, AnswersCommand, BreaksCommand, AnswersCommands, BreaksCommands}
+use Rattle.line_keeping.specs.Private.{IsReadyFor, IsServed, AnswersCommand, BreaksCommand, AnswersCommands, BreaksCommands}
 use Rattle.line_keeping.proofs.Gaining.{gains_none, gains_more, gains_wider}
-use Rattle.line_keeping.proofs.Joining.{Pairs, Texts, answered_more}
+use Rattle.line_keeping.proofs.Joining.{Pairs, answered_more}
 
 -- the longest entry
 pub longest_entry : (pair : Pair Record Outcome) → IsPair pair → length (pair_encoding pair) ≤ 263178

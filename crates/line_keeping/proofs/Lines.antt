@@ -1,31 +1,28 @@
 -- One line that is answered, or at which answering broke off.
-use Rattle.std.proofs.Common.{◌≡◌, ◌≢◌, ◌⊎◌, inl, inr, ℕ, ◌+◌, ◌*◌, ◌≤◌, List, [], ◌∷◌, ◌++◌, Option, None, Result, Ok, Err, OnOk, IfErr, length, map, refl, sym, ap, subst, ◌∙◌, arith}
+use Rattle.std.proofs.Common.{◌≡◌, inl, inr, ℕ, ◌+◌, ◌*◌, ◌≤◌, List, [], ◌∷◌, ◌++◌, None, Result, Ok, Err, OnOk, IfErr, length, map, refl, sym, ap, subst, arith}
 use Rattle.std.specs.Prelude.{All}
 use Rattle.std.proofs.lemmas.List.{append-nil, length-map}
 use Rattle.std.proofs.lemmas.List.Elements.{All-nil}
-use Rattle.wire_records.specs.Records.{Record}
-use Rattle.wire_records.specs.Commands.{Command, Pair, Place}
+use Rattle.wire_records.specs.Commands.{Command, Place}
 use Rattle.wire_records.specs.declared.version.Version.{Version}
-use Rattle.flow_orders.specs.Outcomes.{Outcome}
 use Rattle.journal_records.specs.Formats.{records_of}
 use Rattle.market_rules.specs.Market.{Market}
 use Rattle.market_history.specs.Histories.{Start}
 use Rattle.curve_ladder.specs.Segments.{segments_of, request_of}
 use Rattle.curve_ladder.proofs.SegmentLemmas.{segments_count}
-use Rattle.order_text.specs.Lines.{IsBlank, Asked, Alone, OfLadder, commands_of, AsksLadder, LineAsks, SaysNothing}
+use Rattle.order_text.specs.Lines.{IsBlank, Asked, OfLadder, commands_of, LineAsks, SaysNothing}
 use Rattle.disk_edge.specs.Disks.{DiskState, IsDisk}
 use Rattle.journal_disk.specs.Entries.{Keeps}
 use Rattle.journal_keeping.specs.Starts.{head_of}
 use Rattle.journal_keeping.specs.Keeping.{IsKeptJournal, Runs}
-use Rattle.journal_keeping.specs.Pacing.{asked_of}
 use Rattle.journal_keeping.specs.declared.fault.KeepFault.{KeepFault}
 use Rattle.journal_keeping.specs.declared.fault.KeepFault.TheVariants.{Read, Write, Disk, Memory, NotDisk, Damaged, Rejected, NotFlow, BadCheckpoint, Torn, TooLong}
 use Rattle.journal_keeping.proofs.Serving.{ended}
 use Rattle.journal_keeping.proofs.Turns.{so_none}
-use Rattle.input_lines.specs.Long.{most_line, IsLong}
-use Rattle.line_keeping.specs.Answers.{HasNoAnswer, IsNoCommand, AsksIn, no_command_text, IsLineAnswered, IsLineBegun}
+use Rattle.input_lines.specs.Long.{IsLong}
+use Rattle.line_keeping.specs.Answers.{HasNoAnswer, IsNoCommand, AsksIn, no_command_text}
 use Rattle.line_keeping.specs.Outputs.{Output, Gains}
-use Rattle.line_keeping.specs.Private.{AnswersCommands, Breaks, BreaksCommands, AreBegun, Refuses, AnswersLine, BreaksLine}
+use Rattle.line_keeping.specs.Private.{AnswersCommands, BreaksCommands, Refuses, AnswersLine, BreaksLine}
 use Rattle.line_keeping.proofs.Gaining.{gains_none, gains_wider}
 use Rattle.line_keeping.proofs.Joining.{Pairs, Texts}
 

@@ -1,16 +1,16 @@
 -- Whether an input begins with the magic of a checkpoint, from the bytes that were taken of it.
-use Rattle.std.proofs.Common.{◌≡◌, ◌≢◌, ◌⊎◌, inl, inr, ℕ, ◌+◌, ◌-◌, ◌<◌, ◌≤◌, List, [], ◌++◌, Option, None, Some, IfSome, IsTrue, Bool, true, false, length, length-append, take, drop, refl, sym, ap, subst, ◌∙◌, arith, append_assoc, take-append-drop, rules}
-use Rattle.std.proofs.lemmas.List.{append-nil, take-append-le, take_all, length-take-le}
+use Rattle.std.proofs.Common.{◌≡◌, ◌≢◌, ◌⊎◌, inl, inr, ℕ, ◌+◌, ◌-◌, ◌<◌, ◌≤◌, List, [], ◌++◌, Option, None, Some, IfSome, IsTrue, Bool, true, false, length, length-append, take, drop, refl, sym, ap, subst, ◌∙◌, arith, take-append-drop, rules}
+use Rattle.std.proofs.lemmas.List.{append-nil, take-append-le}
 use Rattle.std.proofs.Math.Seq.{take-append-add, take-append_seam}
 use Rattle.flow_io.specs.Streams.{Takes}
-use Rattle.flow_io.specs.Windows.{WindowState, IsPast, IsWithin, Fills}
+use Rattle.flow_io.specs.Windows.{WindowState, IsWithin, Fills}
 use Rattle.flow_io.specs.declared.window.InputEnd.{InputEnd}
 use Rattle.flow_io.specs.declared.window.InputEnd.TheVariants.{Source, Limit}
 use Rattle.flow_io.proofs.Reading.{Takes-more}
 use Rattle.file_units.specs.Inputs.{known}
 use Rattle.file_units.proofs.Gone.{within_limit}
 use Rattle.market_snapshot.specs.Checkpoints.{checkpoint_magic, HasCheckpointMagic}
-use Rattle.input_lines.specs.Finding.{IsOpen, HasEnded}
+use Rattle.input_lines.specs.Finding.{HasEnded}
 use Rattle.input_lines.proofs.Finding.{filled_held, filled_place, filled_limit, filled_room, taken_whole, joined_none, stays_open}
 use Rattle.line_keeping.specs.Inputs.{IsUnopened}
 use Rattle.line_keeping.specs.Private.{HasLooked, ShowsStart, ShowsNone}

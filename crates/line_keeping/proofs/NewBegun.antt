@@ -1,5 +1,5 @@
 -- A new disk is made one that begins with what is before the lines of its input.
-use Rattle.std.proofs.Common.{◌≡◌, ◌≢◌, ◌⊎◌, inl, inr, ℕ, ◌+◌, ◌-◌, ◌*◌, ◌<◌, ◌≤◌, ◌^◌, List, [], ◌∷◌, ◌++◌, Option, Some, None, IfSome, length, length-append, take, refl, sym, ap, subst, ◌∙◌, arith, append_assoc}
+use Rattle.std.proofs.Common.{◌≡◌, ◌≢◌, ◌⊎◌, inr, ℕ, ◌+◌, ◌-◌, ◌*◌, ◌<◌, ◌≤◌, ◌^◌, List, [], ◌∷◌, ◌++◌, Option, Some, None, IfSome, length, length-append, take, refl, sym, ap, subst, ◌∙◌, arith, append_assoc}
 use Rattle.std.specs.Prelude.{All}
 use Rattle.std.proofs.lemmas.List.Elements.{All-nil}
 use Rattle.wire_records.specs.Records.{Record}
@@ -31,7 +31,7 @@ use Rattle.journal_keeping.proofs.ShortCheckpoints.{starts_begin_files}
 use Rattle.journal_keeping.proofs.Begun.{makes_new}
 use Rattle.journal_keeping.proofs.Counts.{if_some}
 use Rattle.journal_keeping.proofs.Magic.{at_most}
-use Rattle.line_keeping.specs.Inputs.{start_after, bytes_before, IsBefore, HasLinesWithin}
+use Rattle.line_keeping.specs.Inputs.{start_after, bytes_before, HasLinesWithin}
 use Rattle.line_keeping.specs.Keeping.{InputBegins}
 use Rattle.line_keeping.specs.Lengths.{GrowsAtMost}
 use Rattle.line_keeping.specs.Private.{IsBehind, OpensInput, NotOpened, IsBegun, HasBegun, OpensSafely, NotBegun}

@@ -1,8 +1,5 @@
 -- What a crash leaves on a disk while it is opened, and how long it is.
-use Rattle.std.proofs.Common.{◌≡◌, ◌⊎◌, inl, inr, ℕ, ◌+◌, ◌*◌, ◌≤◌, List, [], ◌++◌, Option, Some, None, IfSome, length, length-append, refl, sym, ap, subst, ◌∙◌, arith}
-use Rattle.wire_records.specs.Records.{Record}
-use Rattle.wire_records.specs.Commands.{Pair}
-use Rattle.flow_orders.specs.Outcomes.{Outcome}
+use Rattle.std.proofs.Common.{inl, inr, ℕ, ◌+◌, ◌*◌, ◌≤◌, List, ◌++◌, Option, Some, None, IfSome, length, length-append, refl, sym, subst, arith}
 use Rattle.flow_io.specs.Windows.{WindowState}
 use Rattle.market_rules.specs.Market.{Market}
 use Rattle.market_snapshot.specs.Checkpoints.{checkpoint_bytes, IsCheckpoint}

@@ -1,8 +1,8 @@
 -- A command that is served: its record is framed as it was written, and so is the entry that answers it.
-use Rattle.std.proofs.Common.{◌≡◌, ◌≢◌, ℕ, ◌+◌, ◌<◌, ◌^◌, Result, Ok, Err, OnOk, List, [], ◌∷◌, ◌++◌, length, length-append, drop, refl, sym, ap, subst, ◌∙◌, arith}
+use Rattle.std.proofs.Common.{◌≡◌, ℕ, ◌+◌, ◌<◌, ◌^◌, Result, Ok, Err, OnOk, List, [], ◌∷◌, ◌++◌, length, length-append, refl, sym, ap, subst, ◌∙◌, arith}
 use Rattle.std.proofs.lemmas.List.{append-nil}
 use Rattle.wire_records.specs.Records.{Record, IsRecord, encoding, most_body}
-use Rattle.wire_records.specs.Commands.{Answer, Pair}
+use Rattle.wire_records.specs.Commands.{Pair}
 use Rattle.wire_records.specs.Versions.{IsReadAs}
 use Rattle.wire_records.specs.Framing.{IsPrefix}
 use Rattle.wire_records.specs.declared.record.Framed.{Framed}
@@ -12,13 +12,12 @@ use Rattle.wire_records.proofs.OneAnswer.{written_framed}
 use Rattle.wire_records.proofs.Readings.{read_own}
 use Rattle.wire_records.proofs.Encoded.{length-encoding}
 use Rattle.flow_orders.specs.Outcomes.{Outcome, IsAdmissibleOutcome}
-use Rattle.canonical_rule.specs.Canonical.{IsCanonicalOutcome}
 use Rattle.canonical_journals.proofs.CanonicalIsLegal.{canonical_follows_are_admissible}
 use Rattle.canonical_journals.proofs.LawProofs.{steps_number_one}
 use Rattle.journal_records.specs.Pairs.{IsPair, pair_encoding}
 use Rattle.journal_records.specs.Formats.{journals, records_of}
 use Rattle.journal_records.proofs.Files.{journals_readable}
-use Rattle.market_rules.specs.Market.{Market, IsConsistent}
+use Rattle.market_rules.specs.Market.{Market}
 use Rattle.market_rules.specs.Journal.{Step}
 use Rattle.batch_audit.specs.Legal.{IsLegalPair}
 use Rattle.batch_report.specs.Reports.{IsReport}

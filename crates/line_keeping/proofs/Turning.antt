@@ -1,5 +1,5 @@
 -- One turn of the loop over lines: a line was found, and how it ends.
-use Rattle.std.proofs.Common.{◌≡◌, ◌≢◌, ◌⊎◌, inl, inr, ℕ, ◌+◌, ◌-◌, ◌*◌, ◌<◌, ◌≤◌, ◌^◌, List, [], ◌∷◌, ◌++◌, Option, None, Some, IfSome, Result, Ok, Err, OnOk, IfErr, length, length-append, take, drop, map, refl, sym, ap, subst, ◌∙◌, arith, append_assoc}
+use Rattle.std.proofs.Common.{◌≡◌, ◌≢◌, inl, ℕ, ◌+◌, ◌-◌, ◌<◌, ◌≤◌, ◌^◌, List, [], ◌∷◌, ◌++◌, Option, IfSome, Result, Ok, Err, OnOk, IfErr, length, length-append, take, drop, map, refl, sym, ap, subst, ◌∙◌, arith, append_assoc}
 use Rattle.std.proofs.lemmas.List.{append-nil, length-take-le}
 use Rattle.wire_records.specs.Records.{Record}
 use Rattle.wire_records.specs.Commands.{Pair}
@@ -19,7 +19,7 @@ use Rattle.journal_keeping.specs.Keeping.{IsKeptJournal, Runs}
 use Rattle.journal_keeping.specs.Pacing.{asked_of}
 use Rattle.journal_keeping.proofs.Serving.{ended}
 use Rattle.journal_keeping.specs.declared.fault.KeepFault.{KeepFault}
-use Rattle.journal_keeping.specs.declared.fault.KeepFault.TheVariants.{Read, TooLong, Memory}
+use Rattle.journal_keeping.specs.declared.fault.KeepFault.TheVariants.{Read, TooLong}
 use Rattle.input_lines.specs.Finding.{Finds, FindsNone}
 use Rattle.input_lines.specs.declared.lines.Next.TheVariants as next
 use Rattle.line_keeping.specs.Answers.{no_command_text, AreLinesAnswered}

@@ -1,22 +1,19 @@
 -- What serving lines results in, from what its parts did.
-use Rattle.std.proofs.Common.{◌≡◌, ◌≢◌, ◌⊎◌, ⊎_elim, inl, inr, ℕ, zero, suc, ◌+◌, ◌-◌, ◌*◌, ◌<◌, ◌≤◌, List, [], ◌∷◌, ◌++◌, Option, None, Some, IfSome, IsSome, Result, Ok, Err, OnOk, Contains, length, length-append, length-take, take, drop, get_or, map, refl, sym, ap, subst, ◌∙◌, arith, append_assoc, take-append-drop}
+use Rattle.std.proofs.Common.{◌≡◌, ◌≢◌, ◌⊎◌, inl, inr, ℕ, zero, suc, ◌+◌, ◌-◌, ◌*◌, ◌<◌, ◌≤◌, List, [], ◌∷◌, ◌++◌, Option, None, Some, IfSome, IsSome, Result, Ok, Err, Contains, length, length-append, length-take, take, drop, get_or, map, refl, sym, ap, subst, ◌∙◌, arith, append_assoc, take-append-drop}
 use Rattle.std.specs.Prelude.{All, ⊤}
 use Rattle.std.proofs.lemmas.List.{append-nil}
 use Rattle.std.proofs.lemmas.List.Elements.{All-nil, Contains-append_left}
 use Rattle.std.proofs.Math.Seq.{take-append-add, take-append_seam}
-use Rattle.wire_records.specs.Records.{Record}
-use Rattle.wire_records.specs.Commands.{Pair}
 use Rattle.word_driver.specs.Does.{IsTaken}
 use Rattle.flow_io.specs.Streams.{Takes, TakesAtMost}
 use Rattle.flow_io.specs.Windows.{WindowState}
 use Rattle.flow_io.proofs.Reading.{Takes-more}
-use Rattle.flow_orders.specs.Outcomes.{Outcome}
 use Rattle.file_units.specs.Inputs.{known}
-use Rattle.file_units.proofs.Gone.{considered, went_well}
+use Rattle.file_units.proofs.Gone.{went_well}
 use Rattle.journal_records.specs.Formats.{records_of}
 use Rattle.market_rules.specs.Market.{Market}
 use Rattle.market_snapshot.specs.Checkpoints.{checkpoint_magic, checkpoint_bytes, IsCheckpoint, HasCheckpointMagic}
-use Rattle.market_history.specs.Histories.{Start, market_of, CanStart}
+use Rattle.market_history.specs.Histories.{Start, CanStart}
 use Rattle.market_history.proofs.Starting.{magic_on}
 use Rattle.disk_edge.specs.Disks.{DiskState, IsDisk, AtEachMoment}
 use Rattle.disk_edge.proofs.Moments.{weaker, then_more, at_the_end}
@@ -28,7 +25,7 @@ use Rattle.journal_keeping.specs.declared.fault.KeepFault.{KeepFault}
 use Rattle.journal_keeping.specs.declared.fault.KeepFault.TheVariants.{Read, Write, Disk, Memory, NotDisk, Damaged, Rejected, NotFlow, BadCheckpoint, Torn, TooLong}
 use Rattle.journal_keeping.specs.Starts.{head_of}
 use Rattle.journal_keeping.specs.Keeping.{IsKeptJournal, HoldsLegal}
-use Rattle.journal_keeping.specs.Openings.{New, Legal, IsOpening, KeepNone}
+use Rattle.journal_keeping.specs.Openings.{KeepNone}
 use Rattle.journal_keeping.specs.Lengths.{BringsAtMost, HasYetAtMost}
 use Rattle.journal_keeping.specs.Ended.{IsRefusal, MayBeginAgain}
 use Rattle.journal_keeping.specs.Beginning as keeping
@@ -40,17 +37,16 @@ use Rattle.journal_keeping.proofs.Magic.{at_most}
 use Rattle.journal_keeping.proofs.Serving.{unbegun, opened_first}
 use Rattle.journal_keeping.proofs.Whole.{after_run}
 use Rattle.line_keeping.specs.Answers.{AreLinesAnswered, AreAnsweredInto, AreFirstAnswered}
-use Rattle.line_keeping.specs.Inputs.{start_after, bytes_before, IsBefore, HasLines, HasLinesWithin}
-use Rattle.line_keeping.specs.Outputs.{Output, Gains}
-use Rattle.line_keeping.specs.Keeping.{GoesOnIn, InputBegins, AreServed, Serves, ServesIn}
+use Rattle.line_keeping.specs.Inputs.{bytes_before, IsBefore, HasLines, HasLinesWithin}
+use Rattle.line_keeping.specs.Outputs.{Output}
+use Rattle.line_keeping.specs.Keeping.{GoesOnIn, InputBegins, ServesIn}
 use Rattle.line_keeping.specs.Lengths.{GrowsAtMost}
 use Rattle.line_keeping.specs.Ended.{OpensAs, HasAnswered, BreaksOff, KeepsJust, RunsOutAt, ComesTo, LeavesNone}
-use Rattle.line_keeping.specs.Private.{IsBehind, IsBegun, OpensSafely, StaysKept, IsPart, NotBegun, StopAt, AreRead, AreDone, BrokeOff, AnswersOn}
+use Rattle.line_keeping.specs.Private.{IsBehind, IsBegun, OpensSafely, IsPart, NotBegun, StopAt, AreRead, AreDone, BrokeOff, AnswersOn}
 use Rattle.line_keeping.proofs.Joining.{Pairs, Texts}
 use Rattle.line_keeping.proofs.Gaining.{gains_none, gains_wider}
 use Rattle.line_keeping.proofs.Endings.{less_or_not}
 use Rattle.line_keeping.proofs.Looking.{too_few}
-use Rattle.line_keeping.proofs.NewBegun.{input_begins}
 use Rattle.line_keeping.proofs.Safety.{brought}
 
 -- ---- nothing was answered

@@ -1,5 +1,5 @@
 -- For private functions alone: what finding a line, answering it, and opening an input do.
-use Rattle.std.specs.Prelude.{◌≡◌, ◌≢◌, ◌<◌, ◌≤◌, ◌+◌, ◌*◌, ◌-◌, ◌^◌, ◌⊎◌, ℕ, List, [], ◌∷◌, ◌++◌, length, take, map, All, Option, Some, None, IfSome, IsSome, Bool, IsTrue, Result, Ok, Err}
+use Rattle.std.specs.Prelude.{◌≡◌, ◌≢◌, ◌<◌, ◌≤◌, ◌+◌, ◌*◌, ◌-◌, ◌^◌, ◌⊎◌, ℕ, List, [], ◌∷◌, ◌++◌, length, take, map, All, Option, None, IfSome, IsSome, Bool, IsTrue, Result, Ok, Err}
 use Rattle.flow_io.specs.Streams.{Takes}
 use Rattle.flow_io.specs.Windows.{WindowState}
 use Rattle.wire_records.specs.Records.{Record}

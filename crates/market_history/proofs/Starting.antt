@@ -9,17 +9,17 @@ use Rattle.flow_io.proofs.Reading.{Takes-more}
 use Rattle.wire_records.specs.Grammars.{BeginsWith, BeginsWithNone}
 use Rattle.wire_records.specs.declared.version.Version.{Version}
 use Rattle.file_units.specs.Inputs.{known}
-use Rattle.file_units.proofs.Gone.{considered, within_limit}
+use Rattle.file_units.proofs.Gone.{within_limit}
 use Rattle.journal_records.specs.Formats.{journals, journal_magic_of}
 use Rattle.journal_records.proofs.Files.{eight}
 use Rattle.market_rules.specs.Market.{Market, empty_market}
 use Rattle.market_snapshot.specs.Checkpoints.{checkpoint_magic, checkpoint_bytes, IsCheckpoint, HasCheckpointMagic, BeginsWithNoCheckpoint}
 use Rattle.market_history.specs.declared.start.StartFault.{StartFault}
 use Rattle.market_history.specs.declared.start.StartFault.TheVariants.{Read, Memory, NotFlow, NoCheckpoint}
-use Rattle.market_history.specs.Histories.{Start, Empty, Kept, starts, BeginsUnsound, BeginsOtherwise}
+use Rattle.market_history.specs.Histories.{Empty, Kept, starts, BeginsOtherwise}
 use Rattle.market_history.specs.Reading.{Begins, AreFound, AreTaken, FindsStart}
-use Rattle.market_history.specs.Kept.{TakesOn, FindsNone, FindsKept}
-use Rattle.market_history.proofs.Taking.{known_after, considered_after}
+use Rattle.market_history.specs.Kept.{FindsNone, FindsKept}
+use Rattle.market_history.proofs.Taking.{considered_after}
 
 -- a checkpoint begins with its magic
 pub made_magic : (market : Market) → (rest : List ℕ) × (checkpoint_bytes market ≡ checkpoint_magic ++ rest)

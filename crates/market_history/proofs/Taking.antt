@@ -2,10 +2,10 @@
 use Rattle.std.proofs.Common.{◌≡◌, ◌+◌, ◌-◌, ◌<◌, ◌≤◌, ℕ, List, [], ◌++◌, Option, Some, None, length, take, drop, append-nil, append_assoc, length-append, refl, sym, ap, ◌∙◌, subst, arith}
 use Rattle.std.proofs.lemmas.List.{take-append-drop, take-append-le, take_at, take_all, length-take-le}
 use Rattle.flow_io.specs.Streams.{Takes}
-use Rattle.flow_io.specs.Windows.{WindowState, IsWithin, Fills, IsPast}
+use Rattle.flow_io.specs.Windows.{WindowState}
 use Rattle.flow_io.proofs.Reading.{Takes-more}
 use Rattle.file_units.specs.Inputs.{known}
-use Rattle.file_units.proofs.Gone.{considered, within_limit}
+use Rattle.file_units.proofs.Gone.{considered}
 use Rattle.market_rules.specs.Market.{Market}
 use Rattle.market_snapshot.specs.Checkpoints.{IsCheckpoint, BeginsWithNoCheckpoint}
 use Rattle.market_history.specs.declared.start.StartFault.TheVariants.{Read, Memory, NoCheckpoint}

@@ -1,5 +1,5 @@
 -- The market: what is kept from one command to the next, and the invariant that holds of it at all times.
-use Rattle.std.specs.Prelude.{◌≡◌, ◌≢◌, ◌⊎◌, ℕ, ◌*◌, ◌^◌, ◌<◌, ◌≤◌, ℤ, pos, neg_ℤ, ◌+ℤ◌, ◌-ℤ◌, ◌≤ℤ◌, unsigned_abs, List, [], map, length, All, AllPairs, Option, Some, None, true, false}
+use Rattle.std.specs.Prelude.{◌≡◌, ◌≢◌, ◌⊎◌, ℕ, ◌*◌, ◌^◌, ◌<◌, ◌≤◌, ℤ, pos, neg_ℤ, ◌+ℤ◌, ◌-ℤ◌, ◌≤ℤ◌, unsigned_abs, List, [], map, length, All, AllPairs, Option, true, false}
 use Rattle.std.specs.Int.{int_min, int_max}
 use Rattle.weight_rows.specs.Rows.{IsPrice}
 use Rattle.ticker_table.specs.Tickers.{AreTickers}

@@ -14,7 +14,7 @@ use Rattle.market_snapshot.specs.Checkpoints.{IsCheckpoint}
 use Rattle.market_snapshot.specs.Encodings.{order_encoding, parts_of_market}
 use Rattle.market_snapshot.specs.Widths.{FitsOrder, FitWidths}
 use Rattle.market_snapshot.specs.Layout.{account_size, order_size}
-use Rattle.market_snapshot.proofs.Walking.{order_length, StandsAt, stands, StandAhead, none_passed, next_stands, one_passed, HasPrefix, prefix}
+use Rattle.market_snapshot.proofs.Walking.{order_length, stands, StandAhead, none_passed, next_stands, one_passed, HasPrefix, prefix}
 use Rattle.market_snapshot.proofs.OneMarket.{fitting, encoded}
 
 -- a number that is complete is read alike, whatever follows

@@ -1,7 +1,7 @@
 -- Which of a book's orders are live when one is cancelled and when gaps are closed.
-use Rattle.std.proofs.Common.{◌≡◌, ◌≢◌, ℕ, zero, suc, ◌+◌, ◌<◌, ◌≤◌, ◌-◌, Bool, true, false, not, cond, filter, eqb, ◌||◌, Some, List, [], ◌∷◌, ◌++◌, length, get_or, IsTrue, true≢false, refl, sym, ap, subst, ⊎_elim, ◌∙◌, arith}
+use Rattle.std.proofs.Common.{◌≡◌, ◌≢◌, ℕ, zero, suc, ◌+◌, ◌<◌, ◌-◌, Bool, true, false, not, cond, filter, eqb, ◌||◌, Some, List, [], ◌∷◌, ◌++◌, length, get_or, IsTrue, true≢false, refl, sym, ap, subst, ⊎_elim, ◌∙◌, arith}
 use Rattle.std.specs.Prelude.{All, AllPairs, Contains, unwrap_or}
-use Rattle.std.specs.List.{remove, list_any, slice_get, HoldsAt}
+use Rattle.std.specs.List.{list_any, slice_get, HoldsAt}
 use Rattle.std.proofs.lemmas.Bool.{cases_Bool, cases_lt, eqb-true}
 use Rattle.std.proofs.lemmas.List.{length_push}
 use Rattle.std.proofs.lemmas.List.Edits.{length-remove}

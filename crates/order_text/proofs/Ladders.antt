@@ -26,7 +26,7 @@ use Rattle.order_text.specs.declared.line.LineRead.TheVariants as line_is
 use Rattle.order_text.specs.Answers.{IsAskedAs, IsRead, IsShort}
 use Rattle.order_text.specs.declared.line.LineFault.{LineFault}
 use Rattle.order_text.specs.declared.line.LineFault.TheVariants.{NoCommand, Memory}
-use Rattle.order_text.specs.Lines.{IsBlank, Leave, LineAsks, SaysNothing, whole_of, signed_of, IsPoint, ArePoints, Small, Weights, Points, HasAt, ladder_members, AsksLadder, Asked, Alone, OfLadder, AsksFor}
+use Rattle.order_text.specs.Lines.{IsBlank, Leave, whole_of, signed_of, IsPoint, ArePoints, Small, Weights, Points, HasAt, ladder_members, AsksLadder, Asked, Alone, OfLadder, AsksFor}
 use Rattle.order_text.specs.Private.{text_at, number_at, items_at, in_32_bits, rate_of, point_in, point_of, put_points, word_of, HasLadder, IsLaddered, IsAsked, AddsSome, AreAfter}
 use Rattle.order_text.proofs.AskedFor.{word_asked, text_of, text_where}
 

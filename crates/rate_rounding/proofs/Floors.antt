@@ -1,20 +1,19 @@
 -- The imbalances with all demands rounded down, order by order.
-use Rattle.std.proofs.Common.{◌≡◌, ℕ, ◌+◌, ◌*◌, ◌^◌, ◌<◌, ◌≤◌, true, ℤ, pos, ◌+ℤ◌, ◌*ℤ◌, List, [], ◌∷◌, length, take, get_or, refl, sym, ap, ◌∙◌, inr, ⊎_elim, arith}
-use Rattle.std.specs.Prelude.{unsigned_abs, ◌↔◌}
-use Rattle.std.proofs.lemmas.Bool.{cases_lt, lt-ltb}
-use Rattle.std.proofs.lemmas.List.{take_all, get_or_past, get_or-map, length-map}
+use Rattle.std.proofs.Common.{◌≡◌, ℕ, ◌+◌, ◌*◌, ◌^◌, ◌<◌, ◌≤◌, ℤ, pos, ◌+ℤ◌, ◌*ℤ◌, List, [], ◌∷◌, length, take, get_or, refl, sym, ap, ◌∙◌, ⊎_elim, arith}
+use Rattle.std.specs.Prelude.{unsigned_abs}
+use Rattle.std.proofs.lemmas.Bool.{cases_lt}
+use Rattle.std.proofs.lemmas.List.{take_all, get_or_past}
 use Rattle.list_sums.specs.Sums.{int_sum_by}
 use Rattle.list_sums.proofs.Products.{unsigned_abs-add, unsigned_abs-mul_le}
 use Rattle.list_sums.proofs.SumLemmas.{int_sum_by_more}
 use Rattle.weight_rows.specs.Rows.{weight_in, price_of}
 use Rattle.weight_rows.proofs.RowLawProofs.{weights_are_small}
-use Rattle.demand_curve.specs.Demand.{Terms, IsWithinLimits, floor_rate, ceil_rate, IsRounding, most_rate}
-use Rattle.demand_curve.proofs.RoundingLaws.{roundings_enclose_demand, roundings_are_floor_and_ceil}
+use Rattle.demand_curve.specs.Demand.{most_rate}
+use Rattle.demand_curve.proofs.RoundingLaws.{roundings_enclose_demand}
 use Rattle.flow_orders.specs.Orders.{Order, IsOrder, most_orders, terms_of}
 use Rattle.flow_orders.specs.Excess.{price_for}
 use Rattle.flow_orders.specs.Residuals.{AreNear, HasEach, AreZeros, IsTradeAdded}
-use Rattle.canonical_rule.specs.Canonical.{floor_at, is_fraction_at}
-use Rattle.excess_bounds.specs.Quotes.{Quote, quote_at, quotes_at}
+use Rattle.canonical_rule.specs.Canonical.{floor_at}
 use Rattle.rate_rounding.specs.Private.{left_by_floors}
 
 -- a demand rounded down is at most the highest rate

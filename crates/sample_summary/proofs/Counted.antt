@@ -1,6 +1,5 @@
 -- The counts of an answer, and how many units it counts at most.
-use Rattle.std.proofs.Common.{◌≡◌, ℕ, ◌+◌, ◌-◌, ◌*◌, ◌^◌, ◌<◌, ◌≤◌, List, [], map, length, take, get_or, refl, sym, ap, subst, ◌∙◌, length-append, arith}
-use Rattle.std.specs.Prelude.{All}
+use Rattle.std.proofs.Common.{◌≡◌, ℕ, ◌+◌, ◌-◌, ◌*◌, ◌^◌, ◌<◌, ◌≤◌, map, length, take, get_or, sym, subst, ◌∙◌, length-append, arith}
 use Rattle.std.specs.List.{sum_by}
 use Rattle.std.proofs.lemmas.List.{get_or-map}
 use Rattle.std.proofs.lemmas.List.Sums.{sum_by_more, sum_by-le}
@@ -9,14 +8,14 @@ use Rattle.wire_records.specs.Commands.{Answer, Plain, Batch, Pair}
 use Rattle.wire_records.proofs.Encoded.{length-encoding}
 use Rattle.flow_orders.specs.Outcomes.{Fill, Clearing, Outcome, Cleared, Skipped}
 use Rattle.journal_records.proofs.FieldForms.{clearing_from}
-use Rattle.journal_records.specs.Replies.{answer_record, IsAnswer, EncodesAnswer}
+use Rattle.journal_records.specs.Replies.{answer_record, EncodesAnswer}
 use Rattle.journal_records.specs.Pairs.{IsPair, pair_encoding}
 use Rattle.journal_records.proofs.Encoded.{answer_unique, cleared_pair_room}
 use Rattle.journal_replay.specs.Audits.{cleared_by, skipped_by}
 use Rattle.sample_summary.specs.declared.counting.Counts.{Counts}
 use Rattle.sample_summary.specs.declared.sampling.Sampling.{Sampling}
 use Rattle.sample_summary.specs.Summary.{units_by}
-use Rattle.sample_summary.specs.Private.{units_traded, IsCounted, CountsOne, HasRoom, IsReady, most_units}
+use Rattle.sample_summary.specs.Private.{IsCounted, CountsOne, HasRoom, IsReady, most_units}
 
 -- one more rate
 pub rate_more : (c : Clearing) (place units rate : ℕ) → place < length c.fills → rate ≡ get_or (map (λ (f : Fill). f.rate) c.fills) place 0 → units ≡ sum_by (λ (f : Fill). f.rate) (take place c.fills)

@@ -5,7 +5,7 @@ use Rattle.std.proofs.lemmas.List.{take_all}
 use Rattle.std.proofs.lemmas.List.Sums.{sum_by-cons}
 use Rattle.std.proofs.lemmas.List.Elements.{All-nil, All-cons}
 use Rattle.wire_records.specs.Records.{Record, IsRecord, most_body}
-use Rattle.wire_records.specs.Commands.{Answer, Pair}
+use Rattle.wire_records.specs.Commands.{Pair}
 use Rattle.wire_records.specs.CommandRecords.{record_of}
 use Rattle.wire_records.specs.Versions.{IsReadAs}
 use Rattle.wire_records.specs.Reading.{Ending, End, ReadsOn}
@@ -21,10 +21,9 @@ use Rattle.canonical_rule.specs.Canonical.{IsCanonicalOutcome}
 use Rattle.journal_records.specs.Pairs.{IsPair}
 use Rattle.journal_records.specs.Formats.{journal_magic_of}
 use Rattle.market_rules.specs.Market.{Market, empty_market}
-use Rattle.market_rules.specs.Journal.{Follows, IsAnswered}
+use Rattle.market_rules.specs.Journal.{IsAnswered}
 use Rattle.canonical_journals.proofs.LawProofs.{canonical_journals_are_legal}
 use Rattle.canonical_journals.proofs.OneCanonicalJournal.{one_canonical_journal}
-use Rattle.batch_audit.specs.Legal.{IsLegalJournal}
 use Rattle.journal_replay.specs.Audits.{cleared_by, skipped_by, cleared_in, skipped_in}
 use Rattle.word_driver.specs.Word.{Goes}
 use Rattle.exchange_session.specs.Journals.{Journals}

@@ -1,13 +1,12 @@
 -- What follows the first part, and what was written for it.
-use Rattle.std.proofs.Common.{◌≡◌, ◌≢◌, ◌+◌, ◌<◌, ◌≤◌, ◌⊎◌, ◌↔◌, ℕ, List, [], ◌++◌, length, drop, length-append, Bool, IsTrue, Option, Ok, Err, refl, sym, ap, subst, ◌∙◌, arith, inl, inr}
+use Rattle.std.proofs.Common.{◌≡◌, ◌+◌, ◌<◌, ◌≤◌, ◌⊎◌, ℕ, List, [], ◌++◌, length, drop, length-append, Option, Ok, Err, refl, sym, ap, ◌∙◌, arith, inl, inr}
 use Rattle.std.proofs.lemmas.List.{drop-drop, drop_at, length-drop}
 use Rattle.flow_io.specs.Faults.{Blames}
-use Rattle.flow_io.specs.Streams.{Grows, GrowsByPrefix}
+use Rattle.flow_io.specs.Streams.{Grows}
 use Rattle.flow_io.proofs.Growth.{Grows-nothing}
 use Rattle.wire_records.specs.Records.{Record}
-use Rattle.wire_records.specs.Reading.{Ending}
 use Rattle.wire_records.specs.Reading as reading
-use Rattle.wire_records.specs.Formats.{commands, command_magic_of}
+use Rattle.wire_records.specs.Formats.{command_magic_of}
 use Rattle.wire_records.specs.declared.version.Version.{Version}
 use Rattle.market_rules.specs.Market.{Market}
 use Rattle.word_driver.specs.Ended.{Ended}
@@ -16,7 +15,7 @@ use Rattle.session_resume.specs.declared.first.Origin.{Origin}
 use Rattle.session_resume.specs.declared.first.Unfit.{Unfit}
 use Rattle.session_resume.specs.declared.first.Unfit.TheVariants as unfit
 use Rattle.session_resume.specs.Firsts.{Illegal, Whole, IsFirst}
-use Rattle.session_resume.specs.Rests.{Rest, Cut, Nothing, Commands, Other, IsRest, ServesAll, IsNoFile, RestComesTo}
+use Rattle.session_resume.specs.Rests.{Cut, Nothing, Commands, Other, IsRest, ServesAll, IsNoFile}
 use Rattle.session_resume.specs.Resuming.{FirstComesTo, Resumes, ResumesFirst, ResumesInto, ResumesShort}
 use Rattle.wire_records.proofs.RecordCode.{eight}
 use Rattle.session_resume.specs.Private.{Ends, WritesFirst, WritesInto, WritesShort, IntoAfter, ShortAfter}

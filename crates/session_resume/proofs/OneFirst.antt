@@ -1,5 +1,5 @@
 -- Bytes have one first part, and one rest after it.
-use Rattle.std.proofs.Common.{◌≡◌, ◌≢◌, ◌+◌, ◌<◌, ◌≤◌, ℕ, List, [], ◌∷◌, ◌++◌, map, length, drop, get_or, append-nil, append_assoc, length-append, refl, sym, ap, subst, ◌∙◌, arith, inl, inr}
+use Rattle.std.proofs.Common.{◌≡◌, ◌+◌, ◌≤◌, ℕ, List, [], ◌∷◌, ◌++◌, map, length, drop, get_or, append-nil, append_assoc, length-append, refl, sym, ap, subst, ◌∙◌, arith}
 use Rattle.std.specs.Prelude.{All}
 use Rattle.std.proofs.lemmas.Grind.{flat_map-append}
 use Rattle.std.proofs.lemmas.List.{drop_at}
@@ -13,10 +13,9 @@ use Rattle.wire_records.proofs.CodeLaws.{parted, values_unique}
 use Rattle.flow_orders.specs.Outcomes.{Outcome}
 use Rattle.wire_records.proofs.RecordCode.{eight}
 use Rattle.journal_records.specs.Formats.{journal_magic_of, journals, journal_in, records_of}
-use Rattle.journal_records.specs.Pairs.{IsPair}
 use Rattle.journal_records.proofs.Files.{journals_readable, journal_is_file}
 use Rattle.market_rules.specs.Market.{Market}
-use Rattle.market_snapshot.specs.Checkpoints.{checkpoint_magic, checkpoint_bytes, IsCheckpoint, HasCheckpointMagic}
+use Rattle.market_snapshot.specs.Checkpoints.{checkpoint_magic, checkpoint_bytes, HasCheckpointMagic}
 use Rattle.market_snapshot.proofs.OneMarket.{one_market}
 use Rattle.batch_audit.specs.Legal.{IsLegalJournal, AreJudged}
 use Rattle.batch_audit.proofs.LawProofs.{one_judgement}

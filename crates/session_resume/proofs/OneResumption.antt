@@ -1,5 +1,5 @@
 -- An input has one result and one text, and what is written for its first records is a prefix of that text.
-use Rattle.std.proofs.Common.{◌≡◌, ◌+◌, ◌<◌, ◌≤◌, ◌⊎◌, ℕ, List, [], ◌∷◌, ◌++◌, map, length, Ok, Err, append-nil, append_assoc, refl, sym, ap, subst, ◌∙◌, arith, inl, inr}
+use Rattle.std.proofs.Common.{◌≡◌, ◌+◌, ℕ, List, [], ◌∷◌, ◌++◌, map, append_assoc, refl, sym, ap, subst, ◌∙◌, inl, inr}
 use Rattle.std.specs.Prelude.{All}
 use Rattle.std.specs.List.{flat_map}
 use Rattle.std.proofs.lemmas.Grind.{flat_map-append}
@@ -25,9 +25,9 @@ use Rattle.word_driver.specs.Ended.{Ended}
 use Rattle.session_resume.specs.declared.first.Origin.{Origin}
 use Rattle.session_resume.specs.declared.first.Origin.TheVariants.{Journal, Checkpoint}
 use Rattle.session_resume.specs.declared.first.Unfit.{Unfit}
-use Rattle.session_resume.specs.Firsts.{First, Neither, NoCheckpoint, Illegal, Whole, IsFirst}
+use Rattle.session_resume.specs.Firsts.{First, Neither, NoCheckpoint, Illegal, Whole}
 use Rattle.session_resume.specs.Continuing.{Continues}
-use Rattle.session_resume.specs.Rests.{Rest, Cut, Nothing, Commands, Other, IsRest, ServesAll, IsNoFile, RestComesTo, ended_by}
+use Rattle.session_resume.specs.Rests.{Rest, Cut, Nothing, Commands, Other, ServesAll, IsNoFile, RestComesTo, ended_by}
 use Rattle.session_resume.specs.Resuming.{EndsUnsound, FirstComesTo, Resumes, ResumesFirst, ResumesInto, ResumesShort}
 use Rattle.session_resume.proofs.OneFirst.{one_first, one_rest}
 

@@ -1,12 +1,11 @@
 -- Each input has a result and a text.
-use Rattle.std.proofs.Common.{◌≡◌, ◌≢◌, ◌+◌, ◌<◌, ◌≤◌, ◌⊎◌, ◌↔◌, ℕ, List, [], ◌∷◌, ◌++◌, map, length, drop, Ok, Err, append-nil, append_assoc, refl, sym, ap, subst, ◌∙◌, arith, inl, inr}
+use Rattle.std.proofs.Common.{◌≡◌, ◌≢◌, ◌+◌, ◌<◌, ◌⊎◌, ℕ, List, [], ◌∷◌, ◌++◌, map, length, drop, Ok, Err, refl, ap, ◌∙◌, arith, inl, inr}
 use Rattle.std.specs.Prelude.{All}
 use Rattle.std.proofs.lemmas.List.Elements.{All-nil, All-cons, All-head, All-tail}
-use Rattle.wire_records.specs.Records.{Record, IsRecord}
+use Rattle.wire_records.specs.Records.{Record}
 use Rattle.wire_records.specs.Commands.{Pair}
 use Rattle.wire_records.specs.Versions.{IsReadAs}
-use Rattle.wire_records.specs.Grammars.{BeginsWithNone, encode_all}
-use Rattle.wire_records.specs.Reading.{Ending, End, Torn, TooLong, ReadsOn, EndsAs}
+use Rattle.wire_records.specs.Reading.{Ending, Torn, TooLong, EndsAs}
 use Rattle.wire_records.specs.Formats.{commands, command_magic_of}
 use Rattle.wire_records.specs.declared.version.Version.{Version}
 use Rattle.wire_records.proofs.Readings.{read_own}
@@ -21,9 +20,8 @@ use Rattle.market_rules.specs.Journal.{Follows}
 use Rattle.market_rules.proofs.LawProofs.{steps_keep_consistency, journals_stay_consistent}
 use Rattle.canonical_journals.proofs.CanonicalIsLegal.{canonical_follows_are_admissible}
 use Rattle.market_snapshot.specs.Checkpoints.{IsCheckpoint, HasCheckpointMagic}
-use Rattle.batch_audit.specs.Legal.{IsLegalPair, IsLegalJournal, StopsAt}
+use Rattle.batch_audit.specs.Legal.{IsLegalPair, StopsAt}
 use Rattle.journal_replay.specs.Audits.{AuditsOn}
-use Rattle.journal_replay.proofs.Replayed.{after_magic}
 use Rattle.word_driver.specs.Ended.{Ended}
 use Rattle.word_driver.specs.Laws.{IsNotDenied}
 use Rattle.word_driver.specs.declared.fault.Fault.TheVariants as fault
@@ -33,11 +31,11 @@ use Rattle.session_resume.specs.declared.first.Origin.{Origin}
 use Rattle.session_resume.specs.declared.first.Origin.TheVariants.{Journal, Checkpoint}
 use Rattle.session_resume.specs.declared.first.Unfit.{Unfit}
 use Rattle.session_resume.specs.declared.first.Unfit.TheVariants as unfit
-use Rattle.session_resume.specs.Firsts.{First, Neither, NoCheckpoint, Illegal, Whole, BeginsKept, IsFirst}
+use Rattle.session_resume.specs.Firsts.{First, Neither, NoCheckpoint, Illegal, Whole, IsFirst}
 use Rattle.session_resume.specs.Continuing.{Continues}
 use Rattle.session_resume.specs.Rests.{Rest, Cut, Nothing, Commands, Other, IsRest, ServesAll, IsNoFile, RestComesTo, ended_by}
 use Rattle.session_resume.specs.Resuming.{EndsUnsound, FirstComesTo, Resumes}
-use Rattle.session_resume.proofs.Firsts.{place_is, legal_first, illegal_first}
+use Rattle.session_resume.proofs.Firsts.{legal_first, illegal_first}
 use Rattle.session_resume.proofs.Written.{none_continues, continues_more}
 
 -- ---- what bytes begin with

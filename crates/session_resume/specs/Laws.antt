@@ -1,2 +1,1 @@
 -- Laws of resumed inputs.
-use Rattle.std.specs.Prelude.{◌≡◌, ℕ, List}

@@ -1,5 +1,5 @@
 -- `flow resume`: what it makes of the bytes of its source.
-use Rattle.std.specs.Prelude.{◌≡◌, ◌⊎◌, ◌<◌, ℕ, List, [], ◌++◌, length, take, All, Ok, Err}
+use Rattle.std.specs.Prelude.{◌≡◌, ◌⊎◌, ℕ, List, [], ◌++◌, All, Err}
 use Rattle.wire_records.specs.Records.{Record}
 use Rattle.wire_records.specs.Grammars.{BeginsWith, encode_all}
 use Rattle.wire_records.specs.Formats.{commands, command_magic_of}

@@ -1,5 +1,5 @@
 -- `flow resume` as a task.
-use Rattle.std.specs.Prelude.{◌≡◌, ◌⊎◌, ◌+◌, ◌<◌, ℕ, List, [], length, take}
+use Rattle.std.specs.Prelude.{◌≡◌, ◌⊎◌, ◌+◌, ◌<◌, [], length, take}
 use Rattle.word_driver.specs.Does.{Task}
 use Rattle.session_resume.specs.declared.first.Unfit.{Unfit}
 use Rattle.session_resume.specs.Resuming.{Resumes, ResumesInto, ResumesShort}

@@ -1,4 +1,4 @@
-use Rattle.std.proofs.Common.{◌≡◌, ℕ, [], ◌∷◌, Option, ap, arith}
+use Rattle.std.proofs.Common.{◌≡◌, [], ◌∷◌, Option, ap, arith}
 use Rattle.std.specs.Prelude.{option_map}
 use Rattle.std.proofs.lemmas.List.{length-append}
 use Rattle.coordinate_search.proofs.Lowering.{search_lowers}

@@ -1,7 +1,6 @@
-use Rattle.std.proofs.Common.{◌≡◌, ◌≤◌, [], List, ℕ, length, drop, refl, sym, ap, subst, ◌∙◌, arith, ⊎_elim, Some}
+use Rattle.std.proofs.Common.{◌≡◌, [], List, ℕ, length, refl, sym, ap, subst, ◌∙◌, arith}
 use Rattle.std.proofs.lemmas.List.{take_rest}
 use Rattle.flow_io.specs.Windows.{WindowState}
-use Rattle.memchr.specs.Find.{IsFirstByte, is_byte}
 use Rattle.file_units.proofs.Gone.{went_well}
 use Rattle.input_lines.proofs.Finding.{search_none, search_found, search_all, search_more, search_limit, search_ended, search_none_read, passed_by, passed_none_by}
 use Rattle.input_lines.proofs.lines.next_line.Goals as goal

@@ -1,4 +1,4 @@
-use Rattle.std.proofs.Common.{◌≡◌, ◌+◌, ◌≤◌, List, ℕ, length, drop, refl, sym, ap, subst, ◌∙◌, arith, Some}
+use Rattle.std.proofs.Common.{List, ℕ, refl, ap, subst, ◌∙◌, Some}
 use Rattle.flow_io.specs.Windows.{WindowState}
 use Rattle.memchr.specs.Find.{IsFirstByte, is_byte}
 use Rattle.file_units.proofs.Gone.{went_well}

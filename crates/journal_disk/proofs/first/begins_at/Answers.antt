@@ -1,4 +1,4 @@
-use Rattle.std.proofs.Common.{length, sym, subst, ◌∙◌, arith}
+use Rattle.std.proofs.Common.{length, arith}
 use Rattle.journal_disk.proofs.Pieces.{part_read}
 use Rattle.journal_disk.proofs.FirstEntry.{this_magic, other_magic}
 use Rattle.journal_disk.proofs.first.begins_at.Goals as goal

@@ -1,4 +1,4 @@
-use Rattle.std.proofs.Common.{◌≡◌, ◌++◌, Some, IfSome, Option, List, ℕ, get_or, sym, subst, arith}
+use Rattle.std.proofs.Common.{◌≡◌, IfSome, Option, List, ℕ, get_or, subst, arith}
 use Rattle.wire_records.specs.Grammars.{BeginsWith}
 use Rattle.wire_records.specs.declared.version.Version.{Version}
 use Rattle.journal_disk.specs.Entries.{disk_magics}

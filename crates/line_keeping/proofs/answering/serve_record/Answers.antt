@@ -1,6 +1,5 @@
 use Rattle.std.proofs.Common.{◌≡◌, ◌++◌, List, ℕ, sym, ap, subst, ◌∙◌}
 use Rattle.wire_records.specs.Records.{Record}
-use Rattle.wire_records.specs.declared.record.Framed.{Framed}
 use Rattle.exchange_session.specs.Serving.{AnswersOne}
 use Rattle.line_keeping.specs.Private.{AnswersRecord}
 use Rattle.line_keeping.proofs.Served.{on_ok, framed_as, framed_once, answers_record}

@@ -1,11 +1,8 @@
-use Rattle.std.proofs.Common.{◌≡◌, ◌+◌, ◌≤◌, inl, Bool, true, false, ℕ, List, Option, refl, sym, ap, subst, ◌∙◌, arith}
+use Rattle.std.proofs.Common.{◌≡◌, inl, Bool, true, false, ℕ, List, Option, refl, sym, subst}
 use Rattle.flow_io.specs.Windows.{WindowState}
 use Rattle.journal_disk.proofs.GoingOn.{looks_none}
-use Rattle.journal_disk.proofs.Lengths.{reach_none}
-use Rattle.journal_keeping.specs.declared.fault.KeepFault.{KeepFault}
-use Rattle.journal_keeping.proofs.Begun.{looks_alone, none_kept_on, untouched_so}
+use Rattle.journal_keeping.proofs.Begun.{looks_alone, none_kept_on}
 use Rattle.journal_keeping.proofs.Counts.{if_some}
-use Rattle.journal_keeping.proofs.Magic.{at_most}
 use Rattle.journal_keeping.proofs.Making.{each_some}
 use Rattle.line_keeping.specs.Private.{ShowsStart, ShowsNone, NotBegun}
 use Rattle.line_keeping.proofs.InputStart.{bare_shown, bare_behind}

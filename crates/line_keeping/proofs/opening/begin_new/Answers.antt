@@ -1,7 +1,6 @@
-use Rattle.std.proofs.Common.{◌+◌, ◌^◌, inr, ℕ, List, length, ap, sym, subst, refl, arith}
+use Rattle.std.proofs.Common.{inr, ℕ, List, length, ap, sym, subst, refl, arith}
 use Rattle.market_rules.specs.Market.{Market}
 use Rattle.journal_disk.proofs.GoingOn.{looks_none}
-use Rattle.journal_keeping.specs.declared.fault.KeepFault.{KeepFault}
 use Rattle.journal_keeping.proofs.Begun.{looks_alone, none_new, same_fault}
 use Rattle.journal_keeping.proofs.Making.{each_some}
 use Rattle.line_keeping.specs.Private.{OpensInput, NotBegun}

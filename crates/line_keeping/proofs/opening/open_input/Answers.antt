@@ -3,10 +3,9 @@ use Rattle.market_rules.specs.Market.{Market}
 use Rattle.flow_io.specs.Windows.{WindowState}
 use Rattle.market_history.specs.Kept.{FindsNone}
 use Rattle.market_history.specs.declared.start.StartFault.{StartFault}
-use Rattle.journal_keeping.specs.declared.fault.KeepFault.{KeepFault}
 use Rattle.journal_keeping.proofs.ShortCheckpoints.{checkpoint_short}
 use Rattle.line_keeping.specs.Private.{ShowsStart, ShowsNone, OpensInput, NotOpened}
-use Rattle.line_keeping.proofs.InputStart.{opens_bare, unread_start, unread_checkpoint, out_checkpoint, bad_checkpoint, lawful_checkpoint, opens_checkpoint, out_stored}
+use Rattle.line_keeping.proofs.InputStart.{opens_bare, unread_start, unread_checkpoint, out_checkpoint, bad_checkpoint, opens_checkpoint, out_stored}
 use Rattle.line_keeping.proofs.opening.open_input.Goals as goal
 
 -- what was seen of the input, through a window that was empty

@@ -1,9 +1,9 @@
-use Rattle.std.proofs.Common.{inr, ℕ, ◌+◌, ◌*◌, List, refl, sym, subst}
+use Rattle.std.proofs.Common.{inr, ℕ, List, refl}
 use Rattle.journal_keeping.proofs.Begun.{same_fault}
 use Rattle.journal_keeping.proofs.Counts.{if_some, uncalled}
 use Rattle.journal_keeping.proofs.Making.{each_some}
 use Rattle.journal_keeping.proofs.Whole.{refused_not_legal, asked_refused}
-use Rattle.line_keeping.specs.Outputs.{Output, output}
+use Rattle.line_keeping.specs.Outputs.{output}
 use Rattle.line_keeping.proofs.NewBegun.{input_begins}
 use Rattle.line_keeping.proofs.Shown.{shown_more}
 use Rattle.line_keeping.proofs.Whole.{keeps_none, may_begin_again, comes_not_begun, refusal_alike, can_serve, none_begun, begun_known, keeps_served, comes_served, not_refusal, leaves_none, taken_few, grows_served}

@@ -1,4 +1,3 @@
-use Rattle.std.proofs.Common.{◌≡◌, refl}
 use Rattle.market_history.proofs.Taking.{none_at, whole_one, none_after}
 use Rattle.market_history.proofs.start.kept_market.Goals as goal
 

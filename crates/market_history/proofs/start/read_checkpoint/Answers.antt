@@ -1,4 +1,4 @@
-use Rattle.std.proofs.Common.{◌≡◌, ◌≤◌, ◌++◌, List, ℕ, [], Err, length, length-append, drop, append_assoc, sym, refl, ap, subst, ◌∙◌, arith}
+use Rattle.std.proofs.Common.{◌≡◌, ◌≤◌, ◌++◌, [], Err, length, length-append, drop, append_assoc, sym, ap, ◌∙◌, arith}
 use Rattle.flow_io.specs.declared.whole.ReadAllFault.{ReadAllFault}
 use Rattle.market_history.proofs.Taking.{more_taken, prefix_of, none_at, may_run_out, not_read, all_short}
 use Rattle.market_history.proofs.start.read_checkpoint.Goals as goal

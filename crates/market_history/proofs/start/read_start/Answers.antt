@@ -1,4 +1,3 @@
-use Rattle.std.proofs.Common.{◌≡◌, refl}
 use Rattle.flow_io.specs.declared.window.InputEnd.TheVariants.{Source, Limit}
 use Rattle.market_history.proofs.Starting.{found_few, taken_few}
 use Rattle.market_history.proofs.start.read_start.Goals as goal

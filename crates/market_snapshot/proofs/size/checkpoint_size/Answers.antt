@@ -1,10 +1,5 @@
-use Rattle.std.proofs.Common.{◌≡◌, ◌+◌, ◌*◌, ◌≤◌, ◌++◌, ◌∙◌, ℕ, List, length, drop, sym, ap, subst, arith}
-use Rattle.std.specs.Prelude.{All}
-use Rattle.std.specs.List.{flat_map}
+use Rattle.std.proofs.Common.{◌≡◌, ◌+◌, ◌*◌, ◌≤◌, ◌∙◌, length, sym, ap, subst, arith}
 use Rattle.byte_places.specs.Places.{unsigned_at}
-use Rattle.market_parts.specs.Parts.{ReadOrder}
-use Rattle.market_snapshot.specs.Encodings.{order_encoding}
-use Rattle.market_snapshot.specs.Widths.{FitsOrder}
 use Rattle.market_snapshot.specs.Layout.{account_size}
 use Rattle.market_snapshot.specs.Sizes.{EndsWith}
 use Rattle.market_snapshot.proofs.Sizing.{first_of, count_at, long, assets_are, accounts_are, sizes_are, orders_counted, few_assets, few_accounts, few_orders, ends}

@@ -1,4 +1,4 @@
-use Rattle.std.proofs.Common.{length, take}
+use Rattle.std.proofs.Common.{length}
 use Rattle.rate_rounding.proofs.Floors.{AreLeft}
 use Rattle.rate_rounding.proofs.choice.add_floors.Given as goal
 

@@ -1,5 +1,3 @@
-use Rattle.std.proofs.Common.{sym, subst}
-use Rattle.weight_rows.specs.Rows.{IsPricedBy}
 use Rattle.rate_rounding.proofs.Choosing.{raised_where, stays_where, priced_alike}
 use Rattle.rate_rounding.proofs.choice.is_raised.Goals as goal
 

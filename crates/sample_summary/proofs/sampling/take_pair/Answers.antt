@@ -1,6 +1,5 @@
-use Rattle.std.proofs.Common.{◌≡◌, List, ℕ, drop, sym, subst, arith}
+use Rattle.std.proofs.Common.{drop, sym, subst, arith}
 use Rattle.wire_records.specs.Records.{Record}
-use Rattle.journal_records.specs.Formats.{records_of}
 use Rattle.batch_audit.specs.Legal.{IsLegalPair}
 use Rattle.sample_summary.specs.Private.{IsWritten, IsCounted}
 use Rattle.sample_summary.proofs.Counted.{has_room}

@@ -1,4 +1,4 @@
-use Rattle.std.proofs.Common.{◌≡◌, length, take, sym, refl, arith}
+use Rattle.std.proofs.Common.{length, take, sym, arith}
 use Rattle.std.proofs.lemmas.List.{take-append-drop, length-take}
 use Rattle.session_resume.proofs.first.checkpoint_part.Goals as goal
 

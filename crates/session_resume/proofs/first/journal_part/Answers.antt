@@ -1,4 +1,4 @@
-use Rattle.std.proofs.Common.{arith, sym}
+use Rattle.std.proofs.Common.{arith}
 use Rattle.file_units.specs.declared.units.Ending.TheVariants as ending
 use Rattle.session_resume.proofs.Firsts.{place_is, legal_first, all_is, within, illegal_first, numbers_fit}
 use Rattle.session_resume.proofs.first.journal_part.Goals as goal

@@ -1,6 +1,6 @@
 use Rattle.std.proofs.Common.{inr, drop, refl, IsTrue}
 use Rattle.exchange_session.proofs.RunLaws.{run_is_exact}
-use Rattle.session_resume.proofs.Written.{to_end, to_torn, to_limit, to_cut, to_want, no_stop}
+use Rattle.session_resume.proofs.Written.{to_end, to_torn, to_limit, to_cut, to_want}
 use Rattle.session_resume.proofs.resume.serve_all.Goals as goal
 
 pub go_over_bytes-requires-clause-exact : goal.go_over_bytes-requires-clause-exact

@@ -1,6 +1,6 @@
-use Rattle.std.proofs.Common.{◌≡◌, ◌+◌, length, sym, subst, ◌∙◌, [], None, ℕ, arith, IfSome}
+use Rattle.std.proofs.Common.{◌≡◌, ◌+◌, length, sym, subst, [], None, ℕ, arith, IfSome}
 use Rattle.journal_disk.specs.Entries.{Keeps}
-use Rattle.journal_disk.proofs.Appending.{first_commit_within, first_fits, second_fits, first_cut_short, first_both_steps, first_added}
+use Rattle.journal_disk.proofs.Appending.{first_commit_within, first_fits, first_cut_short, first_both_steps, first_added}
 use Rattle.journal_disk.proofs.appender.Appender.append_first.Goals as goal
 
 pub write_synced-requires : goal.write_synced-requires

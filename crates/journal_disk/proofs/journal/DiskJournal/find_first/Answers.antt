@@ -1,4 +1,4 @@
-use Rattle.std.proofs.Common.{◌≡◌, ◌≢◌, ◌+◌, ◌++◌, ℕ, List, Option, IfSome, length, take, drop, sym, subst, ◌∙◌, refl, arith}
+use Rattle.std.proofs.Common.{◌≡◌, ◌≢◌, ◌+◌, ◌++◌, ℕ, List, Option, IfSome, length, take, drop, sym, subst, ◌∙◌, arith}
 use Rattle.wire_fields.specs.Numbers.{unsigned}
 use Rattle.journal_disk.proofs.Pieces.{size_known}
 use Rattle.journal_disk.proofs.FirstEntry.{none_short, none_past, none_begins, some_first}

@@ -1,5 +1,4 @@
-use Rattle.std.proofs.Common.{◌≡◌, ◌+◌, ◌≤◌, ℕ, List, refl, sym, ap, subst, ◌∙◌, arith, length}
-use Rattle.journal_records.specs.Pairs.{pair_encoding}
+use Rattle.std.proofs.Common.{◌+◌, refl, ap, ◌∙◌, arith, length}
 use Rattle.canonical_journals.proofs.LawProofs.{steps_number_one}
 use Rattle.journal_disk.proofs.Lengths.{reach_wider}
 use Rattle.journal_keeping.proofs.Turns.{is_whole, is_record_pair, same_bytes}

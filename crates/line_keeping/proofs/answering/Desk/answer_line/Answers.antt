@@ -1,13 +1,10 @@
-use Rattle.std.proofs.Common.{◌≡◌, ◌+◌, ◌*◌, ◌≤◌, ◌<◌, inl, inr, ℕ, List, [], ◌∷◌, length, map, refl, sym, ap, subst, ◌∙◌, arith}
+use Rattle.std.proofs.Common.{◌≡◌, ◌+◌, ◌*◌, ◌≤◌, inr, [], length, map, ap, ◌∙◌, arith}
 use Rattle.std.proofs.lemmas.List.{length-map}
 use Rattle.wire_records.specs.Views.{command_in}
-use Rattle.wire_records.specs.declared.version.Version.{Version}
 use Rattle.market_rules.specs.Market.{Market}
-use Rattle.order_text.specs.Answers.{IsAskedAs}
 use Rattle.order_text.specs.Lines.{Alone, OfLadder}
-use Rattle.journal_disk.proofs.Lengths.{reach_wider, reach_none}
+use Rattle.journal_disk.proofs.Lengths.{reach_wider}
 use Rattle.line_keeping.specs.Outputs.{output}
-use Rattle.line_keeping.specs.Private.{IsReadyFor}
 use Rattle.line_keeping.proofs.Keeping.{commands_none, commands_more, breaks_by}
 use Rattle.line_keeping.proofs.Lines.{on_both, if_err, line_some, at_market, nothing_at, ladder_few, line_none, line_refused, line_asked, line_broke, line_unread, line_unwritten, ok_refused, err_refused}
 use Rattle.line_keeping.proofs.Served.{on_ok}

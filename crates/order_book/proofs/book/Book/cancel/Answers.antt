@@ -1,7 +1,7 @@
 use Rattle.std.proofs.Common.{◌≡◌, ◌+◌, ◌-◌, length, ap, arith}
 use Rattle.indexmap.specs.IndexMap.{spare}
-use Rattle.flow_orders.specs.Orders.{Order, remaining_quantity}
-use Rattle.order_book.specs.Book.{Book, AreLive, without}
+use Rattle.flow_orders.specs.Orders.{remaining_quantity}
+use Rattle.order_book.specs.Book.{AreLive, without}
 use Rattle.order_book.specs.Kept.{listed}
 use Rattle.order_book.proofs.LiveOrders.{contains_at, number_at}
 use Rattle.order_book.proofs.NeedLaws.{is_needed, SumsAre-without, AreLive-without, length-without}

@@ -1,7 +1,6 @@
 use Rattle.std.proofs.Common.{length, refl, ap, subst, ◌∙◌, arith}
 use Rattle.indexmap.specs.IndexMap.{spare}
 use Rattle.order_book.specs.Book.{Book, AreLive}
-use Rattle.order_book.specs.Kept.{listed}
 use Rattle.order_book.proofs.LiveOrders.{closed_is, AreGaps-closed}
 use Rattle.order_book.proofs.Room.{room_kept}
 use Rattle.order_book.proofs.book.Book.orders.Goals as goal

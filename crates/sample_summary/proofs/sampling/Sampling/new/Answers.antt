@@ -1,4 +1,4 @@
-use Rattle.std.proofs.Common.{◌^◌, ap, sym, ◌∙◌, arith}
+use Rattle.std.proofs.Common.{ap, sym, ◌∙◌, arith}
 use Rattle.market_rules.specs.Market.{Market}
 use Rattle.sample_summary.specs.Private.{State}
 use Rattle.sample_summary.specs.declared.counting.Counts.{Counts}
