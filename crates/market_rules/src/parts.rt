@@ -5,8 +5,8 @@ ghost use Rattle.market_rules.specs.Market.{parts_of, search_of};
 use flow_orders::Search;
 use wire_records::Version;
 
-/// Returns how the prices of a batch are searched for in a version. A move of a price ends by whole units in versions One and Two, and by
-/// 256 parts of a unit from version Three on. Joint prices are tried from version Four on.
+/// Returns how the prices of a batch are searched for in a version. A move of a price ends by demands in whole units in versions One and
+/// Two, and in parts of 1/256 of a unit from version Three on. Joint prices are tried from version Four on.
 pub fn search_of(version: Version) -> Search
     ensures value { result ≡ search_of version }
     ensures some_parts { 1 ≤ result.parts }
