@@ -15,16 +15,16 @@ unfolding lex punctuate word after_number value
 no_value rest = refl
 
 -- nor is F blank
-not_blank : (70 ≡ 32) ⊎ (70 ≡ 9) ⊎ (70 ≡ 13) → ⊥
-not_blank (inl is) = omega (arith, is)
-not_blank (inr (inl is)) = omega (arith, is)
-not_blank (inr (inr is)) = omega (arith, is)
+not_blank : (byte : ℕ) → byte ≡ 70 → (byte ≡ 32) ⊎ (byte ≡ 9) ⊎ (byte ≡ 13) → ⊥
+not_blank byte f (inl is) = omega (arith, f, is)
+not_blank byte f (inr (inl is)) = omega (arith, f, is)
+not_blank byte f (inr (inr is)) = omega (arith, f, is)
 
 no_such : (d : Data) → Some d ≡ None → ⊥
 no_such d e = cc
 
 pub no_line : (version : Version) (known : List (List ℕ)) (rest : List ℕ) → SaysNothing version known (70 ∷ rest)
 no_line version known rest = record {
-  written = λ blank. not_blank (All-head _ 70 rest blank);
+  written = λ blank. not_blank 70 refl (All-head _ 70 rest blank);
   no_command = λ asked asks. no_such asks.value (sym asks.reads ∙ no_value rest);
 }
