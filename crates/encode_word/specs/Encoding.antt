@@ -13,8 +13,8 @@ use Rattle.encode_word.specs.Starts.{known_after, IsCut, BeginsUnkept, IsBefore}
 
 -- In a version, from the tickers on that are known before the first line.
 module _ (version : Version) (known : List (List ℕ)) where
-  -- The lines of these bytes, up to the first that is no command, ask for these commands. It ends with the number of that line, counted from
-  -- 1, and else by whether the input has more. The text is the command file of the records, which is read as the commands, by the laws.
+  -- The lines of these bytes, up to the first that is no command, ask for these commands. `encode` ends with the number of that line, counted
+  -- from 1, and else by whether the input has more. The text is the command file of the commands' records, which is read as them, by the laws.
   pub record LinesTo (More : Type 0) (bytes : List ℕ) (ended : Ended EncodeStop) (text : List ℕ) : Type 0 where
     pub bad : Option ℕ
     pub commands : List Command

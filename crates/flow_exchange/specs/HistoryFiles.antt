@@ -48,7 +48,7 @@ abbrev pub IsNoHistory : List ℕ → Status → Type 0
 IsNoHistory bytes status = (BeginsOtherwise bytes × (status ≡ NotFlow)) ⊎ (BeginsUnsound bytes × (status ≡ BadCheckpoint))
 
 -- a subcommand makes this status and text of the first `limit` bytes: they begin no history, and nothing is written, or they are one,
--- whose status is by `judge`
+-- whose status is by `judge`, and whose text is by `Writes`
 abbrev pub HistoryTo : (History → Status) → (History → List ℕ → Type 0) → ℕ → List ℕ → Status → List ℕ → Type 0
 HistoryTo judge Writes limit bytes status text =
     (IsNoHistory (take limit bytes) status × (text ≡ []))

@@ -27,6 +27,7 @@ use Rattle.encode_word.specs.declared.stop.EncodeStop.{EncodeStop}
 use Rattle.encode_word.specs.declared.stop.EncodeStop.TheVariants as stop
 use Rattle.encode_word.specs.Starts.{known_after, BeginsUnkept, IsBefore}
 use Rattle.encode_word.specs.Encoding.{EncodesLines, Encodes}
+use Rattle.encode_word.proofs.LinesTo.{EncodeEnds}
 use Rattle.exchange_session.specs.Journals.{Journals}
 use Rattle.session_resume.specs.declared.first.Origin.TheVariants.{Checkpoint}
 use Rattle.session_resume.specs.declared.first.Unfit.{Unfit}

@@ -11,11 +11,11 @@ use Rattle.word_driver.specs.Does.{IsTaken}
 use Rattle.flow_orders.specs.Outcomes.{Outcome}
 use Rattle.journal_records.specs.Formats.{records_of}
 use Rattle.market_rules.specs.Market.{Market}
-use Rattle.market_snapshot.specs.Checkpoints.{checkpoint_bytes}
+use Rattle.market_snapshot.specs.Checkpoints.{checkpoint_bytes, IsCheckpoint}
 use Rattle.market_history.specs.Histories.{Start, Empty, Kept, market_of, CanStart}
 use Rattle.disk_edge.specs.Disks.{DiskState, AtEachMoment}
 use Rattle.disk_edge.specs.Images.{Images}
-use Rattle.journal_disk.specs.Entries.{framed, Holds, EndsAt, Keeps}
+use Rattle.journal_disk.specs.Entries.{framed, Holds, EndsAt, Keeps, IsHead, entries}
 use Rattle.journal_disk.specs.Lengths.{HasAtMost, LeavesAtMost}
 use Rattle.journal_disk.specs.Stepping.{IsDamagedAt}
 use Rattle.journal_keeping.specs.Starts.{version_of, head_of, source_start, sources, BeginsUnsound, BeginsOtherwise}

@@ -95,8 +95,8 @@ pub record Runs (begin : Start) (start end : DiskState) (old : List (Pair Record
   pub during : DuringCall begin start end old new
   pub returns : AtReturn begin start end old new acknowledged
 
--- What a run does to the disk and to the output: the records that were served are the first of the source, within the limit, or none, and the
--- output gained the entries that were acknowledged.
+-- What a run does to the disk and to the output: no records were served, or the first of the source, within the limit, if its content is
+-- known; and the output gained the entries that were acknowledged.
 pub record KeepsOn (limit : ℕ) (content : Option (List ℕ)) (Cut : Type 0) (begin input : Start) (start end : DiskState) (old : List (Pair Record Outcome)) (market : Market) (before after : Option (List ℕ)) : Type 0 where
   pub records : List Record
   pub new : List (Pair Record Outcome)

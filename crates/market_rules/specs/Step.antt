@@ -58,8 +58,8 @@ placed m last r = ordered m.next_order last r
 abbrev pub IsAffordable : Market → Order → Type 0
 IsAffordable market o = (kind : Option ℕ) → IsKind market.balances kind → pos (need_of kind o) ≤ℤ usable_balance market o.account kind
 
--- the first refusal of a command: the conditions in the order in which they are tested, or None if no refusal holds; money is a kind that
--- is always there
+-- The first refusal of a command: the conditions in the order in which they are tested, or None if no refusal holds. Deposits, withdrawals
+-- and credits are of so many ticks of money, a kind that is always there, or of so many units of an asset.
 abbrev pub FirstRefusal : Market → Command → Option Refusal → Type 0
 FirstRefusal m (AddAsset ticker) =
     BadTicker unless IsTicker ticker else

@@ -65,8 +65,8 @@ ArePoints no_items (p ∷ points) = ⊥
 ArePoints (item d items) [] = ⊥
 ArePoints (item d items) (p ∷ points) = IsPoint d p × ArePoints items points
 
--- What may be at a key: a text as it is, a ticker, whose text is one of ASCII alone and is padded, a text that names an asset, a whole number of 32 bits or of 64, one of
--- 64 with a sign, a weight vector, and points.
+-- What may be at a key: a text as it is, a ticker, which is a text of ASCII alone, padded to 8 bytes, a text that names an asset, a whole
+-- number of 32 bits or of 64, one of 64 with a sign, a weight vector, and points.
 pub data Value : Type 0 where
   Text : (text : List ℕ) → Value
   Ticker : (ticker : List ℕ) → Value
@@ -96,7 +96,7 @@ HasAt tickers d key is = (value : Data) × (get key d ≡ Some value) × IsValue
 abbrev pub HasKeys : ℕ → Data → Type 0
 HasKeys count d = option_map members_len (as_object d) ≡ Some count
 
--- an object has these members, and no further keys
+-- an object has these members, each at a key of its own, and no further keys
 abbrev pub HasMembers : List (List ℕ) → Data → List (List ℕ × Value) → Type 0
 HasMembers tickers d members = All (λ m. HasAt tickers d m.0 m.1) members × HasKeys (length members) d
 
@@ -127,7 +127,8 @@ abbrev pub ladder_members : Ladder → ℕ → List Entry → List (List ℕ × 
 ladder_members l account row =
     (codes "do", Text (codes "ladder")) ∷ (codes "account", Small account) ∷ (codes "points", Points l.points) ∷ (codes "turns", Small l.turns) ∷ (codes "weights", Weights row) ∷ []
 
--- An object asks for the orders of a ladder: it has the ladder's members, and the ladder has no fault. The commands place its orders, one for each drop of its rate, in ascending prices; each version has them.
+-- An object asks for the orders of a ladder: it has the ladder's members, and the ladder has no fault. The commands place its orders, one for
+-- each drop of its rate, in ascending prices; each version has them.
 pub record AsksLadder (tickers : List (List ℕ)) (d : Data) (commands : List Command) : Type 0 where
   pub ladder : Ladder
   pub account : ℕ

@@ -3,5 +3,4 @@ pub mod Continuing
 pub mod Rests
 pub mod Resuming
 pub mod Tasks
-pub mod Laws
 pub mod Private
