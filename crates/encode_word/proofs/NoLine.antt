@@ -25,6 +25,6 @@ no_such d e = cc
 
 pub no_line : (version : Version) (known : List (List ℕ)) (rest : List ℕ) → SaysNothing version known (70 ∷ rest)
 no_line version known rest = record {
-  written = λ blank. not_blank 70 refl (All-head _ 70 rest blank);
+  written = λ blank. not_blank 70 refl (All-head (λ (byte : ℕ). (byte ≡ 32) ⊎ (byte ≡ 9) ⊎ (byte ≡ 13)) 70 rest blank);
   no_command = λ asked asks. no_such asks.value (sym asks.reads ∙ no_value rest);
 }

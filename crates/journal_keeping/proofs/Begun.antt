@@ -62,18 +62,20 @@ first_opened version rest held next (Damaged place) long known same is stops = (
   (
     long,
     known,
-    Empty version,
-    [],
-    empty_market version,
-    record {
-      lawful = tt;
-      journal = none_read (Empty version) (empty_market version) tt refl;
-      rest = rest;
-      encoded = is;
-      begins = stops.0 ∙ sym (bare_place (Empty version) [] (version, refl, refl));
-    },
-    subst (λ (n : ℕ). IsDamagedAt n held) (sym stops.0) stops.1,
-    λ at first after kept. stops.2 first (legal_first first held after kept),
+    (
+      Empty version,
+      [],
+      empty_market version,
+      record {
+        lawful = tt;
+        journal = none_read (Empty version) (empty_market version) tt refl;
+        rest = rest;
+        encoded = is;
+        begins = stops.0 ∙ sym (bare_place (Empty version) [] (version, refl, refl));
+      },
+      subst (λ (n : ℕ). IsDamagedAt n held) (sym stops.0) stops.1,
+      λ at first after kept. stops.2 first (legal_first first held after kept),
+    ),
   ),
   same,
 )
@@ -98,12 +100,7 @@ stops_opened begin held next (Damaged place) long known same unfit stops = (
   (
     long,
     known,
-    begin,
-    stops.0,
-    stops.1,
-    stops.2,
-    stops.3,
-    λ at first after kept. unfit (first_place begin (map records_of stops.0) (sym stops.2.begins ∙ at)) first (legal_first first held after kept),
+    (begin, stops.0, stops.1, stops.2, stops.3, λ at first after kept. unfit (first_place begin (map records_of stops.0) (sym stops.2.begins ∙ at)) first (legal_first first held after kept)),
   ),
   same,
 )

@@ -49,7 +49,7 @@ module _ (begin : Start) (bytes : List ℕ) (long : ¬ IsNewDisk bytes) (known :
 
   damaged_at : (legal : List (Pair Record Outcome)) (market : Market) (place : ℕ) (begins : At legal market place) → IsDamagedAt place bytes → Opens
   damaged_at legal market place begins damage =
-      (Damaged place, (long, known, begin, legal, market, begins, damage, λ at first after kept. unfit legal (sym begins.begins ∙ at) first (legal_first first bytes after kept)))
+      (Damaged place, (long, known, (begin, legal, market, begins, damage, λ at first after kept. unfit legal (sym begins.begins ∙ at) first (legal_first first bytes after kept))))
 
   -- nothing follows
   ended : (legal : List (Pair Record Outcome)) (market : Market) (place : ℕ) (begins : At legal market place) → begins.rest ≡ [] → Opens
