@@ -23,7 +23,8 @@ use Rattle.flow_exchange.specs.Statuses.{ended_status}
 use Rattle.flow_exchange.specs.Private.{rejected}
 use Rattle.flow_exchange.specs.HistoryFiles.{History}
 use Rattle.flow_exchange.specs.Checkpointing.{checkpoint_text, CheckpointsTo, CheckpointsShort}
-use Rattle.flow_exchange.proofs.HistoryOf.{history_of, makes_of, judged_all, judged_some, at_pair, audit_status}
+use Rattle.flow_exchange.specs.JournalFiles.{audit_status}
+use Rattle.flow_exchange.proofs.HistoryOf.{history_of, makes_of, judged_all, judged_some, at_pair}
 use Rattle.flow_exchange.proofs.Words.{Nothing, IsForm, history_form}
 use Rattle.flow_exchange.proofs.HistoryForms.{last_alone, stops_own}
 

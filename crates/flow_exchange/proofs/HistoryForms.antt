@@ -34,7 +34,8 @@ use Rattle.flow_exchange.specs.Private.{rejected}
 use Rattle.flow_exchange.specs.HistoryFiles.{History}
 use Rattle.flow_exchange.specs.Auditing.{legal_line, audit_text, AuditsTo, AuditsShort}
 use Rattle.flow_exchange.specs.Reporting.{AreReported, ReportsTo, ReportsShort}
-use Rattle.flow_exchange.proofs.HistoryOf.{history_of, makes_of, judged_all, judged_some, at_pair, audit_status}
+use Rattle.flow_exchange.specs.JournalFiles.{audit_status}
+use Rattle.flow_exchange.proofs.HistoryOf.{history_of, makes_of, judged_all, judged_some, at_pair}
 use Rattle.flow_exchange.proofs.Words.{IsOwn, Nothing, IsForm, history_form}
 
 cleared_more : (pair : Pair Record Outcome) (pairs : List (Pair Record Outcome)) → cleared_in (pair ∷ pairs) ≡ cleared_by pair.answer + cleared_in pairs

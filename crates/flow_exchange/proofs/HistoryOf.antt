@@ -1,6 +1,5 @@
 -- A history as it was read.
 use Rattle.std.proofs.Common.{◌≡◌, ◌⊎◌, ◌+◌, ◌<◌, suc, ℕ, List, [], ◌∷◌, ◌++◌, All, map, length, take, inl, inr, refl, sym, ap, ◌∙◌, subst, append-nil, append_assoc, arith}
-use Rattle.std.specs.Prelude.{◌==◌, if◌then◌else◌}
 use Rattle.std.proofs.lemmas.Bool.{cases_lt}
 use Rattle.std.proofs.lemmas.List.{flat_map_more}
 use Rattle.std.proofs.lemmas.List.Elements.{All-push}
@@ -27,18 +26,12 @@ use Rattle.batch_audit.proofs.LawProofs.{one_market}
 use Rattle.journal_replay.proofs.Judged.{read_more}
 use Rattle.history_words.proofs.Starts.{one_start}
 use Rattle.flow_exchange.specs.declared.status.Status.{Status}
-use Rattle.flow_exchange.specs.declared.status.Status.TheVariants.{Rejected}
-use Rattle.flow_exchange.specs.Statuses.{ending_status}
 use Rattle.flow_exchange.specs.HistoryFiles.{History, IsHistory, history_status, HistoryTo, IsAtPairOf}
 use Rattle.flow_exchange.specs.Promising.{IsKeptFrom}
 
 -- the history of these parts
 abbrev pub history_of : Start → List (Pair Record Outcome) → Market → List (Record × Record) → Ending → History
 history_of start legal market following ending = record { start = start; legal = legal; market = market; following = following; ending = ending }
-
--- its status, by the parts on which that depends
-abbrev pub audit_status : ℕ → Ending → List (Pair Record Outcome) → List (Record × Record) → Status
-audit_status limit ending legal following = if length following == 0 then ending_status limit ending else Rejected (length legal + 1)
 
 -- what a subcommand makes of the bytes is what it makes of this history
 pub makes_by : (judge : History → Status) (Writes : History → List ℕ → Type 0) (limit : ℕ) (bytes : List ℕ) (status : Status) (text : List ℕ) (history : History) → IsHistory limit bytes history → status ≡ judge history → Writes history text → HistoryTo judge Writes limit bytes status text

@@ -1,5 +1,5 @@
 -- What the subcommands over a history have in common: what is read of it, and its status.
-use Rattle.std.specs.Prelude.{◌≡◌, ◌⊎◌, ℕ, ◌+◌, ◌==◌, if◌then◌else◌, List, [], ◌∷◌, ◌++◌, length, map, take, All}
+use Rattle.std.specs.Prelude.{◌≡◌, ◌⊎◌, ℕ, List, [], ◌∷◌, ◌++◌, map, take, All}
 use Rattle.wire_records.specs.Records.{Record}
 use Rattle.wire_records.specs.Commands.{Pair}
 use Rattle.wire_records.specs.Versions.{IsReadAs}
@@ -13,8 +13,8 @@ use Rattle.market_snapshot.specs.Checkpoints.{HasCheckpointMagic}
 use Rattle.market_history.specs.Histories.{Start, market_of, histories, BeginsUnsound, BeginsOtherwise}
 use Rattle.batch_audit.specs.Legal.{StopsAt}
 use Rattle.flow_exchange.specs.declared.status.Status.{Status}
-use Rattle.flow_exchange.specs.declared.status.Status.TheVariants.{NotFlow, Rejected, BadCheckpoint}
-use Rattle.flow_exchange.specs.Statuses.{ending_status}
+use Rattle.flow_exchange.specs.declared.status.Status.TheVariants.{NotFlow, BadCheckpoint}
+use Rattle.flow_exchange.specs.JournalFiles.{audit_status}
 
 -- A history as it was read: its beginning, its valid entries, the market that they lead to from the one that it begins in, the entries from
 -- the first invalid one on (`following`), and how the reading ended.
@@ -38,10 +38,9 @@ pub record IsHistory (limit : ℕ) (bytes : List ℕ) (history : History) : Type
   pub legal : AreLegalFrom history.start history.legal history.market
   pub stops : StopsAt history.market history.following
 
--- the status of a history: that of its ending if no entry follows the valid ones, and else the number of the first invalid one, counted
--- from 1
+-- the status of a history, which is found as that of a journal
 abbrev pub history_status : ℕ → History → Status
-history_status limit history = if length history.following == 0 then ending_status limit history.ending else Rejected (length history.legal + 1)
+history_status limit history = audit_status limit history.ending history.legal history.following
 
 -- the status of bytes that begin no history: a bad checkpoint has a status of its own
 abbrev pub IsNoHistory : List ℕ → Status → Type 0

@@ -24,11 +24,11 @@ use Rattle.history_words.proofs.Starts.{other_magics}
 use Rattle.session_resume.specs.Firsts.{BeginsIllegal}
 use Rattle.journal_words.specs.Findings.{IsExplained}
 use Rattle.flow_exchange.specs.declared.status.Status.TheVariants as answer
-use Rattle.flow_exchange.specs.JournalFiles.{if_whole}
+use Rattle.flow_exchange.specs.JournalFiles.{if_whole, audit_status}
 use Rattle.flow_exchange.specs.HistoryFiles.{History, AreLegalFrom, IsHistory, IsNoHistory}
 use Rattle.flow_exchange.specs.Auditing.{legal_line, audit_text}
 use Rattle.flow_exchange.specs.Explaining.{Explains}
-use Rattle.flow_exchange.proofs.HistoryOf.{history_of, makes_of, judged_all, judged_some, audit_status}
+use Rattle.flow_exchange.proofs.HistoryOf.{history_of, makes_of, judged_all, judged_some}
 use Rattle.flow_laws.specs.Laws.{EncodesHistory, EncodesLegal, DoneIsForHistories, DoneForLegalJournals, HasFirstIllegal, RejectedIsFirstIllegal, FirstIllegalOfJournals}
 
 -- ---- what a status tells

@@ -29,8 +29,8 @@ use Rattle.flow_exchange.specs.declared.status.Status.{Status}
 use Rattle.flow_exchange.specs.declared.status.Status.TheVariants as answer
 use Rattle.flow_exchange.specs.Auditing.{audit_text}
 use Rattle.flow_exchange.specs.Checkpointing.{checkpoint_text, CheckpointsTo}
-use Rattle.flow_exchange.specs.JournalFiles.{if_whole}
-use Rattle.flow_exchange.proofs.HistoryOf.{history_of, makes_of, consistent_start, audit_status}
+use Rattle.flow_exchange.specs.JournalFiles.{if_whole, audit_status}
+use Rattle.flow_exchange.proofs.HistoryOf.{history_of, makes_of, consistent_start}
 use Rattle.flow_exchange.proofs.Outcomes.{one_end}
 use Rattle.flow_laws.specs.Laws.{EncodesHistory, CheckpointsOfHistories, HistoriesHaveCheckpoints, LegalJournalsHaveCheckpoints}
 use Rattle.flow_laws.proofs.AuditLaws.{done_all, all_made, no_history_done, to_end, from_end}

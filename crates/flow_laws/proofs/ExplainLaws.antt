@@ -11,7 +11,8 @@ use Rattle.flow_exchange.specs.declared.status.Status.{Status}
 use Rattle.flow_exchange.specs.declared.status.Status.TheVariants as answer
 use Rattle.flow_exchange.specs.Auditing.{audit_text}
 use Rattle.flow_exchange.specs.Explaining.{Explains}
-use Rattle.flow_exchange.proofs.HistoryOf.{history_of, makes_of, audit_status}
+use Rattle.flow_exchange.specs.JournalFiles.{audit_status}
+use Rattle.flow_exchange.proofs.HistoryOf.{history_of, makes_of}
 use Rattle.flow_exchange.proofs.Outcomes.{one_end}
 use Rattle.flow_laws.specs.Laws.{ExplainIsAudit, RejectedIsExplained}
 use Rattle.flow_laws.proofs.AuditLaws.{no_history_rejected, history_first, explained_file}

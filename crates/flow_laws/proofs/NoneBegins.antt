@@ -11,7 +11,7 @@ use Rattle.market_history.specs.Histories.{Empty, Kept, market_of, starts, Begin
 use Rattle.market_history.proofs.Starting.{kept_magic}
 use Rattle.history_words.proofs.Starts.{other_magics}
 use Rattle.flow_exchange.specs.declared.status.Status.TheVariants as answer
-use Rattle.flow_exchange.specs.JournalFiles.{if_whole}
+use Rattle.flow_exchange.specs.JournalFiles.{if_whole, audit_status}
 use Rattle.flow_exchange.specs.HistoryFiles.{History, history_status, HistoryTo}
 use Rattle.flow_exchange.specs.Stating.{statement_status, States}
 use Rattle.statement_rules.specs.Views.{is_there}
@@ -20,7 +20,6 @@ use Rattle.flow_exchange.specs.Auditing.{audit_text}
 use Rattle.flow_exchange.specs.Explaining.{Explains}
 use Rattle.flow_exchange.specs.Reporting.{AreReported}
 use Rattle.flow_exchange.specs.Checkpointing.{checkpoint_text}
-use Rattle.flow_exchange.proofs.HistoryOf.{audit_status}
 use Rattle.flow_laws.specs.Laws.{BadIsUnsound}
 use Rattle.flow_laws.proofs.AuditLaws.{audited}
 

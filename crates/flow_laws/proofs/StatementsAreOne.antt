@@ -24,11 +24,11 @@ use Rattle.statement_rules.proofs.Texts.{all_stay}
 use Rattle.flow_exchange.specs.declared.form.Form.TheVariants.{Statement}
 use Rattle.flow_exchange.specs.declared.status.Status.{Status}
 use Rattle.flow_exchange.specs.declared.status.Status.TheVariants as answer
-use Rattle.flow_exchange.specs.JournalFiles.{if_whole}
+use Rattle.flow_exchange.specs.JournalFiles.{if_whole, audit_status}
 use Rattle.flow_exchange.specs.HistoryFiles.{History, IsHistory}
 use Rattle.flow_exchange.specs.Stating.{statement_status, States}
 use Rattle.flow_exchange.specs.Program.{ComesTo}
-use Rattle.flow_exchange.proofs.HistoryOf.{history_of, makes_by, consistent_start, audit_status}
+use Rattle.flow_exchange.proofs.HistoryOf.{history_of, makes_by, consistent_start}
 use Rattle.flow_exchange.proofs.Outcomes.{one_end}
 use Rattle.flow_laws.specs.Laws.{EncodesHistory, EncodesLegal, StatementsOfHistories, StatementsOfLegalJournals, OneViewOneStatement, StatementsGoOn}
 use Rattle.flow_laws.proofs.AuditLaws.{all_made, to_end, from_end, journal_history}
