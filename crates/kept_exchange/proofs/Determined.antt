@@ -55,9 +55,9 @@ module _ (limit : ℕ) (held : List ℕ) (end : DiskState) (source out : Change)
   asks status.NotFlow x r w d m = asks_left x
   asks status.BadCheckpoint x r w d m =
       if_some source.before _ _ (λ (bytes : List ℕ) unsound. (opening.New, x.1.0, (reading.NotFlow, unsound_none (take limit bytes) unsound.0 unsound.1, inl (unsound, refl)))) x.1.1
-  asks status.NotDisk x r w d m = each source.before _ (λ (bytes : List ℕ). (opening.Foreign, x.is, refl))
-  asks (status.Damaged place) x r w d m = each source.before _ (λ (bytes : List ℕ). (opening.Damaged place, x.is, refl))
-  asks (status.Rejected number) x r w d m = each source.before _ (λ (bytes : List ℕ). (opening.Rejected number, x.is, refl))
+  asks status.NotDisk x r w d m = each source.before _ (λ (bytes : List ℕ). (opening.Foreign, x.0, refl))
+  asks (status.Damaged place) x r w d m = each source.before _ (λ (bytes : List ℕ). (opening.Damaged place, x.0, refl))
+  asks (status.Rejected number) x r w d m = each source.before _ (λ (bytes : List ℕ). (opening.Rejected number, x.0, refl))
   asks status.ReadFault x r w d m = absurd (r refl)
   asks status.WriteFault x r w d m = absurd (w refl)
   asks status.DiskFault x r w d m = absurd (d refl)
@@ -100,9 +100,9 @@ module _ (limit : ℕ) (held : List ℕ) (content left : Option (List ℕ)) (end
       if_some content _ _ (λ (bytes : List ℕ) are. asks_end bytes x.0.begin x.0.old x.0.market x.0.before x.0.lines (status.TooLong most) x.0.opens are.0 (inr (are.1, ap status.TooLong x.1))) x.0.are
   lines_ask status.NotFlow x r w d m = if_some content _ _ (λ (bytes : List ℕ) magic. (opening.Legal x.1 x.2 x.3, x.4, inl (magic, refl))) x.5
   lines_ask status.BadCheckpoint x r w d m = if_some content _ _ (λ (bytes : List ℕ) unsound. (opening.New, x.1.0, inl (unsound, refl))) x.1.1
-  lines_ask status.NotDisk x r w d m = each content _ (λ (bytes : List ℕ). (opening.Foreign, x.1.is, refl))
-  lines_ask (status.Damaged place) x r w d m = each content _ (λ (bytes : List ℕ). (opening.Damaged place, x.1.is, refl))
-  lines_ask (status.Rejected number) x r w d m = each content _ (λ (bytes : List ℕ). (opening.Rejected number, x.1.is, refl))
+  lines_ask status.NotDisk x r w d m = each content _ (λ (bytes : List ℕ). (opening.Foreign, x.1.0, refl))
+  lines_ask (status.Damaged place) x r w d m = each content _ (λ (bytes : List ℕ). (opening.Damaged place, x.1.0, refl))
+  lines_ask (status.Rejected number) x r w d m = each content _ (λ (bytes : List ℕ). (opening.Rejected number, x.1.0, refl))
   lines_ask status.ReadFault x r w d m = absurd (r refl)
   lines_ask status.WriteFault x r w d m = absurd (w refl)
   lines_ask status.DiskFault x r w d m = absurd (d refl)

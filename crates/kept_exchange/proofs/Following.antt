@@ -18,8 +18,8 @@ keep_follows start end is_disk limit ends source out notes serves = record {
       after_run begin all.0 start end old keeps.new market all.1 keeps.records keeps.acknowledged holds is_disk keeps.runs;
   opens = λ begin old market holds small refusal.
       not_refused start begin old market holds small (EndsWith limit start.content end source out)
-      (λ refused. if_some start.content _ _ (λ (held : List ℕ) so. so.is) refused) (λ place refused. if_some start.content _ _ (λ (held : List ℕ) so. so.is) refused)
-      (λ number refused. if_some start.content _ _ (λ (held : List ℕ) so. so.is) refused) ends serves.ends refusal;
+      (λ refused. if_some start.content _ _ (λ (held : List ℕ) so. so.0) refused) (λ place refused. if_some start.content _ _ (λ (held : List ℕ) so. so.0) refused)
+      (λ number refused. if_some start.content _ _ (λ (held : List ℕ) so. so.0) refused) ends serves.ends refusal;
   complete = λ no_disk no_read no_write memory.
       determined limit end source out ends start.content serves.ends (λ e. no_read (serves.reads.rose e)) (λ e. no_write (serves.writes.rose e)) (λ e. no_disk (serves.disks.rose e)) memory;
 }
@@ -32,8 +32,8 @@ lines_follow start end is_disk limit ends source out later notes serves = record
       after_run begin all.0 start end old keeps.new market all.1 (asked_of keeps.new) keeps.acknowledged holds is_disk keeps.runs;
   opens = λ begin old market holds small refusal.
       not_refused start begin old market holds small (λ status. IfSome start.content (λ held. LinesEndWith limit held source.before source.after end out later status))
-      (λ refused. if_some start.content _ _ (λ (held : List ℕ) so. so.1.is) refused) (λ place refused. if_some start.content _ _ (λ (held : List ℕ) so. so.1.is) refused)
-      (λ number refused. if_some start.content _ _ (λ (held : List ℕ) so. so.1.is) refused) ends serves.comes refusal;
+      (λ refused. if_some start.content _ _ (λ (held : List ℕ) so. so.1.0) refused) (λ place refused. if_some start.content _ _ (λ (held : List ℕ) so. so.1.0) refused)
+      (λ number refused. if_some start.content _ _ (λ (held : List ℕ) so. so.1.0) refused) ends serves.comes refusal;
   complete = λ no_disk no_read no_write memory.
       lines_determined limit source.before source.after end out later ends start.content serves.comes (λ e. no_read (serves.reads.rose e)) (λ e. no_write (serves.writes.rose e)) (λ e. no_disk (serves.disks.rose e)) memory;
 }
