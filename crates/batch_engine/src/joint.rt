@@ -1,4 +1,4 @@
-//! Prices that are tried with joint prices before a search.
+//! The attempts of a batch: a short search, one from joint prices, and the search with the whole budget.
 ghost use Rattle.std.specs.Prelude.{◌≡◌, [], ◌==◌, ◌^◌, ◌<◌, ◌≤◌, if◌then◌else◌, map, length, vec_capacity, All, IfOk};
 ghost use Rattle.std.specs.List.{range_with_len};
 ghost use Rattle.weight_rows.specs.Rows.{IsPrice, IsPricedBy};
@@ -21,7 +21,7 @@ use std::alloc::Global;
 // The moves for each asset in the first attempt from the start prices.
 const MOVES_PER_ASSET: u32 = 16;
 
-// The orders of a batch at prices, which are set to those that are tested.
+// A workspace as a test: prices are tested by setting them.
 #[derive(Drop)]
 pub(crate) struct Tested<'a> {
     pub(crate) work: Workspace<'a>,

@@ -501,7 +501,7 @@ not_without : (prices residuals : List ℤ) (gap : ℤ) (x y : ℕ)
     → ¬ IsAdmissibleClearing wide_book at_0 (record { prices = prices; fills = record { order = 1; rate = x } ∷ record { order = 2; rate = y } ∷ []; residuals = residuals; gap = gap })
 not_without prices residuals gap x y right = let count = ap length right.numbers in omega (arith, count)
 
--- ---- three assets, a pair and a basket
+-- ---- three assets, an order of two of them and a basket
 
 -- a buyer and a seller of an asset at its price in ticks, 100 around it
 abbrev buyer_at : ℕ → ℕ → ℕ → Order
@@ -550,7 +550,7 @@ afternoon_residuals : ((clearing_at 3 afternoon_prices (trades (afternoon 99) (7
 unfolding weight_in
 afternoon_residuals = (refl, refl)
 
--- the pair is paid 18,030 ticks for a unit
+-- who buys one and sells the other is paid 18,030 ticks for a unit
 pair_price : portfolio_price (entry 0 (pos 1) ∷ entry 1 (neg_ℤ (pos 1)) ∷ []) afternoon_prices ≡ price_of_ticks (neg_ℤ (pos 18030))
 unfolding portfolio_price
 pair_price = refl

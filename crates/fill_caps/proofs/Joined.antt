@@ -188,7 +188,7 @@ module _ (b : Balances) (owe : OweLittle b) where
   units_fit asset is_asset before now total sums limited near moved account there =
       (owe.units account asset there is_asset, omega (arith, ints, units_are_bounded asset is_asset now total sums account there, limited, near, moved))
 
--- the imbalances of orders with one rate each, as a sum over pairs of order and rate
+-- the imbalances of orders with one rate each, as a sum over the orders, each with its rate
 pub residual-trades : (orders : List Order) (rates : List ℕ) (asset : ℕ) → residual (trades orders rates) asset ≡ int_sum_by (λ pair. weight_in pair.0.row asset *ℤ pos pair.1) (zip orders rates)
 residual-trades [] rates asset = refl
 residual-trades (o ∷ orders) [] asset = refl

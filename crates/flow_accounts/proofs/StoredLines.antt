@@ -9,7 +9,7 @@ use Rattle.flow_accounts.specs.NoCredit.{no_line}
 use Rattle.flow_accounts.specs.CreditLines.{lines_in, AreStored}
 use Rattle.flow_accounts.proofs.ListLemmas.{any_of_one}
 
--- behind a list, where one value stands any number of times, that value is read at any place
+-- after a list, where one value follows any number of times, that value is read at any place
 pub behind : {X : Type 0} (xs : List X) (n k : ℕ) (d : X) → length xs ≤ k → get_or (xs ++ replicate n d) k d ≡ d
 behind xs n k d past = get_or-append_right xs (replicate n d) (length xs) k d refl past ∙ any_of_one n (k - length xs) d
 

@@ -56,7 +56,8 @@ pub(crate) fn statement_status(
         HistoryStop::AtPairs(NoStatement::NoAccount(number)) => Status::NoAccount(number))
 }
 
-// Of an encoding, which stops at the first line that is no command, or if there is no checkpoint of a consistent market of the version.
+// Returns the status of an encoding. It stops at the first line that is no command, or if there is no checkpoint of a consistent market of
+// the version.
 pub(crate) fn lines_status(ended: Result<(), Fault<EncodeStop>>, limit: u64) -> Status
     ensures { result ≡ ended_status limit unencoded ended }
 {

@@ -1,4 +1,4 @@
--- A history may be cut after any of its entries, and a checkpoint of the market there stands for the part before the cut.
+-- A history may be cut after any of its entries, and a checkpoint of the market there replaces the part before the cut.
 use Rattle.std.proofs.Common.{◌≡◌, ◌+◌, ◌<◌, ◌≤◌, ◌↔◌, ℕ, List, [], ◌∷◌, ◌++◌, length, refl, sym, ap, subst, ◌∙◌, append_assoc, length-append, arith}
 use Rattle.std.specs.Prelude.{All}
 use Rattle.std.specs.List.{flat_map}

@@ -65,7 +65,7 @@ module _ {S B : Type 0} (w : Word (Record × Record) S B) (begins : Beginning S)
             ]
       ]
 
-  -- where a subcommand goes on from each consistent market, it does so from what begins a history, or none begins
+  -- where a subcommand can continue from each consistent market, it continues from what begins a history, or none begins
   pub some_history_end : ((market : Market) → IsConsistent market → HasNext w (λ (version : Version). begins.starts market)) → (limit : ℕ) (bytes : List ℕ) → ((ended : Ended (HistoryStop B)) (text : List ℕ) → ¬ (over_history_from w begins).Comes limit bytes ended text) → ⊥
   some_history_end next limit bytes none =
       one_of ((start : Start) × (body : List ℕ) × BeginsWith starts (take limit bytes) start body) (λ told. elim told [

@@ -300,7 +300,7 @@ HistoriesHaveCheckpoints = (start : Start) (pairs : List (Pair Record Outcome)) 
     → (market_of start).next_order + length pairs < 2 ^ 63 → IsCheckpoint market (checkpoint_bytes market)
 
 -- The entries of a history may be cut anywhere: from the market there on, the later ones are valid exactly if they are in the whole, and
--- lead to the same market. So a checkpoint stands for the history that it was written for: with the same bytes after both, either both are
+-- lead to the same market. So a checkpoint replaces the history that it was written for: with the same bytes after both, either both are
 -- histories whose entries are all valid, with the same checkpoint at their ends, or neither is.
 pub record HistoriesGoOn : Type 0 where
   pub cut : (start : Start) (pairs more : List (Pair Record Outcome)) (old new : Market) → AreLegalFrom start pairs old

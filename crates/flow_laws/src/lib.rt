@@ -151,7 +151,7 @@ pub fn histories_have_checkpoints()
     ensures { HistoriesHaveCheckpoints }
 {}
 
-/// A checkpoint stands for the history that it was written for: from it on, the same entries are valid, and they lead to the same market. With
+/// A checkpoint replaces the history that it was written for: from it on, the same entries are valid, and they lead to the same market. With
 /// the same bytes after both, `checkpoint` is done for both or for neither, and writes the same.
 pub fn histories_go_on()
     ensures { HistoriesGoOn }

@@ -1,4 +1,4 @@
--- The parts of the orders, added one order after the other.
+-- The matrix and the right side, summed up one order after the other.
 use Rattle.std.proofs.Common.{◌≡◌, ℕ, ◌+◌, ◌-◌, ◌*◌, ◌^◌, ◌≤◌, ◌<◌, ℤ, pos, ◌+ℤ◌, ◌-ℤ◌, ◌*ℤ◌, eqb, ⊎_elim, map, List, [], ◌∷◌, ◌++◌, length, drop, get_or, length-append, refl, ap, ◌∙◌, arith}
 use Rattle.std.specs.Prelude.{unsigned_abs, ◌/◌, All}
 use Rattle.std.proofs.lemmas.Int.{ints}
@@ -19,7 +19,7 @@ use Rattle.joint_prices.specs.Solving.{solved, IsTriangle}
 use Rattle.joint_prices.proofs.Filling.{map_range_same}
 use Rattle.joint_prices.specs.Sums.{IsRowAdded, IsSquareAdded, IsSquare, AreSmall, AreSquareSmall, AreGathered, IsSystem, sums_of, no_grid, no_sides, row_from, rows_from}
 
--- the parts of the orders before a place were added
+-- what the orders before a place contribute was added
 pub record IsGathering (os : List Order) (ss : List OrderState) (old : List (List ℤ)) (before : List ℤ) (i : ℕ) (grid : List (List ℤ)) (sides : List ℤ) : Type 0 where
   pub square : IsSquare (length before) grid
   pub count : length sides ≡ length before

@@ -1,4 +1,4 @@
--- Facts on orders in a step.
+-- Facts on the states of orders.
 use Rattle.std.proofs.Common.{◌≡◌, ℕ, ◌+◌, ◌-◌, ◌*◌, ◌^◌, ◌≤◌, ℤ, pos, ◌+ℤ◌, ◌-ℤ◌, ◌*ℤ◌, int_div, refl, arith}
 use Rattle.std.specs.Prelude.{neg_ℤ, ◌/◌}
 use Rattle.std.specs.Int.{int_min, int_max, div_ceil}
@@ -55,7 +55,7 @@ pub next_is : (amount z : ℤ) (s : OrderState) (low high : ℕ) → z ≡ targe
 unfolding next
 next_is amount z s low high z_is low_is high_is = rw (z_is, low_is, high_is) refl
 
--- a line is not too small for a room, and not too great
+-- a line has a least value by the batch maximum, and a greatest one
 pub line_least : (c : Terms) → IsWithinLimits c → c.room * 2 ^ 20 ≤ line c
 unfolding line
 line_least c is =

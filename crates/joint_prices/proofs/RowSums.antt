@@ -1,4 +1,4 @@
--- Adding the weights of a row, times a factor, to sums, entry by entry.
+-- Adding a weight vector, times a factor, to sums, leg by leg.
 use Rattle.std.proofs.Common.{◌≡◌, ◌≢◌, ℕ, suc, ◌+◌, ◌^◌, ◌<◌, ◌≤◌, ℤ, pos, negsuc, ◌+ℤ◌, ◌*ℤ◌, eqb, cond, List, [], ◌∷◌, length, take, get_or, set, refl, sym, ap, ◌∙◌, subst, ⊎_elim, arith}
 use Rattle.std.specs.Prelude.{unsigned_abs, All}
 use Rattle.std.proofs.Math.IntN.{zero-*ℤ}
@@ -18,11 +18,11 @@ use Rattle.weight_rows.proofs.RowLawProofs.{weights_are_small}
 use Rattle.flow_orders.specs.Residuals.{HasEach}
 use Rattle.joint_prices.specs.Sums.{AreSmall, IsRowAdded, IsSquare, IsSquareAdded, AreSquareSmall, sums_of}
 
--- what an entry brings of an asset times a factor
+-- what a leg adds to the sum of an asset, times a factor
 pub brought : ℤ → ℕ → Entry → ℤ
 brought z asset e = cond (eqb e.asset asset) (e.weight *ℤ z) (pos 0)
 
--- no two entries name the same asset
+-- no two legs name the same asset
 abbrev pub AreApart : List Entry → Type 0
 AreApart row = (i j : ℕ) (d : Entry) → i < j → j < length row → (get_or row i d).asset ≢ (get_or row j d).asset
 
@@ -32,7 +32,7 @@ lawful_apart row lawful i j d before within same =
     let rises : get_or (assets_of row) i 0 < get_or (assets_of row) j 0 = AllPairs-from_increasing (assets_of row) lawful.ascending i j 0 before (omega (arith, within, count)) in
     omega (arith, rises, asset_at row i d (omega (arith, before, within)), asset_at row j d within, same)
 
--- all entries together bring the row's weight times the factor
+-- all legs together add the vector's weight times the factor
 all_bring : (z : ℤ) (asset : ℕ) (row : List Entry) → AreApart row → int_sum_by (brought z asset) row ≡ weight_in row asset *ℤ z
 unfolding weight_in brought
 all_bring z asset [] apart = sym (zero-*ℤ (z))
@@ -47,7 +47,7 @@ all_bring z asset (e ∷ row) apart =
     (λ other. rw other.0 (omega (arith, ints, all_bring z asset row (λ i j d before within. apart (suc i) (suc j) d (omega (arith, before)) (omega (arith, within))))))
     (eqb_tells e.asset asset)
 
--- the first j entries of a row are added
+-- the first j legs of a weight vector are added
 abbrev pub AreAdded : List Entry → ℤ → List ℤ → ℕ → List ℤ → Type 0
 AreAdded row z old j new = HasEach (length old) (λ a. price_of old a +ℤ int_sum_by (brought z a) (take j row)) new
 
@@ -93,13 +93,13 @@ on_the_way row z old j now asset lawful slow within near inside before =
     let sum = unsigned_abs-int_sum_by (brought z asset) (2 ^ 98) (take j row) light in
     rw (before.each asset inside) (omega (arith, unsigned_abs-add (price_of old asset) (int_sum_by (brought z asset) (take j row)), near asset inside, sum, length-take j row, lawful.few, within))
 
--- ---- the same of pairs of assets
+-- ---- the same of every two assets
 
--- what an entry brings of its asset, by its weight
+-- what a leg adds to the row of its asset, by its weight
 pub brings : (ℤ → ℤ) → ℕ → Entry → ℤ
 brings g asset e = cond (eqb e.asset asset) (g e.weight) (pos 0)
 
--- all entries together bring what the row's weight does
+-- all legs together add what the vector's weight does
 all_brings : (g : ℤ → ℤ) (asset : ℕ) (row : List Entry) → g (pos 0) ≡ pos 0 → AreApart row → int_sum_by (brings g asset) row ≡ g (weight_in row asset)
 unfolding weight_in brings
 all_brings g asset [] none apart = sym none
@@ -118,11 +118,11 @@ any_zero : (x : ℤ) → x *ℤ pos 0 ≡ pos 0
 any_zero (pos n) = omega (arith, ints)
 any_zero (negsuc n) = omega (arith, ints)
 
--- what a weight brings of a pair
+-- what a weight adds to the sum of two assets
 pub pair : List Entry → ℤ → ℕ → ℤ → ℤ
 pair row z b w = weight_in row b *ℤ (w *ℤ z)
 
--- the first j entries of a row are added to the sums of pairs
+-- the first j legs of a weight vector are added to the matrix
 pub record AreSquared (row : List Entry) (z : ℤ) (n : ℕ) (old : List (List ℤ)) (j : ℕ) (now : List (List ℤ)) : Type 0 where
   pub square : IsSquare n now
   pub each : (a b : ℕ) → a < n → b < n → price_of (sums_of now a) b ≡ price_of (sums_of old a) b +ℤ int_sum_by (brings (pair row z b) a) (take j row)
@@ -177,7 +177,7 @@ brings_small row z b asset e small heavy light =
     (λ other. rw other.0 (omega arith))
     (eqb_tells e.asset asset)
 
--- on the way the sum of a pair has grown by little
+-- on the way the sum of two assets has grown by little
 pub square_on_the_way : (row : List Entry) (z : ℤ) (n : ℕ) (old : List (List ℤ)) (j : ℕ) (now : List (List ℤ)) (a b : ℕ) → IsWeightVector row → unsigned_abs z ≤ 2 ^ 74 → j ≤ length row → AreSquareSmall (2 ^ 119) old → length old ≡ n → a < n → b < n
     → AreSquared row z n old j now → unsigned_abs (price_of (sums_of now a) b) ≤ 2 ^ 120
 square_on_the_way row z n old j now a b lawful small within near count ina inb before =

@@ -1,4 +1,5 @@
--- The solution of a symmetric system. A row begins with its diagonal and ends with its right side; row k has no entry before.
+-- The solution of a symmetric linear system by Gaussian elimination of its upper triangle, without pivoting. A row begins with its diagonal and
+-- ends with its right side; by symmetry what is before the diagonal isn't kept.
 use Rattle.std.specs.Prelude.{◌≡◌, ℕ, zero, suc, ◌+◌, ◌<◌, List, [], ◌∷◌, length, drop, slice_index_or, pos, if◌then◌else◌}
 use Rattle.std.specs.Ordering.{int_eq}
 use Rattle.joint_prices.specs.Numbers.{Num, zero_num, minus, times, over}
@@ -13,24 +14,25 @@ reduced f [] row = row
 reduced f (x ∷ r) [] = []
 reduced f (x ∷ r) (t ∷ row) = minus t (times f x) ∷ reduced f r row
 
--- a row less its part of one with diagonal a above it, of which r is left; if that has none of it, it stays
+-- a row after the unknown of a row above it is eliminated, which has the diagonal a and r from this row's diagonal on; if the coefficient x to
+-- eliminate is 0, the row stays
 abbrev pub lessened : Num → List Num → List Num → List Num
 lessened a [] row = row
 lessened a (x ∷ r) row = if int_eq x.m (pos 0) then row else reduced (over x a) (x ∷ r) row
 
--- the rows below one with diagonal a and rest r, each less its part of it
+-- the rows below one with diagonal a and rest r, after its unknown is eliminated from each
 abbrev pub below : Num → List Num → List (List Num) → List (List Num)
 below a [] rows = rows
 below a (x ∷ r) [] = []
 below a (x ∷ r) (row ∷ rows) = lessened a (x ∷ r) row ∷ below a r rows
 
--- t less what the unknowns xs make of the row r
+-- t less the product of the coefficients r and the unknowns xs
 abbrev pub less : Num → List Num → List Num → Num
 less t [] xs = t
 less t (g ∷ r) [] = t
 less t (g ∷ r) (x ∷ xs) = less (minus t (times g x)) r xs
 
--- the unknown of a row, and those of the rows below it
+-- one step of back substitution: the unknown of a row, before those of the rows below it
 abbrev pub joined : List Num → List Num → List Num
 joined row xs = over (less (at row (length xs + 1)) (drop 1 row) xs) (at row 0) ∷ xs
 
@@ -48,7 +50,7 @@ solved rows = solved_in (length rows) rows
 abbrev pub IsTriangle : List (List Num) → Type 0
 IsTriangle rows = (k : ℕ) → k < length rows → length (slice_index_or rows k []) + k ≡ length rows + 1
 
--- the unknowns of rows that have none of those before them, before the unknowns xs
+-- back substitution: the unknowns of rows from which those before them are eliminated, before the unknowns xs
 abbrev pub finished : List (List Num) → List Num → List Num
 finished [] xs = xs
 finished (row ∷ rows) xs = joined row (finished rows xs)

@@ -10,7 +10,7 @@ ghost use Rattle.joint_prices.specs.Steps.{order_states, priced, shared};
 use crate::order_states::OrderState;
 use flow_orders::Order;
 
-// Each order with its share, at the prices.
+// The state of each order: its residual and its diagonal, by its share and the prices.
 pub(crate) fn state_all(
     tau: u64,
     lines: &[u128],
@@ -34,7 +34,7 @@ pub(crate) fn state_all(
     }
 }
 
-// An order with its share, at the prices.
+// The state of an order. It is read by the price of its portfolio alone.
 fn state_of(tau: u64, line: u128, order: &Order, share: u32, prices: &[i64]) -> OrderState
     requires tau { tau ≤ 2 ^ 60 }
     requires line { line ≡ line_in (terms_of order.now) }
@@ -47,7 +47,7 @@ fn state_of(tau: u64, line: u128, order: &Order, share: u32, prices: &[i64]) -> 
     OrderState::new(tau, line, curve, order.row().price(prices), share)
 }
 
-// The share of each order after a step in which prices move by amounts.
+// Each order's share after its Newton step, given by how much each price moves.
 pub(crate) fn share_all(orders: &[Order], places: &[OrderState], by: &[i64], shares: &mut [u32])
     requires count { length shares.old ≡ length orders.now }
     requires room { length places.now ≡ length orders.now }
@@ -64,7 +64,7 @@ pub(crate) fn share_all(orders: &[Order], places: &[OrderState], by: &[i64], sha
     }
 }
 
-// The share of an order after a step in which prices move by amounts.
+// An order's share after its Newton step. The price of a portfolio is linear, so it moves by that of the moves.
 fn share_of(order: &Order, place: OrderState, by: &[i64]) -> u32
     requires priced { IsPricedBy order.now.row by.now }
     requires range { All IsPrice by.now }
@@ -74,7 +74,7 @@ fn share_of(order: &Order, place: OrderState, by: &[i64]) -> u32
     place.next(order.row().price(by))
 }
 
-// The prices after their moves.
+// The prices after the step, which stay within 2^61 grains of 0.
 pub(crate) fn move_all(by: &[i64], prices: &mut [i64])
     requires count { length by.now ≡ length prices.old }
     requires range { All IsPrice prices.old }
@@ -88,7 +88,7 @@ pub(crate) fn move_all(by: &[i64], prices: &mut [i64])
     }
 }
 
-// A price after its move.
+// A price after the step. The sum of two prices may pass 64 bits, so it is made in 128 and cut.
 fn moved(price: i64, by: i64) -> i64
     requires price { IsPrice price }
     requires by { IsPrice by }

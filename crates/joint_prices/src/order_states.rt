@@ -1,4 +1,5 @@
-//! The state of an order in a step: what follows from its share of its room, at the prices.
+//! The state of an order in a step: its residual and its diagonal of the Newton system, by its share of its batch maximum and the
+//! price of its portfolio.
 ghost use Rattle.std.specs.Prelude.{◌≡◌, ◌^◌, ◌<◌, ◌≤◌, ◌*◌, ◌/◌, ◌+◌, ◌-◌, ◌*ℤ◌, ◌-ℤ◌, ◌+ℤ◌, pos, neg_ℤ, int_div, unsigned_abs};
 ghost use Rattle.std.specs.Int.{int_min, int_max, div_ceil};
 ghost use Rattle.demand_curve.specs.Numbers.{or_zero};
@@ -10,10 +11,11 @@ use crate::numbers::quotient;
 use demand_curve::Curve;
 use std::marker::Model;
 
-// The whole room, in the parts of shares.
+// The batch maximum as a share: shares are in parts of 2^32.
 const ONE: u64 = 1 << 32;
 
-/// An order in a step: its room and its share of it, its stiffness there, and what the share lacks.
+/// An order in a step: its batch maximum (`room`), its share of that, its diagonal of the Newton system (`stiffness`), and the
+/// residual of its optimality condition (`lack`).
 #[derive(Clone, Copy)]
 pub struct OrderState {
     room: u32,
@@ -34,7 +36,7 @@ impl Model for OrderState {
     ghost inverse = { λ d. record { room = d.room; share = d.share; stiffness = d.stiffness; lack = d.lack } };
 }
 
-/// The money from the demand 0 to that of the whole room.
+/// By how much the price falls while the order's demand rises from 0 to its batch maximum, in 1/4096 of a grain.
 pub fn line_of(curve: Curve) -> u128
     ensures value { result ≡ line_in (terms curve) }
     ensures least { curve.room * 2 ^ 20 ≤ result }
@@ -43,7 +45,7 @@ pub fn line_of(curve: Curve) -> u128
     u128::from(curve.room) * (curve.span() as u128) * 4096 / u128::from(curve.rate)
 }
 
-// A number where it isn't negative, else 0.
+// The positive part of a number, with its range as a clause.
 fn or_zero(v: i128) -> u128
     requires { unsigned_abs v ≤ 2 ^ 91 }
     ensures value { result ≡ or_zero v }
@@ -52,7 +54,7 @@ fn or_zero(v: i128) -> u128
     v.max(0) as u128
 }
 
-// The opposite number.
+// The negative of a number, with its range as a clause.
 fn negated(v: i128) -> i128
     requires { unsigned_abs v ≤ 2 ^ 91 }
     ensures value { result ≡ neg_ℤ v }
@@ -61,7 +63,7 @@ fn negated(v: i128) -> i128
     -v
 }
 
-// Money over a share.
+// The multiplier of a bound over the share's distance from it: what the barrier adds there to the diagonal.
 fn over_share(money: u128, share: u64) -> u128
     requires money { money ≤ 2 ^ 92 }
     requires share { 1 ≤ share }
@@ -71,7 +73,7 @@ fn over_share(money: u128, share: u64) -> u128
     money * u128::from(ONE) / u128::from(share)
 }
 
-// What a price is below the high limit, in money.
+// How far a price is below the high limit, in 1/4096 of a grain.
 fn ask(high: i64, price: i128) -> i128
     requires high { unsigned_abs high ≤ 2 ^ 60 }
     requires price { unsigned_abs price ≤ 2 ^ 78 }
@@ -81,7 +83,7 @@ fn ask(high: i64, price: i128) -> i128
     4096 * (i128::from(high) - price)
 }
 
-// The line at a share.
+// How far the price at which the order demands the share is below its high limit, in 1/4096 of a grain.
 fn cost(line: u128, share: u32) -> i128
     requires line { line ≤ 2 ^ 73 }
     ensures value { result ≡ pos (line * share / one) }
@@ -90,7 +92,8 @@ fn cost(line: u128, share: u32) -> i128
     (line * u128::from(share) / u128::from(ONE)) as i128
 }
 
-// By how much a share is too dear at a price.
+// How far the portfolio's price is above that at which the order demands the share, in 1/4096 of a grain: the gradient
+// without the barrier.
 fn dear(line: u128, curve: Curve, price: i128, share: u32) -> i128
     requires line { line ≡ line_in (terms curve) }
     requires most { line ≤ 2 ^ 73 }
@@ -101,7 +104,8 @@ fn dear(line: u128, curve: Curve, price: i128, share: u32) -> i128
     cost(line, share) - ask(curve.high, price)
 }
 
-// The stiffness of an order.
+// The order's diagonal of the Newton system: the slope of its line, and that of the barrier at both bounds. The multiplier
+// of a bound is estimated by the part of the gradient that pushes against it, and tau.
 fn stiffness(tau: u64, line: u128, v: i128, share: u32) -> u128
     requires tau { tau ≤ 2 ^ 60 }
     requires line { line ≤ 2 ^ 73 }
@@ -116,7 +120,7 @@ fn stiffness(tau: u64, line: u128, v: i128, share: u32) -> u128
         + over_share(or_zero(negated(v)) + tau, ONE - u64::from(share))
 }
 
-// What a share lacks.
+// The residual of the order's optimality condition, which the step brings to 0: the barrier's force less the gradient.
 fn lack(tau: u64, v: i128, share: u32) -> i128
     requires tau { tau ≤ 2 ^ 60 }
     requires v { unsigned_abs v ≤ 2 ^ 91 }
@@ -127,7 +131,7 @@ fn lack(tau: u64, v: i128, share: u32) -> i128
     pull(tau, u64::from(share)) - pull(tau, ONE - u64::from(share)) - v
 }
 
-// What tau makes of a share.
+// The barrier's force from one bound, at the share's distance from it.
 fn pull(tau: u64, share: u64) -> i128
     requires tau { tau ≤ 2 ^ 60 }
     requires share { 1 ≤ share }
@@ -138,7 +142,7 @@ fn pull(tau: u64, share: u64) -> i128
 }
 
 impl OrderState {
-    // A state for an order that wasn't looked at yet.
+    // A state within the ranges, which fills a list before the first step.
     pub(crate) fn none() -> OrderState {
         OrderState {
             room: 1,
@@ -148,7 +152,8 @@ impl OrderState {
         }
     }
 
-    /// An order at a price of its portfolio, which has a share of its room; `line` is its [`line_of`].
+    /// The state of an order at a price of its portfolio and a share of its batch maximum. `line` is its [`line_of`], and `tau`
+    /// the barrier's parameter.
     pub fn new(tau: u64, line: u128, curve: Curve, price: i128, share: u32) -> OrderState
         requires tau { tau ≤ 2 ^ 60 }
         requires line { line ≡ line_in (terms curve) }
@@ -167,7 +172,7 @@ impl OrderState {
         }
     }
 
-    // The room.
+    // The batch maximum, and that the state is within its ranges.
     fn room(self) -> u32
         ensures value { result ≡ self.room }
         ensures order_state { IsOrderState self }
@@ -175,7 +180,7 @@ impl OrderState {
         self.room
     }
 
-    /// The share of the room.
+    /// The share of the batch maximum.
     pub(crate) fn share(self) -> u32
         ensures value { result ≡ self.share }
         ensures share { IsShare result }
@@ -183,7 +188,7 @@ impl OrderState {
         self.share
     }
 
-    // The stiffness.
+    // The order's diagonal, which is positive and so may divide.
     fn stiffness(self) -> u128
         ensures value { result ≡ self.stiffness }
         ensures some { 1 ≤ result }
@@ -192,7 +197,7 @@ impl OrderState {
         self.stiffness
     }
 
-    // What the share lacks, where the price moves by an amount.
+    // The residual after the portfolio's price has moved by an amount, in grains.
     fn lack(self, amount: i128) -> i128
         requires { unsigned_abs amount ≤ 2 ^ 78 }
         ensures value { result ≡ self.lack -ℤ pos (2 ^ 12) *ℤ amount }
@@ -201,7 +206,7 @@ impl OrderState {
         self.lack - 4096 * amount
     }
 
-    // The share that is sought.
+    // The share after a whole Newton step, which may be out of its bounds.
     fn target(self, amount: i128) -> i64
         requires { unsigned_abs amount ≤ 2 ^ 78 }
         ensures value { result ≡ target amount self }
@@ -210,7 +215,7 @@ impl OrderState {
         i64::from(self.share()) + part(self.lack(amount), self.stiffness())
     }
 
-    // How many units a grain less would add.
+    // How many units more the order buys to first order for each grain that the price falls, in parts of 2^82 of a unit.
     pub(crate) fn slope(self) -> i128
         ensures value { result ≡ pos (slope self) }
         ensures small { unsigned_abs result ≤ 2 ^ 74 }
@@ -218,7 +223,7 @@ impl OrderState {
         (u128::from(self.room()) * ((1 << 94) / self.stiffness())) as i128
     }
 
-    // What the share should be, in units.
+    // How many units the order buys after a whole Newton step at these prices, in parts of 2^32 of a unit.
     pub(crate) fn aim(self) -> i128
         ensures value { result ≡ aim self }
         ensures small { unsigned_abs result ≤ 2 ^ 85 }
@@ -226,7 +231,7 @@ impl OrderState {
         i128::from(self.room()) * i128::from(self.target(0))
     }
 
-    // The share after a step in which the price moves by an amount.
+    // The share after its step if the price moves by an amount: the Newton step, at most half of the way to either bound.
     pub(crate) fn next(self, amount: i128) -> u32
         requires { unsigned_abs amount ≤ 2 ^ 78 }
         ensures value { result ≡ next amount self }
@@ -237,7 +242,7 @@ impl OrderState {
     }
 }
 
-// The least share after another.
+// The least share that one step leads to: half of the way to the bound 0.
 fn least(share: u32) -> u32
     requires { IsShare share }
     ensures value { result ≡ div_ceil share 2 }
@@ -247,7 +252,7 @@ fn least(share: u32) -> u32
     share.div_ceil(2)
 }
 
-// The greatest share after another.
+// The greatest share that one step leads to: half of the way to the batch maximum.
 fn most(share: u32) -> u32
     requires { IsShare share }
     ensures value { result ≡ one - div_ceil (one - share) 2 }
@@ -257,7 +262,7 @@ fn most(share: u32) -> u32
     (ONE - (ONE - u64::from(share)).div_ceil(2)) as u32
 }
 
-// A number cut to a range.
+// A number cut to a range of shares.
 fn between(x: i64, low: u32, high: u32) -> u32
     requires { low ≤ high }
     ensures value { result ≡ or_zero (int_max (pos low) (int_min x (pos high))) }
@@ -267,7 +272,7 @@ fn between(x: i64, low: u32, high: u32) -> u32
     x.clamp(i64::from(low), i64::from(high)) as u32
 }
 
-// A number over another, as a share.
+// The quotient of a residual and a diagonal, as a share, cut to 2^60 in absolute value.
 fn part(x: i128, k: u128) -> i64
     requires x { unsigned_abs x < 2 ^ 94 }
     requires some { 1 ≤ k }
@@ -278,7 +283,7 @@ fn part(x: i128, k: u128) -> i64
     within_60(quotient(x * i128::from(ONE), k as i128))
 }
 
-// A number cut to 2^60 in size.
+// A number cut to 2^60 in absolute value, so that a share and a Newton step have a sum in 64 bits.
 fn within_60(x: i128) -> i64
     ensures value { result ≡ within 60 x }
     ensures small { unsigned_abs result ≤ 2 ^ 60 }

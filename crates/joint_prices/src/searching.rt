@@ -35,7 +35,7 @@ pub trait Settles {
         ensures orders { orders self.new ≡ orders self.old };
 }
 
-// Makes a step: the prices and the shares move.
+// Makes a Newton step: the states of the orders, the system over the assets, and then the shares and the prices.
 fn step(
     tau: u64,
     lines: &[u128],
@@ -74,7 +74,7 @@ fn step(
 /// 0, as the start prices are.
 ///
 /// There are at most 16,384 orders and 64 assets, and each asset that an order names has a price. A step costs two passes
-/// over the legs of all orders, one over the pairs of legs of each, and a sixth of the cube of the number of assets. It
+/// over the legs of all orders, one over every two legs of each, and a sixth of the cube of the number of assets. It
 /// allocates once, before the first step: 64 bytes and more for each order, and 16 for each two assets.
 ///
 /// It fails only with `Memory`.
@@ -115,7 +115,7 @@ pub fn joint_prices<T: Settles>(
     Ok(prices)
 }
 
-// Makes steps until all assets are settled, at most 100.
+// Makes steps until all assets are settled, at most 100. The barrier's parameter falls to a third after each.
 fn search<T: Settles>(
     orders: &[Order],
     start: &[i64],
@@ -152,7 +152,7 @@ fn search<T: Settles>(
     }
 }
 
-// The line of each order.
+// The line of each order, which no step changes.
 fn lines_of(alloc: Global, orders: &[Order]) -> Result<Vec<u128>, AllocError>
     ensures { IfOk result (λ lines. lines.items ≡ map (λ o. line_in (terms_of o)) orders.now) }
 {
@@ -163,7 +163,7 @@ fn lines_of(alloc: Global, orders: &[Order]) -> Result<Vec<u128>, AllocError>
     Ok(lines)
 }
 
-// Half of each order's room.
+// The shares before the first step: half of each batch maximum, where the barrier's forces cancel.
 fn half_of(alloc: Global, orders: &[Order]) -> Result<Vec<u32>, AllocError>
     ensures { IfOk result (λ shares. shares.items ≡ map (λ o. 2 ^ 31) orders.now) }
 {

@@ -1,4 +1,4 @@
-//! The solution of a symmetric system by elimination, in place.
+//! The solution of a symmetric linear system by Gaussian elimination of its upper triangle, in place and without pivoting.
 ghost use Rattle.std.specs.Prelude.{◌≡◌, ℕ, ◌+◌, ◌<◌, ◌≤◌, ◌^◌, [], ◌++◌, length, map, take, drop, slice_index_or, unsigned_abs, All, IfOk};
 ghost use Rattle.weight_rows.specs.Rows.{IsPrice};
 ghost use Rattle.joint_prices.specs.Numbers.{whole};
@@ -10,7 +10,7 @@ use crate::sums::Sums;
 use std::alloc::{AllocError, Global};
 use std::marker::Model;
 
-/// A row of a system: its diagonal, the entries after that, and its right side.
+/// A row of the upper triangle: its diagonal, the coefficients after that, and its right side.
 #[derive(Drop)]
 pub struct Row {
     numbers: Vec<Number>,
@@ -26,7 +26,7 @@ impl Model for Row {
 }
 
 impl Row {
-    // A row of so many numbers.
+    // A row of so many zeros.
     pub(crate) fn new(alloc: Global, count: usize) -> Result<Row, AllocError>
         ensures { IfOk result (λ r. length r ≡ count) }
     {
@@ -34,7 +34,7 @@ impl Row {
         Ok(Row { numbers })
     }
 
-    // The row that is made of the sums of an asset and its side.
+    // Takes over the sums of an asset, from its diagonal on, and its right side.
     pub(crate) fn fill(&mut self, asset: usize, sums: &Sums, side: i128)
         requires asset { asset < length sums.now }
         requires room { length self.old + asset ≡ length sums.now + 1 }
@@ -45,7 +45,7 @@ impl Row {
         fill_row(&mut self.numbers, asset, sums, side);
     }
 
-    // How many numbers it has.
+    // How many numbers it has, the right side too.
     fn len(&self) -> usize
         ensures { result ≡ length self.now }
     {
@@ -60,7 +60,7 @@ impl Row {
         self.numbers[k]
     }
 
-    // This row less f times what another has from a place on.
+    // Subtracts f times another row, from a place on.
     fn reduce(&mut self, f: Number, other: &Row, from: usize)
         requires { length self.old + from ≡ length other.now }
         ensures { self.new ≡ reduced f (drop from other.now) self.old }
@@ -70,7 +70,8 @@ impl Row {
         }
     }
 
-    // This row, which begins at a place of another, less its part of it.
+    // Eliminates the unknown of the row `top` from this row, whose diagonal is at a place of that one. By symmetry the
+    // coefficient to eliminate is the one at that place of `top`.
     fn lower(&mut self, top: &Row, place: usize)
         requires place { place < length top.now }
         requires length { length self.old + place ≡ length top.now }
@@ -83,7 +84,7 @@ impl Row {
         self.reduce(over(part, top.at(0)), top, place);
     }
 
-    // The unknown of this row, by those after it, which are from a place on.
+    // The unknown of this row, given those after it, which are in `found` from a place on: one step of back substitution.
     fn unknown(&self, found: &[Number], from: usize) -> Number
         requires count { length self.now + from ≡ length found.now + 2 }
         requires from { from ≤ length found.now }
@@ -98,7 +99,8 @@ impl Row {
     }
 }
 
-// The row that is made of the sums of an asset and its side.
+// A row of the sums of an asset and its right side. The sums count 1/2^82 of a unit for each grain, and the side counts
+// 1/2^32 of a unit, so the side is scaled by 2^50.
 fn fill_row(numbers: &mut [Number], asset: usize, sums: &Sums, side: i128)
     requires asset { asset < length sums.now }
     requires room { length numbers.old + asset ≡ length sums.now + 1 }
@@ -113,7 +115,7 @@ fn fill_row(numbers: &mut [Number], asset: usize, sums: &Sums, side: i128)
     numbers[count] = cut(side, 50);
 }
 
-// The rows that are made of all sums.
+// The upper triangle of the system, of all sums and right sides.
 pub(crate) fn fill_all(grid: &[Sums], sides: &[i128], rows: &mut [Row])
     requires triangle { IsTriangle rows.old }
     requires count { length rows.old ≡ length sides.now }
@@ -130,7 +132,7 @@ pub(crate) fn fill_all(grid: &[Sums], sides: &[i128], rows: &mut [Row])
     }
 }
 
-// Each number as a whole one.
+// The moves in whole grains.
 pub(crate) fn whole_all(found: &[Number], by: &mut [i64])
     requires count { length by.old ≡ length found.now }
     requires range { All IsPrice by.old }
@@ -143,7 +145,7 @@ pub(crate) fn whole_all(found: &[Number], by: &mut [i64])
     }
 }
 
-// Takes the unknown of a row out of the rows below it.
+// Eliminates the unknown of a row from the rows below it.
 fn lower(top: &Row, rows: &mut [Row])
     requires top { length top.now ≡ length rows.old + 2 }
     requires triangle { IsTriangle rows.old }
@@ -154,7 +156,7 @@ fn lower(top: &Row, rows: &mut [Row])
     }
 }
 
-// Takes the unknown of each row out of the rows below it.
+// Eliminates the unknown of each row from the rows below it, the first row first.
 fn eliminate(rows: &mut [Row])
     requires triangle { IsTriangle rows.old }
     ensures value { solved rows.old ≡ finished rows.new [] }
@@ -167,7 +169,7 @@ fn eliminate(rows: &mut [Row])
     }
 }
 
-// The unknowns of rows that have none of those before them.
+// Back substitution: the unknowns of rows from which those before them are eliminated, the last row first.
 fn resolve(rows: &[Row], found: &mut [Number])
     requires triangle { IsTriangle rows.now }
     requires count { length found.old ≡ length rows.now }
@@ -181,8 +183,8 @@ fn resolve(rows: &[Row], found: &mut [Number])
     }
 }
 
-/// The unknowns of a symmetric system, one a row, into `found`. Row k has n + 1 - k numbers: its diagonal, the
-/// entries after that, and its right side. The rows are used up.
+/// Solves a symmetric linear system: its unknowns, one a row, into `found`. Row k has n + 1 - k numbers: its diagonal, the
+/// coefficients after that, and its right side. The rows are overwritten.
 ///
 /// It costs about a sixth of the cube of their number in products, and allocates nothing.
 pub fn solve(rows: &mut [Row], found: &mut [Number])

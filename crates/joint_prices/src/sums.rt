@@ -1,4 +1,4 @@
-//! Sums over the orders for each asset, and for each pair of assets.
+//! Sums over the orders for each asset, and for every two assets: the right side and the matrix of the system.
 ghost use Rattle.std.specs.Prelude.{◌≡◌, ℕ, ◌+◌, ◌*◌, ◌^◌, ◌<◌, ◌≤◌, ℤ, pos, ◌+ℤ◌, ◌*ℤ◌, unsigned_abs, length, map, slice_set, All, IfOk};
 ghost use Rattle.std.specs.List.{range_with_len};
 ghost use Rattle.weight_rows.specs.Rows.{most_weight, IsWeightVector, IsPricedBy, price_of};
@@ -9,7 +9,7 @@ use std::alloc::{AllocError, Global};
 use std::marker::Model;
 use weight_rows::{Entry, WeightRow};
 
-/// The sums of an asset with each other one.
+/// A row of the matrix: the sums of an asset with each asset.
 #[derive(Drop)]
 pub(crate) struct Sums {
     numbers: Vec<i128>,
@@ -24,7 +24,7 @@ impl Model for Sums {
 }
 
 impl Sums {
-    // So many sums.
+    // A row of so many zeros.
     pub(crate) fn new(alloc: Global, count: usize) -> Result<Sums, AllocError>
         ensures { IfOk result (λ s. length s ≡ count) }
     {
@@ -47,14 +47,14 @@ impl Sums {
         self.numbers[asset]
     }
 
-    // The sums of an asset as they begin.
+    // Sets the sums of an asset to those of no orders.
     pub(crate) fn reset(&mut self, asset: usize)
         ensures { self.new ≡ map (diagonal asset) (range_with_len 0 (length self.old)) }
     {
         reset_row(&mut self.numbers, asset);
     }
 
-    // Adds to the sums with a row's assets their weights times a factor.
+    // Adds a weight vector times a factor.
     fn add(&mut self, row: &WeightRow, factor: i128)
         requires places { IsPricedBy row.now self.old }
         requires factor { unsigned_abs factor ≤ 2 ^ 86 }
@@ -65,7 +65,7 @@ impl Sums {
     }
 }
 
-// The sums of an asset as they begin.
+// Sets the sums of an asset to those of no orders: the regularization of the diagonal.
 fn reset_row(sums: &mut [i128], asset: usize)
     ensures { sums.new ≡ map (diagonal asset) (range_with_len 0 (length sums.old)) }
 {
@@ -74,14 +74,14 @@ fn reset_row(sums: &mut [i128], asset: usize)
     }
 }
 
-// The sum of a pair as it begins.
+// The regularization: a little on the diagonal, which makes the matrix positive definite even where no order trades an asset.
 fn diagonal(asset: usize, other: usize) -> i128
     ensures { result ≡ diagonal asset other }
 {
     if asset == other { 1 << 20 } else { 0 }
 }
 
-// Adds to the sums of a row's assets their weights times a factor.
+// Adds a weight vector times a factor, leg by leg.
 pub(crate) fn add_row(row: &WeightRow, factor: i128, sums: &mut [i128])
     requires places { IsPricedBy row.now sums.old }
     requires factor { unsigned_abs factor ≤ 2 ^ 86 }
@@ -93,7 +93,7 @@ pub(crate) fn add_row(row: &WeightRow, factor: i128, sums: &mut [i128])
     }
 }
 
-// Adds what an entry brings to the sum of its asset.
+// Adds a leg's weight times a factor to the sum of its asset.
 fn add_entry(entry: &Entry, factor: i128, sums: &mut [i128])
     requires place { entry.now.asset < length sums.old }
     requires weight { unsigned_abs entry.now.weight ≤ most_weight }
@@ -106,7 +106,7 @@ fn add_entry(entry: &Entry, factor: i128, sums: &mut [i128])
     sums[asset] = sum;
 }
 
-// A sum of two numbers.
+// A sum that grows by a weighed factor, within the widths.
 fn sum(x: i128, y: i128) -> i128
     requires x { unsigned_abs x ≤ 2 ^ 121 }
     requires y { unsigned_abs y ≤ 2 ^ 98 }
@@ -115,7 +115,7 @@ fn sum(x: i128, y: i128) -> i128
     x + y
 }
 
-// A factor times a weight.
+// A factor times a weight, with its range as a clause.
 fn weighed(weight: i32, factor: i128) -> i128
     requires weight { unsigned_abs weight ≤ most_weight }
     requires factor { unsigned_abs factor ≤ 2 ^ 86 }
@@ -125,7 +125,7 @@ fn weighed(weight: i32, factor: i128) -> i128
     i128::from(weight) * factor
 }
 
-// Adds to the sums of each two assets of a row the product of their weights and a factor.
+// Adds the outer product of a weight vector with itself, times a factor.
 pub(crate) fn add_square(row: &WeightRow, factor: i128, grid: &mut [Sums])
     requires places { All (λ e. e.asset < length grid.old) row.now }
     requires square { IsSquare (length grid.old) grid.old }
@@ -138,7 +138,7 @@ pub(crate) fn add_square(row: &WeightRow, factor: i128, grid: &mut [Sums])
     }
 }
 
-// Adds to the sums of an entry's asset with each of a row the product of their weights and a factor.
+// Adds a weight vector times a leg's weight and a factor to the row of the leg's asset.
 fn add_with(entry: &Entry, row: &WeightRow, factor: i128, grid: &mut [Sums])
     requires place { entry.now.asset < length grid.old }
     requires weight { unsigned_abs entry.now.weight ≤ most_weight }

@@ -1,4 +1,4 @@
-//! The system of a step: what all orders together make of it.
+//! The linear system of a step: the Newton system after the shares of the orders are eliminated.
 ghost use Rattle.std.specs.Prelude.{◌≡◌, ℕ, ◌+◌, ◌*◌, ◌^◌, ◌<◌, ◌≤◌, ◌-ℤ◌, int_div, pos, unsigned_abs, length, map, All, IfOk};
 ghost use Rattle.std.specs.List.{range_with_len};
 ghost use Rattle.weight_rows.specs.Rows.{IsPrice, IsPricedBy, price_of};
@@ -16,7 +16,7 @@ use flow_orders::Order;
 use std::alloc::{AllocError, Global};
 use std::marker::Model;
 
-/// Room for the system of a step, and by how much each price moves, in grains.
+/// The memory of the system of a step, and by how much each price moves, in grains.
 #[derive(Drop)]
 pub(crate) struct System {
     grid: Vec<Sums>,
@@ -38,7 +38,7 @@ impl Model for System {
 }
 
 impl System {
-    // Room for so many assets.
+    // The memory for so many assets, which is all that steps need.
     pub(crate) fn new(alloc: Global, count: usize) -> Result<System, AllocError>
         requires { count ≤ 64 }
         ensures { IfOk result (λ s. length s ≡ count) }
@@ -57,7 +57,7 @@ impl System {
         })
     }
 
-    // By how much each price moves.
+    // By how much each price moves, in grains, as the last step found.
     pub(crate) fn by(&self) -> &[i64]
         ensures value { result.now ≡ self.now }
         ensures range { All IsPrice self.now }
@@ -65,8 +65,8 @@ impl System {
         self.by.as_slice()
     }
 
-    /// By how much each price moves, given the states of the orders. It costs one pass over the pairs
-    /// of legs of each order, and a sixth of the cube of the number of assets.
+    /// Finds by how much each price moves, given the states of the orders. It costs one pass over every two
+    /// legs of each order, and a sixth of the cube of the number of assets.
     pub(crate) fn solve(
         &mut self,
         orders: &[Order],
@@ -98,7 +98,7 @@ impl System {
     }
 }
 
-// By how much each price moves, given the states of the orders.
+// Builds the system and solves it. The fields are lent one by one, so that loops see plain slices.
 fn solve_in(
     orders: &[Order],
     order_states: &[OrderState],
@@ -127,7 +127,7 @@ fn solve_in(
     whole_all(found, by);
 }
 
-// The sums of so many assets.
+// A matrix of zeros for so many assets.
 fn grid_of(alloc: Global, count: usize) -> Result<Vec<Sums>, AllocError>
     ensures { IfOk result (λ grid. IsSquare count grid.items) }
 {
@@ -138,7 +138,7 @@ fn grid_of(alloc: Global, count: usize) -> Result<Vec<Sums>, AllocError>
     Ok(grid)
 }
 
-// The rows of so many assets.
+// An upper triangle of zeros for so many assets, with its right sides.
 fn rows_of(alloc: Global, count: usize) -> Result<Vec<Row>, AllocError>
     requires { count ≤ 64 }
     ensures { IfOk result (λ rows. IsTriangle rows.items × (length rows.items ≡ count)) }
@@ -150,7 +150,7 @@ fn rows_of(alloc: Global, count: usize) -> Result<Vec<Row>, AllocError>
     Ok(rows)
 }
 
-// No moves of so many prices.
+// The moves before the first step, all 0.
 fn no_moves(alloc: Global, count: usize) -> Result<Vec<i64>, AllocError>
     ensures { IfOk result (λ by. (length by.items ≡ count) × All IsPrice by.items) }
 {
@@ -161,8 +161,8 @@ fn no_moves(alloc: Global, count: usize) -> Result<Vec<i64>, AllocError>
     Ok(by)
 }
 
-/// The system of the orders in these states, into `grid` and `right`, whose content is replaced. It costs one
-/// pass over the pairs of legs of each order.
+/// The system of the orders in these states: its matrix into `grid` and its right side into `right`, whose content is replaced. It
+/// costs one pass over every two legs of each order.
 pub(crate) fn build(
     orders: &[Order],
     order_states: &[OrderState],
@@ -186,7 +186,7 @@ pub(crate) fn build(
     gather(orders, order_states, grid, right);
 }
 
-// The grid of no orders.
+// The matrix of no orders: the regularization alone.
 fn reset_grid(grid: &mut [Sums])
     requires square { IsSquare (length grid.old) grid.old }
     ensures { grid.new ≡ no_grid (length grid.old) }
@@ -196,7 +196,7 @@ fn reset_grid(grid: &mut [Sums])
     }
 }
 
-// The right side of no orders.
+// The right side of no orders: the regularization alone.
 fn reset_sides(start: &[i64], prices: &[i64], right: &mut [i128])
     requires range { All IsPrice prices.now }
     requires start { All IsPrice start.now }
@@ -210,7 +210,7 @@ fn reset_sides(start: &[i64], prices: &[i64], right: &mut [i128])
     }
 }
 
-// What pulls a price to that of the start.
+// The regularization's part of an asset's right side.
 fn pull_at(start: &[i64], prices: &[i64], a: usize) -> i128
     requires a { a < length prices.now }
     requires range { All IsPrice prices.now }
@@ -221,7 +221,8 @@ fn pull_at(start: &[i64], prices: &[i64], a: usize) -> i128
     pull(start[a], prices[a])
 }
 
-// What pulls a price to another.
+// The regularization's part of a right side, which draws the price to its start price: the regularization of the diagonal
+// times the distance, in parts of 2^32 of a unit.
 fn pull(start: i64, price: i64) -> i128
     requires start { IsPrice start }
     requires price { IsPrice price }
@@ -230,7 +231,7 @@ fn pull(start: i64, price: i64) -> i128
     (i128::from(start) - i128::from(price)) / (1 << 30)
 }
 
-// Adds the parts of all orders.
+// Adds what each order contributes to the matrix and to the right side.
 fn gather(orders: &[Order], order_states: &[OrderState], grid: &mut [Sums], right: &mut [i128])
     requires count { length order_states.now ≡ length orders.now }
     requires few { length orders.now ≤ most_orders }
@@ -245,7 +246,7 @@ fn gather(orders: &[Order], order_states: &[OrderState], grid: &mut [Sums], righ
     }
 }
 
-// Adds the parts of an order.
+// Adds an order: its weights times what it would buy to the right side, and times its slope and its weights to the matrix.
 fn add_order(order: &Order, order_state: OrderState, grid: &mut [Sums], right: &mut [i128])
     requires places { IsPricedBy order.now.row right.old }
     requires square { IsSquare (length right.old) grid.old }

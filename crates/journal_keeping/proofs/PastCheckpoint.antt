@@ -56,7 +56,7 @@ not_limit over is e = absurd cc
 not_ended : (over : Option InputEnd) → over ≡ Some Source → ¬ (over ≡ Some Limit)
 not_ended over is e = absurd cc
 
--- neither another beginning nor want of memory is a fault of reading
+-- neither another beginning nor running out of memory is a fault of reading
 pub not_read_then : (fault : KeepFault) → (fault ≡ NotFlow) ⊎ (fault ≡ Memory) → ¬ (◌≡◌ {A = Result OpenStart KeepFault} (Err fault) (Err Read))
 not_read_then fault (inl is) e = absurd cc
 not_read_then fault (inr is) e = absurd cc

@@ -98,7 +98,7 @@ abbrev pub IsStored : Start → List ℕ → Type 0
 IsStored (Empty version) stored = stored ≡ []
 IsStored (Kept market) stored = stored ≡ framed (checkpoint_bytes market) ++ 0 ∷ []
 
--- The beginning of a source was taken: a window is behind it, this is the market in which the journal begins, and its first entry as stored.
+-- The beginning of a source was taken: a window follows it, this is the market in which the journal begins, and its first entry as stored.
 pub record OpensStart (limit : ℕ) (market : Market) (stored : List ℕ) (window : WindowState) (before after : Option (List ℕ)) : Type 0 where
   pub begin : Start
   pub following : IsAfterStart limit begin window before after
@@ -133,12 +133,12 @@ IsOfDisk BadCheckpoint = ⊥
 IsOfDisk (Torn place) = ⊥
 IsOfDisk TooLong = ⊥
 
--- a version is the wanted one, if one is wanted
+-- the version is the one asked for, if one is
 abbrev pub IsWanted : Option Version → Version → Type 0
 IsWanted None version = ⊤
 IsWanted (Some own) version = version ≡ own
 
--- the bytes begin as no source of a new disk, and with no unsound checkpoint, or not with the magic of the wanted version
+-- the bytes begin as no source of a new disk, and with no inconsistent checkpoint, or not with the magic of the version asked for
 abbrev pub IsNoneOf : Option Version → List ℕ → Type 0
 IsNoneOf None bytes = BeginsOtherwise bytes
 IsNoneOf (Some own) bytes = (body : List ℕ) → ¬ BeginsWith commands.magics bytes own body

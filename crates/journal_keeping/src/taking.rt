@@ -39,7 +39,7 @@ pub struct Writer {
     pub session: Session,
     /// Keeps more entries on the disk.
     pub appender: Appender,
-    /// How many entries the disk kept when it was opened.
+    /// How many entries the disk kept when it was opened. It isn't counted on: who numbers later entries counts them.
     pub entries: u64,
     /// One buffer for all entries.
     pub pair: Vec<u8>,

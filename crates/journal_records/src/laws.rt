@@ -52,7 +52,7 @@ pub fn admissible_outcomes_fit()
     ensures { AdmissibleOutcomesFit }
 {}
 
-/// Bytes have exactly one reading as a journal: one version, list of pairs of records and ending, or no journal.
+/// Bytes have exactly one reading as a journal: one version, list of entries and ending, or no journal.
 pub fn one_journal_file()
     ensures { OneJournalFile }
 {}

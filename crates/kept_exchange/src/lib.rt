@@ -1,8 +1,8 @@
 //! The exchange with a journal that outlives a crash, as one call: a source of bytes, a disk, two sinks, and a status.
 //!
-//! [`flow_disk`] is what the program calls when asked to `keep FILE`. Its contract is what the program promises of that subcommand: what
-//! a crash may leave on the disk at each moment, that no acknowledged entry is lost, what `out` gains, and when each status comes.
-//! [`kept_file`] says which command line asks for it.
+//! [`flow_disk`] and [`flow_lines`] are what the program calls for `keep FILE` and `serve FILE`. Their contracts are what the program
+//! promises of these subcommands: what a crash may leave on the disk at each moment, that no acknowledged entry is lost, what `out` gains,
+//! and when each status comes. [`kept_file`] and [`served_file`] say which command lines ask for them.
 #![tactic(auto)]
 
 mod ending;

@@ -42,8 +42,8 @@ pub fn flow_lines_limited<S: Source, D: Disk, K: Sink, N: Sink>(
     status
 }
 
-/// Serves lines of JSON and keeps their journal on a disk, after the entries that the disk keeps already: what `encode` reads a line as, with the market's
-/// tickers, `keep` would keep, and `report` writes of it.
+/// Serves lines of JSON and keeps their journal on a disk, after the entries that the disk keeps already. Each command of a line, as `encode` reads it with
+/// the market's tickers, is served and kept as by `keep`, and answered with the text that `report` has of its entry.
 ///
 /// The disk is opened first, as by [`flow_disk`](crate::flow_disk). Then it is read from the source, at most 2^32 bytes, whether a checkpoint is before the
 /// lines, which a new disk gets as its first entry, and which is `NotFlow` for any other; a new disk without one is of the highest version. The commands

@@ -48,7 +48,7 @@ pub fn flow_disk_limited<S: Source, D: Disk, K: Sink, N: Sink>(
 ///
 /// The disk is opened first, its entries are read and audited, and what a crash left after them is cut off. Then the command file is read
 /// from the source, at most 2^32 bytes; it has to be of the version of the disk. A new disk begins as its source does, which is read up to
-/// the first record before anything is written to the disk: with a checkpoint as its first entry, if one stands before the command file.
+/// the first record before anything is written to the disk: with a checkpoint as its first entry, if one is before the command file.
 /// Each record is served by the market after all entries before it. Its entry is put onto the disk by two writes, each with a sync, and
 /// only then written to `out`, by one write, before the source is asked for more; no magic is written to `out`. So a crash at any moment
 /// takes nothing away of what was written to `out`, and leaves at most one entry more.

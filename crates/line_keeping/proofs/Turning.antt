@@ -51,7 +51,7 @@ module _ (first : WindowState) (rest : Option (List ℕ)) (old : Market) (count 
   no_past : (after : Option (List ℕ)) (joined past : List ℕ) → past ≡ [] → Takes left after (joined ++ past) → Takes left after joined
   no_past after joined past none takes = subst (Takes left after) (ap (λ (l : List ℕ). joined ++ l) none ∙ append-nil joined) takes
 
-  -- a line was found and answered, and the window is behind it
+  -- a line was found and answered, and the window follows it
   pub line_turn : (w following : WindowState) (after : Option (List ℕ)) (size : ℕ) (held : List ℕ) → held ≡ w.held → Finds now w left after (next.Line size) → following ≡ record w { held = drop (size + 1) w.held; place = w.place + (size + 1) }
       → (market2 : Market) (entries2 place2 : ℕ) (disk2 : DiskState) (last : Output) → AnswersLine (lines + 1) (take size held) market market2 entries entries2 place place2 disk disk2 later last
       → HasGone first following rest after old market2 count entries2 from place2 (lines + 1) start disk2 out last

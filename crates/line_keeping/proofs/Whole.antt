@@ -501,7 +501,7 @@ taken_few limit before w content mid left taken following takes few =
 
 -- ---- how long the disk is
 
--- the window is behind what is before the lines: so many bytes fewer may be served
+-- the window follows what is before the lines: so many bytes fewer may be served
 yet_after : (limit count : ℕ) (before : Option Market) (w : WindowState) (content after : Option (List ℕ)) → IsBehind limit before w content after → BringsAtMost limit content count → HasYetAtMost (count - length (bytes_before before)) w after
 yet_after limit count before w content after following (inl up) = inl (omega (arith, up, following.limited, following.place, following.is_open.within))
 yet_after limit count before w content after following (inr has) =

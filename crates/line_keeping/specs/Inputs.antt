@@ -1,4 +1,4 @@
--- The input: what stands before its lines, and the lines.
+-- The input: what is before its lines, and the lines.
 use Rattle.std.specs.Prelude.{◌≡◌, ◌<◌, ◌⊎◌, ℕ, List, [], ◌++◌, length, take, Option, Some, None}
 use Rattle.wire_records.specs.declared.version.Version.{Version}
 use Rattle.wire_records.specs.declared.version.Version.TheVariants.{Four}
@@ -12,7 +12,7 @@ use Rattle.journal_keeping.specs.Starts.{BeginsUnsound}
 abbrev pub newest : Version
 newest = Four
 
--- how the journal of a new file begins: with the checkpoint that stands before the lines, or else as one of the highest version
+-- how the journal of a new file begins: with the checkpoint that is before the lines, or else as one of the highest version
 abbrev pub start_after : Option Market → Start
 start_after None = Empty newest
 start_after (Some market) = Kept market

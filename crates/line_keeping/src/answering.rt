@@ -24,7 +24,7 @@ use std::alloc::Global;
 use wire_records::{Command, Framed, MOST_BODY, Memory, next_record, write_command};
 use word_driver::put_number;
 
-// Serves a record, and puts its entry into an empty buffer.
+// Serves a record, and puts its entry into an empty buffer. The bytes are a record that was just written, so they are framed.
 fn serve_record(session: &mut Session, bytes: &[u8], pair: &mut Vec<u8>) -> Result<(), Memory>
     requires whole { (asked : Record) × IsRecord most_body asked × (bytes.now ≡ encoding asked) }
     requires next { session.old.next_order + 1 < 2 ^ 64 }

@@ -36,7 +36,7 @@ use wire_records::{MOST_RECORD, Version};
 // The highest version, which a journal has that begins without a checkpoint.
 const NEWEST: Version = Version::Four;
 
-// The room of the text that a line is no command.
+// Memory for the text that a line is no command, which takes 40 bytes: "line ", at most 20 digits, and the rest.
 const MOST_TEXT: usize = 64;
 
 // A disk and an input that are opened.

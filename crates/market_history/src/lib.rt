@@ -2,7 +2,7 @@
 //!
 //! A history begins with the magic of a journal or with the checkpoint of a consistent market, and entries follow. [`read_start`]
 //! reads that beginning from a source, through a window, and returns the market that the entries continue; the entries themselves
-//! are left in the window and the source.
+//! are left in the window and the source. [`kept_market`] reads a checkpoint with which a window begins, and returns its market.
 #![tactic(auto)]
 
 mod start;

@@ -56,7 +56,7 @@ ticks_fit : (z : ℤ) → IsWithin (2 ^ 60) z → IsSigned 8 (ticks_of z)
 ticks_fit (pos n) is = (omega (arith, ints, is.0, is.1), omega (arith, ints, is.0, is.1))
 ticks_fit (negsuc n) is = (omega (arith, ints, is.0, is.1), omega (arith, ints, is.0, is.1))
 
--- what holds of both elements at each place holds of the pairs
+-- what holds of both elements at each place holds of each two of the zipped list
 all_pairs : {A B : Type 0} (P : A × B → Type 0) (xs : List A) (ys : List B) → length ys ≡ length xs → ((i : ℕ) (d : A) (e : B) → i < length xs → P (get_or xs i d, get_or ys i e)) → All P (zip xs ys)
 all_pairs P xs ys many each i d inside =
     let within : i < length xs = omega (arith, inside, length-zip xs ys, many) in

@@ -51,12 +51,12 @@ four a b c d x = simp append_assoc
 ten : (a b c d e f g h i j x : List ℕ) → (a ++ (b ++ (c ++ (d ++ (e ++ (f ++ (g ++ (h ++ (i ++ j))))))))) ++ x ≡ a ++ (b ++ (c ++ (d ++ (e ++ (f ++ (g ++ (h ++ (i ++ (j ++ x)))))))))
 ten a b c d e f g h i j x = simp append_assoc
 
--- two lists of one length each, from the list of their pairs
+-- two lists of one length, from the list that zips them
 firsts_from : {A B : Type 0} (ps qs : List A) (rs ts : List B) → length rs ≡ length ps → length ts ≡ length qs → zip ps rs ≡ zip qs ts → (ps ≡ qs) × (rs ≡ ts)
 firsts_from {A = A} {B = B} ps qs rs ts h k e =
     (sym (firsts-zip ps rs h) ∙ ap (map (λ (p : A × B). p.0)) e ∙ firsts-zip qs ts k, sym (seconds-zip ps rs h) ∙ ap (map (λ (p : A × B). p.1)) e ∙ seconds-zip qs ts k)
 
--- how many pairs they are
+-- how long the zipped list is
 pub length-pairs : {A B : Type 0} (ps : List A) (rs : List B) → length rs ≡ length ps → length (zip ps rs) ≡ length ps
 length-pairs ps rs h = length-zip ps rs ∙ omega (arith, h)
 

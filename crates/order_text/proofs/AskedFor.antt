@@ -25,7 +25,7 @@ of_each version command of = (of.0, omega (arith, of.1, first_tags version))
 pub of_later : (version : Version) (command : Command) → 10 ≤ most_tag version → IsOfVersion Two command → IsOfVersion version command
 of_later version command more of = (of.0, omega (arith, of.1, all_tags version more))
 
--- the commands of each word
+-- which commands have which word
 asset_is : (command : Command) → word_of command ≡ codes "asset" → (ticker : List ℕ) × (command ≡ AddAsset ticker)
 asset_is = search (rules, refl)
 

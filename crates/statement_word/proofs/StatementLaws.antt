@@ -48,7 +48,7 @@ stating_is_exact = record {
 pub statement_is_exact : IsExact statement
 statement_is_exact = over_pairs_is_exact stating stating_is_exact
 
--- each legal pair has a text
+-- each valid entry has a text
 some_lines : (old new : Market) (n : ℕ) (pair : Record × Record) (s : Stated) → IsLegalPair old pair new → (t : Stated) × (x : List ℕ) × stating.Sees new n pair s t x
 some_lines old new n pair s legal =
     let step = legal.step in (

@@ -94,7 +94,7 @@ parted g code bytes = parted_up_to g code (length bytes) bytes (omega arith)
 pair_same : {A B : Type 0} (p q : A × B) → p.0 ≡ q.0 → p.1 ≡ q.1 → p ≡ q
 pair_same p q a b = rw (a, b) refl
 
--- the bytes begin with a pair if they begin with its first, and the rest with its second
+-- the bytes begin with two values if they begin with the first, and the rest with the second
 both_told : {A B : Type 0} (g : Grammar A) (h : Grammar B) → IsCode g → IsCode h → (bytes : List ℕ) → ((pair : A × B) × (rest : List ℕ) × BeginsWith (both g h) bytes pair rest) ⊎ BeginsWithNone (both g h) bytes
 both_told g h first second bytes =
     elim (first.told bytes) [
