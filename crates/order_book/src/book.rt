@@ -22,8 +22,8 @@ const PLACES_PER_ORDER: usize = 17;
 /// The live orders, by ascending numbers, with the sums of what they reserve of each account.
 ///
 /// A live order reserves what it may still pay and give away: its remaining quantity times its high limit if that isn't
-/// negative, and of each asset that it gives away its remaining quantity times the absolute weight (this project's own
-/// rule).
+/// negative, and of each asset that it gives away its remaining quantity times the absolute weight (a rule of
+/// this project).
 ///
 /// Contracts see the list of orders, and `room`: for how many more orders there surely is room.
 #[derive(Drop)]
