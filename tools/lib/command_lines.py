@@ -58,7 +58,7 @@ READER = json.JSONDecoder(object_pairs_hook=Object, parse_float=fraction, parse_
 
 
 def see(value, depth=0):
-    """Refuses what the decoder lets pass: values that are too deep, and halves of surrogate pairs."""
+    """Refuses what the decoder lets pass: values that are too deep, and lone surrogates."""
     if isinstance(value, str):
         value.encode("utf-8")
     elif isinstance(value, (list, Object)):

@@ -1,7 +1,7 @@
 """The joint prices of a batch of version 4, a barrier method on the welfare problem: in each step one linear system says by how much all
 prices move at once. It goes by whole numbers alone, and shares nothing with the program.
 
-A number of the system is a pair m, e of m times 2^e, with 62 bits of m. Each order has a share of the most that it may trade, in
+A number of the system is m times 2^e, as a tuple m, e with 62 bits of m. Each order has a share of its batch maximum, in
 2^-32, and money for a unit is in 2^-12 grains. An order here has the attributes rate, left, low, high and row, and `cost`."""
 
 STEPS, ONE = 100, 1 << 32

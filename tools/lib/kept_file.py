@@ -46,7 +46,7 @@ def is_new(front):
 
 
 def first_checkpoint(file, version):
-    """The checkpoint in the first entry of an open file, which is behind the magic, or no bytes if no entry of the file has one."""
+    """The checkpoint in the first entry of an open file, which follows the magic, or no bytes if no entry of the file has one."""
     commit, length, front = file.read(1), int.from_bytes(file.read(4), "big"), file.read(len(checkpoint_file.MAGIC))
     if commit != OPEN or front != checkpoint_file.MAGIC:
         file.seek(len(MAGIC))
