@@ -61,11 +61,11 @@ part x k = within 60 (int_div (x *ℤ pos one) (pos k))
 unfoldable pub target : ℤ → OrderState → ℤ
 target amount s = pos s.share +ℤ part (s.lack -ℤ pos (2 ^ 12) *ℤ amount) s.stiffness
 
--- how many units of its portfolio more the order buys to first order for each grain that the price falls, in parts of 2^82 of a unit
+-- how many units of its portfolio more the order buys to first order for each grain that the price falls, in 1/2^82 of a unit
 unfoldable pub slope : OrderState → ℕ
 slope s = s.room * (2 ^ 94 / s.stiffness)
 
--- how many units of its portfolio the order buys after a whole Newton step at these prices, in parts of 2^32 of a unit
+-- how many units of its portfolio the order buys after a whole Newton step at these prices, in 1/2^32 of a unit
 unfoldable pub aim : OrderState → ℤ
 aim s = pos s.room *ℤ target (pos 0) s
 

@@ -215,7 +215,7 @@ impl OrderState {
         i64::from(self.share()) + part(self.lack(amount), self.stiffness())
     }
 
-    // How many units more the order buys to first order for each grain that the price falls, in parts of 2^82 of a unit.
+    // How many units more the order buys to first order for each grain that the price falls, in 1/2^82 of a unit.
     pub(crate) fn slope(self) -> i128
         ensures value { result ≡ pos (slope self) }
         ensures small { unsigned_abs result ≤ 2 ^ 74 }
@@ -223,7 +223,7 @@ impl OrderState {
         (u128::from(self.room()) * ((1 << 94) / self.stiffness())) as i128
     }
 
-    // How many units the order buys after a whole Newton step at these prices, in parts of 2^32 of a unit.
+    // How many units the order buys after a whole Newton step at these prices, in 1/2^32 of a unit.
     pub(crate) fn aim(self) -> i128
         ensures value { result ≡ aim self }
         ensures small { unsigned_abs result ≤ 2 ^ 85 }

@@ -222,7 +222,7 @@ fn pull_at(start: &[i64], prices: &[i64], a: usize) -> i128
 }
 
 // The regularization's part of a right side, which draws the price to its start price: the regularization of the diagonal
-// times the distance, in parts of 2^32 of a unit.
+// times the distance, in 1/2^32 of a unit.
 fn pull(start: i64, price: i64) -> i128
     requires start { IsPrice start }
     requires price { IsPrice price }
