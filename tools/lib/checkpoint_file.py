@@ -52,6 +52,11 @@ class Front:
 def read(data):
     """The market that the first bytes encode, consistent or not, and how many bytes these are."""
     front = Front(data)
+    return read_front(front), front.at
+
+
+def read_front(front):
+    """The market that is read, consistent or not."""
     magic, version, assets = front.take(">8sBH")
     if magic != MAGIC:
         raise NoCheckpoint
@@ -60,7 +65,7 @@ def read(data):
     totals, exchange = front.amounts(assets), front.amounts(assets)
     next_number, batches, *prices = front.take(f">QI{assets}q")
     orders = [front.order() for _ in range(*front.take(">I"))]
-    return Checkpoint(version, tickers, accounts, totals, exchange, next_number, batches, prices, orders), front.at
+    return Checkpoint(version, tickers, accounts, totals, exchange, next_number, batches, prices, orders)
 
 
 def money_bytes(money):

@@ -94,12 +94,14 @@ NO_VERSION_YET = Head(2, b"")
 
 
 def put_history(file, out):
-    """Writes the history that an open file keeps: its checkpoint, or the magic of a journal, and its entries."""
-    head = begin(file) or NO_VERSION_YET
+    """Writes the history that an open file keeps: its checkpoint, or the magic of a journal, and its entries, and says how many these are."""
+    head, count = begin(file) or NO_VERSION_YET, 0
     out.write(head.checkpoint or b"FLOWJNL%d" % head.version)
     file.seek(0)
     for pair in kept_pairs(file):
         out.write(pair)
+        count += 1
+    return count
 
 
 def entry(held):
