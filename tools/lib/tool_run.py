@@ -78,6 +78,7 @@ def run_tool(main, text, words=None):
         status = f"{name}: {sentence(fault)}"
     with suppress(OSError):
         sys.stdout.flush()
+    with suppress(OSError):
         if isinstance(status, str):
             print(status, file=sys.stderr)
         sys.stderr.flush()
