@@ -1,6 +1,6 @@
 # What the launcher says of the subcommands, for bash. Made by tools/words.
 
-# Whether these words may be those of the program: a subcommand, and as many words after it as one of its forms has.
+# Whether these words are for the program, a subcommand and as many words after it as one of its forms has, or are `prove`.
 is_form() {
     case $#:${1-}:${2-} in
     2:*:--help) false ;;
@@ -15,6 +15,7 @@ is_form() {
     2:keep:*) true ;;
     2:serve:*) true ;;
     3:sample:*) true ;;
+    1:prove:*) true ;;
     *) false ;;
     esac
 }
@@ -38,7 +39,7 @@ help_on() {
 
   help [SUBCOMMAND]     this text, or what a subcommand reads and writes and how it ends
   --help, --version     this text; the version, and the checksum of the sources
-  prove                 in the repository: make all proofs, about an hour on four processors
+  prove                 in the repository: make the proofs of the program on this machine
 
 It reads standard input and writes standard output. A market that one can type,
 line by line, each answered once market.flow keeps it:

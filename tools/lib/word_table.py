@@ -189,7 +189,7 @@ def exit_statuses():
 LAUNCHER = [
     ("help [SUBCOMMAND]", "this text, or what a subcommand reads and writes and how it ends"),
     ("--help, --version", "this text; the version, and the checksum of the sources"),
-    ("prove", "in the repository: make all proofs, about an hour on four processors"),
+    ("prove", "in the repository: make the proofs of the program on this machine"),
 ]
 
 
@@ -237,11 +237,12 @@ def calls(word):
 def launcher():
     yield "# What the launcher says of the subcommands, for bash. Made by tools/words."
     yield ""
-    yield "# Whether these words may be those of the program: a subcommand, and as many words after it as one of its forms has."
+    yield "# Whether these words are for the program, a subcommand and as many words after it as one of its forms has, or are `prove`."
     yield "is_form() {"
     yield "    case $#:${1-}:${2-} in"
     yield "    2:*:--help) false ;;"
     yield from (f"    {' | '.join(calls(word))}) true ;;" for word in WORDS)
+    yield "    1:prove:*) true ;;"
     yield "    *) false ;;"
     yield "    esac"
     yield "}"
