@@ -283,7 +283,7 @@ def zsh():
         yield f"    '{word.name}:{said}'"
     yield ")"
     yield "if (( CURRENT == 2 )) && [[ $words[2] == -* ]]; then"
-    yield "    _values option --help --version"
+    yield "    compadd -- --help --version"
     yield "elif (( CURRENT == 2 )); then"
     yield "    words_of_flow+=('help:what the subcommands are')"
     yield "    _describe subcommand words_of_flow"
