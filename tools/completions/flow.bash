@@ -13,7 +13,9 @@ _flow() {
         return
         ;;
     esac
-    [ "$COMP_CWORD" -ne 1 ] || words="encode run audit explain report statement checkpoint resume keep serve sample"
+    [ "$COMP_CWORD" -ne 1 ] || words="encode run audit explain report statement checkpoint resume keep serve sample help"
+    [ "$COMP_CWORD" -ne 1 ] || [[ $word != -* ]] || words="--help --version"
+    [ "$COMP_CWORD" -ne 2 ] || [ "$before" != help ] || words="encode run audit explain report statement checkpoint resume keep serve sample"
     [ "$COMP_CWORD" -ne 2 ] || [ "$before" != encode ] || words="2 3 4"
     mapfile -t COMPREPLY < <(compgen -W "$words" -- "$word")
 }

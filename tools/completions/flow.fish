@@ -14,6 +14,10 @@ complete -c flow -n 'test (count (commandline -opc)) -eq 1' -a resume -d 'a jour
 complete -c flow -n 'test (count (commandline -opc)) -eq 1' -a keep -d 'a command file: keep its journal in a file'
 complete -c flow -n 'test (count (commandline -opc)) -eq 1' -a serve -d 'lines of JSON: keep their journal in a file, and answer in text'
 complete -c flow -n 'test (count (commandline -opc)) -eq 1' -a sample -d 'a number, and how many orders: try a large market'
+complete -c flow -n 'test (count (commandline -opc)) -eq 1' -a help -d 'what the subcommands are'
+complete -c flow -n 'test (count (commandline -opc)) -eq 1' -l help -d 'what the subcommands are'
+complete -c flow -n 'test (count (commandline -opc)) -eq 1' -l version -d 'the version'
+complete -c flow -n 'test (count (commandline -opc)) -eq 2; and test (commandline -opc)[2] = help' -a 'encode run audit explain report statement checkpoint resume keep serve sample'
 complete -c flow -n 'test (count (commandline -opc)) -eq 2; and test (commandline -opc)[2] = keep' -F
 complete -c flow -n 'test (count (commandline -opc)) -eq 2; and test (commandline -opc)[2] = serve' -F
 complete -c flow -n 'test (count (commandline -opc)) -eq 2; and test (commandline -opc)[2] = encode' -a 2 -d 'of version 2'

@@ -1,12 +1,18 @@
-"""The subcommands of the program, a row each, and what README.md, docs/FORMATS.md, docs/flow.1 and the completions have of them.
-Anyone who adds a subcommand or a form adds a row or a form here, and has `tools/words --write` put it there;
+"""The subcommands of the program, a row each, and what README.md, docs/FORMATS.md, docs/flow.1, the launcher and the completions have of
+them. Anyone who adds a subcommand or a form adds a row or a form here, and has `tools/words --write` put it there;
 `tools/check/check_documents` sees that it was done."""
 import re
+import shlex
+import textwrap
 from collections import namedtuple
 
-# The statuses, by their numbers.
+# The statuses, by their numbers, and the line that each but Done writes to standard error.
 STATUSES = ("Done Usage NotFlow Torn ReadFault WriteFault NoMemory Rejected TooLong BadText BadCheckpoint NoAccount DiskFault NotDisk "
             "Damaged").split()
+SAID = ["", *(f"flow: {line}" for line in (
+    "usage", "not a flow file", "torn at byte N", "read failed", "write failed", "no memory", "pair N is not legal",
+    "more than 4294967296 bytes", "line N is no command", "checkpoint is not sound", "no account N", "disk failed", "not a flow disk",
+    "disk damaged at byte N"))]
 
 # A subcommand: what may follow it on the command line, with the names of values in capitals; what it reads and writes, each the
 # name of a file in capitals, if there is one, and words on it, with links within docs/FORMATS.md; how it ends but for Done,
@@ -117,12 +123,15 @@ def formats_table():
         yield row(", ".join(f"`{form}`" for form in called(word)), word.reads, word.writes)
 
 
+def files_of(word):
+    return [f"{sign} {file}" for sign, file in (("<", word.source), (">", word.out)) if file]
+
+
 def command_lines():
     """Each form of each subcommand, with its files."""
     for word in WORDS:
-        files = [f"{sign} {file}" for sign, file in (("<", word.source), (">", word.out)) if file]
         for form in called(word):
-            yield " ".join(["    ./flow", form, *files])
+            yield " ".join(["    ./flow", form, *files_of(word)])
 
 
 # ---- docs/flow.1
@@ -173,6 +182,82 @@ def exit_statuses():
         yield f"{'end' if len(names) > 1 else 'ends'} with {said}{'.' if place == len(groups) else ';'}"
 
 
+# ---- what the launcher says itself
+
+
+# Its own words, each with a line on it. The last is there in the repository alone.
+LAUNCHER = [
+    ("help [SUBCOMMAND]", "this text, or what a subcommand reads and writes and how it ends"),
+    ("--help, --version", "this text; the version, and the checksum of the sources"),
+    ("prove", "in the repository: make the proofs of the program on this machine"),
+]
+
+
+def short(word):
+    """A subcommand with all that may follow it."""
+    digits = "|".join(form for form in word.forms if form.isdigit())
+    return f"{word.name} [{digits}]" if digits else called(word)[0]
+
+
+def help_text():
+    yield "./flow SUBCOMMAND < INPUT > OUTPUT: the core of a flow trading exchange"
+    yield ""
+    yield from (f"  {short(word):22}{word.line}" for word in WORDS)
+    yield ""
+    yield from (f"  {word:22}{line}" for word, line in LAUNCHER)
+    yield ""
+    yield "It reads standard input and writes standard output. A market that one can type,"
+    yield "line by line, each answered once market.flow keeps it:"
+    yield ""
+    yield "    ./flow serve market.flow"
+    yield ""
+    yield "The manual: man docs/flow.1"
+
+
+def help_of(word):
+    """What a subcommand reads and writes, and how it ends."""
+    yield " ".join(["./flow", short(word), *files_of(word)])
+    yield ""
+    yield word.line
+    yield ""
+    for head, cell in (("reads", word.reads), ("writes", word.writes)):
+        said = re.sub(r"\[([^]]+)\]\([^)]+\)", r"\1", cell)
+        yield from textwrap.wrap(said, 79, initial_indent=f"{head:8}", subsequent_indent=" " * 8)
+    for head, number in zip(["ends", *[""] * len(STATUSES)], sorted([STATUSES.index("Usage"), *numbers_of(word)])):
+        yield f"{head:8}{number:2}  {STATUSES[number]:15}{SAID[number]}".rstrip()
+    yield ""
+    yield "The manual says more: man docs/flow.1"
+
+
+def calls(word):
+    """How a subcommand may be called, as bash matches it: how many words there are, the first, and the second where it is said."""
+    return [f"{1 + len(form.split())}:{word.name}:{form if form.isdigit() else '*'}" for form in word.forms]
+
+
+def launcher():
+    yield "# What the launcher says of the subcommands, for bash. Made by tools/words."
+    yield ""
+    yield "# Whether these words are for the program, a subcommand and as many words after it as one of its forms has, or are `prove`."
+    yield "is_form() {"
+    yield "    case $#:${1-}:${2-} in"
+    yield "    2:*:--help) false ;;"
+    yield from (f"    {' | '.join(calls(word))}) true ;;" for word in WORDS)
+    yield "    1:prove:*) true ;;"
+    yield "    *) false ;;"
+    yield "    esac"
+    yield "}"
+    yield ""
+    yield "# The help on a subcommand, or on all."
+    yield "help_on() {"
+    yield "    case ${1-} in"
+    for name, lines in [("''", help_text()), *((word.name, help_of(word)) for word in WORDS)]:
+        text = shlex.quote("\n".join(lines))
+        yield from f"    {name}) printf '%s\\n' {text} ;;".split("\n")
+    yield "    *) false ;;"
+    yield "    esac"
+    yield "}"
+
+
 # ---- the completions
 
 
@@ -197,7 +282,12 @@ def zsh():
         said = word.line.replace(":", "\\:")
         yield f"    '{word.name}:{said}'"
     yield ")"
-    yield "if (( CURRENT == 2 )); then"
+    yield "if (( CURRENT == 2 )) && [[ $words[2] == -* ]]; then"
+    yield "    compadd -- --help --version"
+    yield "elif (( CURRENT == 2 )); then"
+    yield "    words_of_flow+=('help:what the subcommands are')"
+    yield "    _describe subcommand words_of_flow"
+    yield "elif (( CURRENT == 3 )) && [[ $words[2] == help ]]; then"
     yield "    _describe subcommand words_of_flow"
     for name, versions in digits.items():
         yield f"elif (( CURRENT == 3 )) && [[ $words[2] == {name} ]]; then"
@@ -226,7 +316,10 @@ def bash():
     yield "        return"
     yield "        ;;"
     yield "    esac"
-    yield f'    [ "$COMP_CWORD" -ne 1 ] || words="{" ".join(word.name for word in WORDS)}"'
+    names = " ".join(word.name for word in WORDS)
+    yield f'    [ "$COMP_CWORD" -ne 1 ] || words="{names} help"'
+    yield '    [ "$COMP_CWORD" -ne 1 ] || [[ $word != -* ]] || words="--help --version"'
+    yield f'    [ "$COMP_CWORD" -ne 2 ] || [ "$before" != help ] || words="{names}"'
     for name, versions in digits.items():
         yield f'    [ "$COMP_CWORD" -ne 2 ] || [ "$before" != {name} ] || words="{" ".join(versions)}"'
     yield '    mapfile -t COMPREPLY < <(compgen -W "$words" -- "$word")'
@@ -245,6 +338,10 @@ def fish():
     yield "complete -c flow -f"
     for word in WORDS:
         yield f"{words}1' -a {word.name} -d '{word.line}'"
+    yield f"{words}1' -a help -d 'what the subcommands are'"
+    yield f"{words}1' -l help -d 'what the subcommands are'"
+    yield f"{words}1' -l version -d 'the version'"
+    yield f"{second}help' -a '{' '.join(word.name for word in WORDS)}'"
     for name in files:
         yield f"{second}{name}' -F"
     for name, versions in digits.items():
@@ -269,7 +366,7 @@ def with_words(name, text):
     for begin, make in MARKS.get(name, {}).items():
         is_manual = begin.startswith(".")
         text = marked(text, begin, make(), (lambda line: line == END) if is_manual else (lambda line: not line))
-    return "".join(line + "\n" for line in COMPLETIONS[name]()) if name in COMPLETIONS else text
+    return "".join(line + "\n" for line in WHOLE[name]()) if name in WHOLE else text
 
 
 END = r".\" (what tools/words wrote ends here)"
@@ -279,5 +376,6 @@ MARKS = {
     "docs/flow.1": {r".\" (tools/words writes what follows: synopsis)": synopsis,
                     r".\" (tools/words writes what follows: statuses)": exit_statuses},
 }
-COMPLETIONS = {"tools/completions/_flow": zsh, "tools/completions/flow.bash": bash, "tools/completions/flow.fish": fish}
-PLACES = [*MARKS, *COMPLETIONS]
+WHOLE = {"tools/lib/help.bash": launcher, "tools/completions/_flow": zsh, "tools/completions/flow.bash": bash,
+         "tools/completions/flow.fish": fish}
+PLACES = [*MARKS, *WHOLE]
