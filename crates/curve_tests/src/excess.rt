@@ -17,27 +17,13 @@ fn workspace<'a>(alloc: Global, orders: &'a [Order], prices: &[i64]) -> Option<W
     Workspace::new(alloc, orders, prices).ok()
 }
 
-// Returns the excess of the asset at a price, in parts of a unit.
-fn asked(workspace: &Workspace<'_>, parts: u16, asset: u16, price: i64) -> Option<Excess> {
-    if parts == 0
-        || parts > 256
-        || usize::from(asset) >= workspace.prices().len()
-        || price.unsigned_abs() > 1 << 62
-    {
-        return None;
-    }
-    Some(workspace.excess_at(parts, asset, price))
-}
-
-// Returns the excess of the asset at a price, before and after the price is set, and whether the asset is settled then.
-fn moved(workspace: &mut Workspace<'_>, asset: u16, price: i64) -> Option<(Excess, Excess, bool)> {
+// Sets the price of the asset, and returns its excess then, and whether it is settled.
+fn moved(workspace: &mut Workspace<'_>, asset: u16, price: i64) -> Option<(Excess, bool)> {
     if usize::from(asset) >= workspace.prices().len() || price.unsigned_abs() > 1 << 62 {
         return None;
     }
-    let tried = workspace.excess_at(1, asset, price);
     workspace.set_price(asset, price);
-    let settled = workspace.is_settled(asset);
-    Some((tried, workspace.excess(asset), settled))
+    Some((workspace.excess(asset), workspace.is_settled(asset)))
 }
 
 // Returns the rounding bound and the slope bound of the asset.
@@ -84,30 +70,7 @@ fn excess_follows_the_prices(rt: HostRuntime) -> Result<(), Fail> {
     ];
     for ((asset, price), (low, high), settled) in cases {
         let excess = Excess { low, high };
-        assert!(rt; moved(&mut made, asset, price) == Some((excess, excess, settled)));
-    }
-    Ok(())
-}
-
-#[test]
-fn excess_is_told_in_parts_of_a_unit(rt: HostRuntime) -> Result<(), Fail> {
-    let pair: Placed<'_> = ((-5, 20), (10, 100), 0, &[(0, 2), (1, -3)]);
-    let orders = orders_of(rt.alloc(), &[pair, SELLER])?;
-    assert_eq!(rt; orders.len(), 2);
-    let start = [429_496_741_945, 279_172_874_240, 7];
-    let made = workspace(rt.alloc(), orders.as_slice(), &start).ok_or("no workspace")?;
-    let cases = [
-        ((1, 0, 429_496_741_945), (-491, -488)),
-        ((2, 0, 429_496_741_945), (-979, -976)),
-        ((255, 0, 429_496_741_945), (-124_443, -124_440)),
-        ((256, 0, 429_496_741_945), (-124_931, -124_928)),
-        ((256, 0, 388_694_540_288), (-1280, -1280)),
-        ((256, 1, 279_172_874_240), (-4608, -4605)),
-        ((256, 0, -4_611_686_018_427_387_904), (5120, 5120)),
-        ((256, 1, 4_611_686_018_427_387_904), (-7680, -7680)),
-    ];
-    for ((parts, asset, price), (low, high)) in cases {
-        assert!(rt; asked(&made, parts, asset, price) == Some(Excess { low, high }));
+        assert!(rt; moved(&mut made, asset, price) == Some((excess, settled)));
     }
     Ok(())
 }
