@@ -3,7 +3,7 @@ ghost use Rattle.std.specs.Prelude.{◌≡◌, ◌*◌, ◌^◌, ◌<◌, ◌≤
 ghost use Rattle.std.specs.List.{range_with_len};
 ghost use Rattle.weight_rows.specs.Rows.{IsPrice, IsPricedBy, price_of};
 ghost use Rattle.flow_orders.specs.Orders.{IsOrder, most_orders};
-ghost use Rattle.flow_orders.specs.Excess.{spread, steepness, is_unsettled};
+ghost use Rattle.flow_orders.specs.Excess.{low_excess_in, high_excess_in, spread, steepness, is_unsettled};
 ghost use Rattle.flow_orders.specs.WholeUnits.{low_excess, high_excess};
 ghost use Rattle.flow_orders.specs.Residuals.{most_prices};
 ghost use Rattle.excess_bounds.specs.Ends.{IsEnd};
@@ -14,7 +14,7 @@ ghost use Rattle.excess_bounds.specs.Private.{IsColumn};
 use crate::columns::{Cell, Column, columns_of};
 use crate::directions::Direction;
 use crate::narrowing::narrow;
-use crate::parts::{Excess, excess_of};
+use crate::parts::{Excess, excess_after, excess_of};
 use crate::quotes::{Quote, quotes_of, requote};
 use crate::steps::Step;
 use flow_orders::Order;
@@ -142,6 +142,29 @@ impl<'a> Workspace<'a> {
         ensures high_bound { unsigned_abs result.high ≤ 2 ^ 50 }
     {
         excess_of(&self.quotes, self.cells(asset))
+    }
+
+    /// Returns the excess of an asset with this price in place of its own, in parts of a unit, 1 to 256 of them: both bounds
+    /// are within 2^58 of 0. The prices stay. It costs one pass over the asset's column, with at most one division for each
+    /// order. No search calls it: [`Workspace::move_amount`] looks at ever fewer orders.
+    pub fn excess_at(&self, parts: u16, asset: u16, price: i64) -> Excess
+        requires some { 1 ≤ parts }
+        requires few { parts ≤ 256 }
+        requires asset { asset < length self.now.prices }
+        requires price { IsPrice price }
+        ensures low { result.low
+            ≡ low_excess_in parts self.now.orders (slice_set self.now.prices asset price) asset }
+        ensures high { result.high
+            ≡ high_excess_in parts self.now.orders (slice_set self.now.prices asset price) asset }
+        ensures low_bound { unsigned_abs result.low ≤ 2 ^ 58 }
+        ensures high_bound { unsigned_abs result.high ≤ 2 ^ 58 }
+    {
+        excess_after(
+            parts,
+            &self.quotes,
+            self.cells(asset),
+            self.amount(asset, price),
+        )
     }
 
     /// Returns by how many grains the price of an asset moves in a direction, at most `reach`: the least amount after which its
