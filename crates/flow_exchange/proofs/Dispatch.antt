@@ -5,10 +5,10 @@ use Rattle.flow_io.specs.Streams.{Grows, GrowsByPrefix}
 use Rattle.flow_io.specs.Changes.{Change}
 use Rattle.flow_exchange.specs.declared.form.Form.{Form}
 use Rattle.flow_exchange.specs.declared.form.Form.TheVariants.{Run, Audit, Explain, Report, Encode, Sample, Statement, Checkpoint, Resume}
-use Rattle.flow_exchange.specs.declared.status.Status.{Status}
-use Rattle.flow_exchange.specs.declared.status.Status.TheVariants as answer
+use Rattle.exit_status.specs.declared.status.Status.{Status}
+use Rattle.exit_status.specs.declared.status.Status.TheVariants as answer
 use Rattle.flow_exchange.specs.Forms.{Asks}
-use Rattle.flow_exchange.specs.Statuses.{line_of}
+use Rattle.exit_status.specs.Statuses.{line_of}
 use Rattle.flow_exchange.specs.Program.{ServesCall}
 use Rattle.flow_exchange.specs.Allocating.{MayRunOut}
 use Rattle.flow_exchange.specs.Running.{KeepsPace}

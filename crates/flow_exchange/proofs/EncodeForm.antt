@@ -11,7 +11,8 @@ use Rattle.encode_word.proofs.FirstBytes.{ComeIfMore, GetsFirst, no_bytes, into_
 use Rattle.flow_exchange.specs.declared.form.Form.TheVariants.{Encode}
 use Rattle.flow_exchange.specs.Statuses.{ended_status, unencoded}
 use Rattle.flow_exchange.specs.Program.{ComesToIfMore, GetsTo}
-use Rattle.flow_exchange.proofs.Words.{IsOwn, IsForm, Unwritten, nothing_is_prefix}
+use Rattle.exit_status.proofs.Own.{IsOwn}
+use Rattle.flow_exchange.proofs.Words.{IsForm, Unwritten, nothing_is_prefix}
 
 module _ (version : Version) where
   -- what first bytes result in, with its status

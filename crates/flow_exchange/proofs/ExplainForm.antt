@@ -18,7 +18,7 @@ use Rattle.journal_words.proofs.JournalLaws.{explain_is_exact}
 use Rattle.history_words.specs.declared.stop.HistoryStop.{HistoryStop}
 use Rattle.history_words.specs.Histories.{following, plainly, over_history}
 use Rattle.flow_exchange.specs.declared.form.Form.TheVariants.{Explain}
-use Rattle.flow_exchange.specs.declared.status.Status.TheVariants as answer
+use Rattle.exit_status.specs.declared.status.Status.TheVariants as answer
 use Rattle.flow_exchange.specs.Statuses.{ended_status}
 use Rattle.flow_exchange.specs.Private.{rejected}
 use Rattle.flow_exchange.specs.HistoryFiles.{History}

@@ -28,7 +28,7 @@ use Rattle.history_words.specs.declared.stop.HistoryStop.{HistoryStop}
 use Rattle.history_words.specs.declared.stop.HistoryStop.TheVariants as stop
 use Rattle.history_words.specs.Histories.{following, plainly, over_history}
 use Rattle.flow_exchange.specs.declared.form.Form.TheVariants.{Audit, Report}
-use Rattle.flow_exchange.specs.declared.status.Status.TheVariants as answer
+use Rattle.exit_status.specs.declared.status.Status.TheVariants as answer
 use Rattle.flow_exchange.specs.Statuses.{ended_status}
 use Rattle.flow_exchange.specs.Private.{rejected}
 use Rattle.flow_exchange.specs.HistoryFiles.{History}
@@ -36,7 +36,8 @@ use Rattle.flow_exchange.specs.Auditing.{legal_line, audit_text, AuditsTo, Audit
 use Rattle.flow_exchange.specs.Reporting.{AreReported, ReportsTo, ReportsShort}
 use Rattle.flow_exchange.specs.JournalFiles.{audit_status}
 use Rattle.flow_exchange.proofs.HistoryOf.{history_of, makes_of, judged_all, judged_some, at_pair}
-use Rattle.flow_exchange.proofs.Words.{IsOwn, Nothing, IsForm, history_form}
+use Rattle.exit_status.proofs.Own.{IsOwn}
+use Rattle.flow_exchange.proofs.Words.{Nothing, IsForm, history_form}
 
 cleared_more : (pair : Pair Record Outcome) (pairs : List (Pair Record Outcome)) → cleared_in (pair ∷ pairs) ≡ cleared_by pair.answer + cleared_in pairs
 cleared_more pair pairs = sum_by-cons (λ (p : Pair Record Outcome). cleared_by p.answer) pair pairs

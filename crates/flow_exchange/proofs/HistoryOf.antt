@@ -25,7 +25,7 @@ use Rattle.batch_audit.specs.Legal.{IsLegalPair, IsIllegalPair, StopsAt}
 use Rattle.batch_audit.proofs.LawProofs.{one_market}
 use Rattle.journal_replay.proofs.Judged.{read_more}
 use Rattle.history_words.proofs.Starts.{one_start}
-use Rattle.flow_exchange.specs.declared.status.Status.{Status}
+use Rattle.exit_status.specs.declared.status.Status.{Status}
 use Rattle.flow_exchange.specs.HistoryFiles.{History, IsHistory, history_status, HistoryTo, IsAtPairOf}
 use Rattle.flow_exchange.specs.Promising.{IsKeptFrom}
 

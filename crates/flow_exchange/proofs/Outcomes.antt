@@ -24,9 +24,10 @@ use Rattle.journal_words.proofs.JournalLaws.{one_line}
 use Rattle.wire_records.specs.declared.version.Version.TheVariants.{One, Two, Three, Four}
 use Rattle.flow_exchange.specs.declared.form.Form.{Form}
 use Rattle.flow_exchange.specs.declared.form.Form.TheVariants.{Run, Audit, Explain, Report, Encode, Sample, Statement, Checkpoint, Resume}
-use Rattle.flow_exchange.specs.declared.status.Status.{Status}
-use Rattle.flow_exchange.specs.declared.status.Status.TheVariants as answer
-use Rattle.flow_exchange.specs.Statuses.{reading_status, ended_status, unencoded, unfit_status}
+use Rattle.exit_status.specs.declared.status.Status.{Status}
+use Rattle.exit_status.specs.declared.status.Status.TheVariants as answer
+use Rattle.exit_status.specs.Statuses.{reading_status}
+use Rattle.flow_exchange.specs.Statuses.{ended_status, unencoded, unfit_status}
 use Rattle.wire_records.specs.Grammars.{BeginsWithNone}
 use Rattle.market_history.specs.Histories.{market_of, starts}
 use Rattle.flow_exchange.specs.HistoryFiles.{History, history_status, IsNoHistory, HistoryTo}

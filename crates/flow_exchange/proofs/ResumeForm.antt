@@ -24,10 +24,11 @@ use Rattle.session_resume.specs.Rests.{Commands}
 use Rattle.session_resume.specs.Resuming.{Resumes, ResumesFirst, ResumesInto, ResumesShort}
 use Rattle.session_resume.specs.Tasks.{resuming}
 use Rattle.flow_exchange.specs.declared.form.Form.TheVariants.{Resume}
-use Rattle.flow_exchange.specs.declared.status.Status.TheVariants as answer
+use Rattle.exit_status.specs.declared.status.Status.TheVariants as answer
 use Rattle.flow_exchange.specs.Statuses.{unfit_status}
 use Rattle.flow_exchange.specs.Program.{ComesToIfMore, GetsTo}
-use Rattle.flow_exchange.proofs.Words.{IsOwn, IsForm, Unwritten, nothing_is_prefix}
+use Rattle.exit_status.proofs.Own.{IsOwn}
+use Rattle.flow_exchange.proofs.Words.{IsForm, Unwritten, nothing_is_prefix}
 use Rattle.flow_exchange.proofs.CommandFiles.{command_files_begin_no_pair}
 
 -- The bytes begin with what is resumed from, whatever follows it.

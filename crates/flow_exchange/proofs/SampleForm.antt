@@ -6,8 +6,8 @@ use Rattle.flow_io.specs.Changes.{Change}
 use Rattle.flow_io.proofs.Growth.{Grows-nothing}
 use Rattle.sample_summary.specs.Summary.{Summarizes}
 use Rattle.flow_exchange.specs.declared.form.Form.TheVariants.{Sample}
-use Rattle.flow_exchange.specs.declared.status.Status.{Status}
-use Rattle.flow_exchange.specs.declared.status.Status.TheVariants as answer
+use Rattle.exit_status.specs.declared.status.Status.{Status}
+use Rattle.exit_status.specs.declared.status.Status.TheVariants as answer
 use Rattle.flow_exchange.specs.Program.{Meets}
 use Rattle.flow_exchange.specs.Allocating.{RunsOut}
 use Rattle.flow_exchange.specs.Private.{Serves}

@@ -45,12 +45,13 @@ use Rattle.statement_word.specs.Stating.{Stated, TellsOwn, statement, statement_
 use Rattle.statement_word.proofs.Held.{lines_are, ends_are}
 use Rattle.statement_word.proofs.StatementLaws.{statement_is_exact}
 use Rattle.flow_exchange.specs.declared.form.Form.TheVariants.{Statement}
-use Rattle.flow_exchange.specs.declared.status.Status.TheVariants as answer
+use Rattle.exit_status.specs.declared.status.Status.TheVariants as answer
 use Rattle.flow_exchange.specs.Statuses.{ended_status}
 use Rattle.flow_exchange.specs.Private.{no_statement}
 use Rattle.flow_exchange.specs.Stating.{statement_status, States, AreSeen, StatesTo, StatesShort}
 use Rattle.flow_exchange.proofs.HistoryOf.{history_of, makes_by, consistent_start, judged_all, judged_some, at_pair}
-use Rattle.flow_exchange.proofs.Words.{IsOwn, Nothing, IsForm, history_form}
+use Rattle.exit_status.proofs.Own.{IsOwn}
+use Rattle.flow_exchange.proofs.Words.{Nothing, IsForm, history_form}
 
 module _ (account : ℕ) where
   -- the account, with the market before the next entry

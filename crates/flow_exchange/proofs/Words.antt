@@ -14,8 +14,9 @@ use Rattle.wire_records.specs.Records.{Record}
 use Rattle.history_words.specs.declared.stop.HistoryStop.{HistoryStop}
 use Rattle.history_words.specs.Histories.{Beginning, over_history_from}
 use Rattle.flow_exchange.specs.declared.form.Form.{Form}
-use Rattle.flow_exchange.specs.declared.status.Status.{Status}
-use Rattle.flow_exchange.specs.declared.status.Status.TheVariants as answer
+use Rattle.exit_status.specs.declared.status.Status.{Status}
+use Rattle.exit_status.specs.declared.status.Status.TheVariants as answer
+use Rattle.exit_status.proofs.Own.{IsOwn}
 use Rattle.flow_exchange.specs.Statuses.{ended_status}
 use Rattle.flow_exchange.specs.Program.{ComesTo, ComesToIfMore, WritesSoFar, GetsTo, most_taken, left_by, Determines, Meets}
 use Rattle.flow_exchange.specs.Allocating.{LacksAt, RunsOut}
@@ -23,24 +24,6 @@ use Rattle.flow_exchange.specs.Private.{Serves}
 use Rattle.flow_exchange.proofs.IfMore.{comes_if_more, lacks_begins}
 use Rattle.flow_exchange.proofs.HistoryIfMore.{history_if_more, history_begins}
 use Rattle.flow_exchange.proofs.Outcomes.{one_end}
-
--- a reason of its own is none of the other statuses
-abbrev pub IsOwn : Status → Type 0
-IsOwn answer.Done = ⊥
-IsOwn answer.Usage = ⊥
-IsOwn answer.NotFlow = ⊥
-IsOwn (answer.Torn place) = ⊥
-IsOwn answer.ReadFault = ⊥
-IsOwn answer.WriteFault = ⊥
-IsOwn answer.NoMemory = ⊥
-IsOwn (answer.Rejected number) = Unit {0}
-IsOwn (answer.TooLong most) = ⊥
-IsOwn (answer.BadText number) = Unit {0}
-IsOwn answer.BadCheckpoint = Unit {0}
-IsOwn (answer.NoAccount number) = Unit {0}
-IsOwn answer.DiskFault = ⊥
-IsOwn answer.NotDisk = ⊥
-IsOwn (answer.Damaged place) = ⊥
 
 -- How a subcommand's task is a form of the program, with a status for each of its own reasons to stop, and with what is known besides if
 -- a read failed.

@@ -7,8 +7,8 @@ use Rattle.encode_word.specs.Encoding.{EncodesShort}
 use Rattle.session_resume.specs.Resuming.{ResumesShort}
 use Rattle.flow_exchange.specs.declared.form.Form.{Form}
 use Rattle.flow_exchange.specs.declared.form.Form.TheVariants.{Run, Audit, Explain, Report, Encode, Sample, Statement, Checkpoint, Resume}
-use Rattle.flow_exchange.specs.declared.status.Status.{Status}
-use Rattle.flow_exchange.specs.declared.status.Status.TheVariants.{NoMemory}
+use Rattle.exit_status.specs.declared.status.Status.{Status}
+use Rattle.exit_status.specs.declared.status.Status.TheVariants.{NoMemory}
 use Rattle.flow_exchange.specs.Running.{RunsShort}
 use Rattle.flow_exchange.specs.Auditing.{AuditsShort}
 use Rattle.flow_exchange.specs.Reporting.{ReportsShort}

@@ -8,7 +8,7 @@ use Rattle.market_rules.specs.Allocating.{RecordMayAllocate}
 use Rattle.market_history.specs.Histories.{Start}
 use Rattle.journal_replay.specs.Audits.{cleared_in, skipped_in}
 use Rattle.journal_words.specs.Line.{counted_line}
-use Rattle.flow_exchange.specs.declared.status.Status.{Status}
+use Rattle.exit_status.specs.declared.status.Status.{Status}
 use Rattle.flow_exchange.specs.JournalFiles.{if_whole}
 use Rattle.flow_exchange.specs.HistoryFiles.{History, history_status, HistoryTo, IsAtPairOf, LacksStart}
 

@@ -1,8 +1,8 @@
 -- What `flow checkpoint` makes of the bytes of its source.
 use Rattle.std.specs.Prelude.{◌≡◌, ◌⊎◌, ℕ, List, []}
 use Rattle.market_snapshot.specs.Checkpoints.{checkpoint_bytes}
-use Rattle.flow_exchange.specs.declared.status.Status.{Status}
-use Rattle.flow_exchange.specs.declared.status.Status.TheVariants.{Done}
+use Rattle.exit_status.specs.declared.status.Status.{Status}
+use Rattle.exit_status.specs.declared.status.Status.TheVariants.{Done}
 use Rattle.flow_exchange.specs.JournalFiles.{if_whole}
 use Rattle.flow_exchange.specs.HistoryFiles.{History, history_status, HistoryTo}
 use Rattle.flow_exchange.specs.Auditing.{AuditsShort}

@@ -5,7 +5,7 @@ use Rattle.wire_records.specs.Commands.{Pair}
 use Rattle.flow_orders.specs.Outcomes.{Outcome}
 use Rattle.market_rules.specs.Market.{Market}
 use Rattle.journal_words.specs.Findings.{IsExplained}
-use Rattle.flow_exchange.specs.declared.status.Status.{Status}
+use Rattle.exit_status.specs.declared.status.Status.{Status}
 use Rattle.flow_exchange.specs.HistoryFiles.{history_status, HistoryTo}
 use Rattle.flow_exchange.specs.Auditing.{audit_text}
 

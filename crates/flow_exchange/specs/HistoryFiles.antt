@@ -12,8 +12,8 @@ use Rattle.market_rules.specs.Journal.{Follows}
 use Rattle.market_snapshot.specs.Checkpoints.{HasCheckpointMagic}
 use Rattle.market_history.specs.Histories.{Start, market_of, histories, BeginsUnsound, BeginsOtherwise}
 use Rattle.batch_audit.specs.Legal.{StopsAt}
-use Rattle.flow_exchange.specs.declared.status.Status.{Status}
-use Rattle.flow_exchange.specs.declared.status.Status.TheVariants.{NotFlow, BadCheckpoint}
+use Rattle.exit_status.specs.declared.status.Status.{Status}
+use Rattle.exit_status.specs.declared.status.Status.TheVariants.{NotFlow, BadCheckpoint}
 use Rattle.flow_exchange.specs.JournalFiles.{audit_status}
 
 -- A history as it was read: its beginning, its valid entries, the market that they lead to from the one that it begins in, the entries from

@@ -4,9 +4,9 @@ use Rattle.wire_records.specs.Records.{Record}
 use Rattle.wire_records.specs.Commands.{Pair}
 use Rattle.wire_records.specs.Reading.{Ending, End, Torn, TooLong}
 use Rattle.flow_orders.specs.Outcomes.{Outcome}
-use Rattle.flow_exchange.specs.declared.status.Status.{Status}
-use Rattle.flow_exchange.specs.declared.status.Status.TheVariants.{Rejected}
-use Rattle.flow_exchange.specs.Statuses.{ending_status}
+use Rattle.exit_status.specs.declared.status.Status.{Status}
+use Rattle.exit_status.specs.declared.status.Status.TheVariants.{Rejected}
+use Rattle.exit_status.specs.Statuses.{ending_status}
 
 -- the first value if no entry follows the valid ones and the bytes end with them, and else the second
 abbrev pub if_whole : {A : Type 0} → List (Record × Record) → Ending → A → A → A

@@ -3,8 +3,8 @@ use Rattle.std.specs.Prelude.{◌≡◌, ◌≢◌, ℕ, List, IfSome}
 use Rattle.flow_io.specs.Faults.{Rose}
 use Rattle.flow_io.specs.Changes.{Change}
 use Rattle.flow_exchange.specs.declared.form.Form.{Form}
-use Rattle.flow_exchange.specs.declared.status.Status.{Status}
-use Rattle.flow_exchange.specs.declared.status.Status.TheVariants.{NoMemory}
+use Rattle.exit_status.specs.declared.status.Status.{Status}
+use Rattle.exit_status.specs.declared.status.Status.TheVariants.{NoMemory}
 use Rattle.flow_exchange.specs.Forms.{Asks}
 use Rattle.flow_exchange.specs.Program.{ComesTo, ComesToIfMore, Determines, Does}
 

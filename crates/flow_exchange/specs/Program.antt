@@ -6,10 +6,10 @@ use Rattle.flow_io.specs.Changes.{Change}
 use Rattle.word_driver.specs.Does.{IsTaken}
 use Rattle.flow_exchange.specs.declared.form.Form.{Form}
 use Rattle.flow_exchange.specs.declared.form.Form.TheVariants.{Run, Audit, Explain, Report, Encode, Sample, Statement, Checkpoint, Resume}
-use Rattle.flow_exchange.specs.declared.status.Status.{Status}
-use Rattle.flow_exchange.specs.declared.status.Status.TheVariants.{Done, Usage, ReadFault, WriteFault, NoMemory}
+use Rattle.exit_status.specs.declared.status.Status.{Status}
+use Rattle.exit_status.specs.declared.status.Status.TheVariants.{Done, Usage, ReadFault, WriteFault, NoMemory}
 use Rattle.flow_exchange.specs.Forms.{Asks}
-use Rattle.flow_exchange.specs.Statuses.{line_of}
+use Rattle.exit_status.specs.Statuses.{line_of}
 use Rattle.flow_exchange.specs.Running.{RunsTo}
 use Rattle.flow_exchange.specs.Auditing.{AuditsTo}
 use Rattle.flow_exchange.specs.Explaining.{ExplainsTo}

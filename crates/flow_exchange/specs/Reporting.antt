@@ -11,7 +11,7 @@ use Rattle.market_rules.specs.Allocating.{RecordMayAllocate}
 use Rattle.market_history.specs.Histories.{Start, market_of}
 use Rattle.batch_audit.specs.Legal.{IsLegalPair}
 use Rattle.batch_report.specs.Reports.{IsReport}
-use Rattle.flow_exchange.specs.declared.status.Status.{Status}
+use Rattle.exit_status.specs.declared.status.Status.{Status}
 use Rattle.flow_exchange.specs.HistoryFiles.{history_status, HistoryTo, IsAtPairOf, LacksStart}
 
 -- the entries are steps from a market to another, and the text is their lines, entry after entry, numbered from `number` on

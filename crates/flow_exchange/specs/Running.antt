@@ -14,9 +14,9 @@ use Rattle.journal_records.specs.Formats.{journal_magic_of}
 use Rattle.market_rules.specs.Market.{Market}
 use Rattle.market_rules.specs.Allocating.{RecordMayAllocate}
 use Rattle.exchange_session.specs.Journals.{Journals}
-use Rattle.flow_exchange.specs.declared.status.Status.{Status}
-use Rattle.flow_exchange.specs.declared.status.Status.TheVariants.{WriteFault, NoMemory}
-use Rattle.flow_exchange.specs.Statuses.{reading_status}
+use Rattle.exit_status.specs.declared.status.Status.{Status}
+use Rattle.exit_status.specs.declared.status.Status.TheVariants.{WriteFault, NoMemory}
+use Rattle.exit_status.specs.Statuses.{reading_status}
 
 -- what is written for a reading: the journal of its records, in the version of the file
 abbrev pub WritesOf : Reading Version Record → List ℕ → Type 0

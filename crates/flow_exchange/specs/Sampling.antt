@@ -1,8 +1,8 @@
 -- `flow sample NUMBER ORDERS`: which arguments ask for it, and what it results in.
 use Rattle.std.specs.Prelude.{◌≡◌, ◌<◌, ◌≤◌, ◌^◌, ℕ, List, [], ◌∷◌, codes, decimal}
 use Rattle.flow_orders.specs.Orders.{most_orders}
-use Rattle.flow_exchange.specs.declared.status.Status.{Status}
-use Rattle.flow_exchange.specs.declared.status.Status.TheVariants.{Done}
+use Rattle.exit_status.specs.declared.status.Status.{Status}
+use Rattle.exit_status.specs.declared.status.Status.TheVariants.{Done}
 use Rattle.sample_summary.specs.Summary.{Summarizes}
 
 -- The arguments are `sample` and two numbers in plain decimal digits: one of 64 bits, and 1 to 16,384 orders.

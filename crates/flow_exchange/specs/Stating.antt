@@ -11,8 +11,8 @@ use Rattle.market_history.specs.Histories.{Start, market_of}
 use Rattle.batch_audit.specs.Legal.{IsLegalPair}
 use Rattle.statement_rules.specs.Views.{Event, Sees, is_there}
 use Rattle.statement_rules.specs.Statements.{text_from, statement_from}
-use Rattle.flow_exchange.specs.declared.status.Status.{Status}
-use Rattle.flow_exchange.specs.declared.status.Status.TheVariants.{Done, NoAccount}
+use Rattle.exit_status.specs.declared.status.Status.{Status}
+use Rattle.exit_status.specs.declared.status.Status.TheVariants.{Done, NoAccount}
 use Rattle.flow_exchange.specs.JournalFiles.{if_whole}
 use Rattle.flow_exchange.specs.HistoryFiles.{History, IsHistory, history_status, HistoryTo, IsAtPairOf, LacksStart}
 

@@ -4,9 +4,9 @@ ghost use Rattle.flow_io.specs.Changes.{change};
 ghost use Rattle.flow_exchange.specs.Private.{Serves};
 ghost use Rattle.flow_exchange.specs.declared.form.Form.TheVariants.{Encode};
 
-use crate::Status;
 use crate::ending::lines_status;
 use encode_word::encode_source;
+use exit_status::Status;
 use flow_io::{Sink, Source};
 use std::alloc::Global;
 use wire_records::Version;

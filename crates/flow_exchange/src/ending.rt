@@ -3,8 +3,8 @@ ghost use Rattle.std.specs.Prelude.{◌≡◌};
 ghost use Rattle.flow_exchange.specs.Statuses.{ended_status, unencoded, unfit_status};
 ghost use Rattle.flow_exchange.specs.Private.{no_reason, no_statement, rejected};
 
-use crate::Status;
 use encode_word::EncodeStop;
+use exit_status::Status;
 use history_words::HistoryStop;
 use session_resume::Unfit;
 use statement_word::NoStatement;

@@ -1,9 +1,6 @@
 //! Laws of the program's arguments and outcomes, whatever code there is, on which its own promise rests. Each law is the contract
 //! of a function that does nothing. The other laws are in the crate `flow_laws`.
-ghost use Rattle.std.specs.Prelude.{◌≡◌, ◌↔◌, IsTrue};
 ghost use Rattle.flow_exchange.specs.Laws.{OneForm, OneEnd, OneIfMore, FaultlessIsDetermined};
-
-use crate::Status;
 
 /// Arguments ask for at most one form.
 pub fn one_form()
@@ -24,9 +21,4 @@ pub fn one_if_more()
 /// If no fault came and memory didn't run out, the bytes of the source determine the status and what was written.
 pub fn faultless_is_determined()
     ensures { FaultlessIsDetermined }
-{}
-
-/// Two statuses are equal in a test exactly if they are the same.
-pub fn equal_statuses()
-    ensures { (a b : Status) → IsTrue (⟦<Status as PartialEq>⟧.eq a b) ↔ (a ≡ b) }
 {}

@@ -4,8 +4,8 @@ ghost use Rattle.flow_io.specs.Changes.{change};
 ghost use Rattle.flow_exchange.specs.Private.{Serves};
 ghost use Rattle.flow_exchange.specs.declared.form.Form.TheVariants.{Resume};
 
-use crate::Status;
 use crate::ending::resumed_status;
+use exit_status::Status;
 use flow_io::{Sink, Source};
 use session_resume::resume_source;
 use std::alloc::Global;

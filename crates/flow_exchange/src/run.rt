@@ -5,9 +5,9 @@ ghost use Rattle.flow_exchange.specs.Private.{Serves};
 ghost use Rattle.flow_exchange.specs.Running.{KeepsPace, WritesInPieces};
 ghost use Rattle.flow_exchange.specs.declared.form.Form.TheVariants.{Run as run_form};
 
-use crate::Status;
 use crate::ending::plain_status;
 use exchange_session::Run;
+use exit_status::Status;
 use flow_io::{Sink, Source};
 use std::alloc::Global;
 use word_driver::go;

@@ -5,7 +5,7 @@ ghost use Rattle.flow_orders.specs.Orders.{most_orders};
 ghost use Rattle.flow_exchange.specs.Private.{Serves};
 ghost use Rattle.flow_exchange.specs.declared.form.Form.TheVariants.{Sample};
 
-use crate::Status;
+use exit_status::Status;
 use flow_io::Sink;
 use sample_summary::sample_line;
 use std::alloc::Global;

@@ -4,8 +4,8 @@ ghost use Rattle.flow_io.specs.Changes.{change};
 ghost use Rattle.flow_exchange.specs.Private.{Serves};
 ghost use Rattle.flow_exchange.specs.declared.form.Form.TheVariants.{Statement};
 
-use crate::Status;
 use crate::ending::statement_status;
+use exit_status::Status;
 use flow_io::{Sink, Source};
 use history_words::go_history_from;
 use statement_word::StatementOf;

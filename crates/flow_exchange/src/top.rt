@@ -8,7 +8,6 @@ ghost use Rattle.flow_exchange.specs.Promising.{Promises};
 ghost use Rattle.flow_exchange.specs.Running.{KeepsPace, WritesInPieces};
 ghost use Rattle.flow_exchange.specs.Allocating.{MayRunOut};
 
-use crate::Status;
 use crate::audit::audit;
 use crate::checkpoint::checkpoint;
 use crate::encode::encode;
@@ -19,11 +18,9 @@ use crate::resume::resume;
 use crate::run::run;
 use crate::sample::sample;
 use crate::statement::statement;
+use exit_status::{INPUT_LIMIT, Status};
 use flow_io::{Sink, Source};
 use std::alloc::Global;
-
-/// The most bytes of input that the program considers.
-pub const INPUT_LIMIT: u64 = 1 << 32;
 
 // Does the form.
 fn do_form<S: Source, K: Sink>(

@@ -23,7 +23,7 @@ use Rattle.market_history.proofs.Starting.{kept_magic}
 use Rattle.history_words.proofs.Starts.{other_magics}
 use Rattle.session_resume.specs.Firsts.{BeginsIllegal}
 use Rattle.journal_words.specs.Findings.{IsExplained}
-use Rattle.flow_exchange.specs.declared.status.Status.TheVariants as answer
+use Rattle.exit_status.specs.declared.status.Status.TheVariants as answer
 use Rattle.flow_exchange.specs.JournalFiles.{if_whole, audit_status}
 use Rattle.flow_exchange.specs.HistoryFiles.{History, AreLegalFrom, IsHistory, IsNoHistory}
 use Rattle.flow_exchange.specs.Auditing.{legal_line, audit_text}

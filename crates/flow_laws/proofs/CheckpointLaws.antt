@@ -25,8 +25,8 @@ use Rattle.market_rules.proofs.LawProofs.{journals_stay_consistent}
 use Rattle.market_snapshot.specs.Checkpoints.{checkpoint_bytes}
 use Rattle.market_history.specs.Histories.{Start, Empty, Kept, CanStart, market_of}
 use Rattle.flow_exchange.specs.declared.form.Form.TheVariants.{Audit}
-use Rattle.flow_exchange.specs.declared.status.Status.{Status}
-use Rattle.flow_exchange.specs.declared.status.Status.TheVariants as answer
+use Rattle.exit_status.specs.declared.status.Status.{Status}
+use Rattle.exit_status.specs.declared.status.Status.TheVariants as answer
 use Rattle.flow_exchange.specs.Auditing.{audit_text}
 use Rattle.flow_exchange.specs.Checkpointing.{checkpoint_text, CheckpointsTo}
 use Rattle.flow_exchange.specs.JournalFiles.{if_whole, audit_status}

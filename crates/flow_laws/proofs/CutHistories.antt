@@ -18,7 +18,7 @@ use Rattle.market_snapshot.specs.Checkpoints.{checkpoint_bytes, IsCheckpoint}
 use Rattle.market_history.specs.Histories.{Start, Kept, CanStart, market_of, encode_start}
 use Rattle.history_words.proofs.Starts.{one_start}
 use Rattle.flow_exchange.specs.declared.form.Form.TheVariants.{Checkpoint}
-use Rattle.flow_exchange.specs.declared.status.Status.TheVariants.{Done}
+use Rattle.exit_status.specs.declared.status.Status.TheVariants.{Done}
 use Rattle.flow_exchange.specs.HistoryFiles.{AreLegalFrom}
 use Rattle.flow_exchange.specs.Program.{ComesTo}
 use Rattle.flow_exchange.proofs.HistoryOf.{pair_is}

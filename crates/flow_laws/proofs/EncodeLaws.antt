@@ -36,9 +36,10 @@ use Rattle.session_resume.specs.Firsts.{First, Whole, IsFirst}
 use Rattle.session_resume.specs.Rests.{Rest, Commands, IsRest, RestComesTo, ServesAll, ended_by}
 use Rattle.session_resume.specs.Resuming.{FirstComesTo, Resumes}
 use Rattle.session_resume.proofs.OneFirst.{one_first, one_rest}
-use Rattle.flow_exchange.specs.declared.status.Status.{Status}
-use Rattle.flow_exchange.specs.declared.status.Status.TheVariants as answer
-use Rattle.flow_exchange.specs.Statuses.{reading_status, ended_status, unencoded, unfit_status}
+use Rattle.exit_status.specs.declared.status.Status.{Status}
+use Rattle.exit_status.specs.declared.status.Status.TheVariants as answer
+use Rattle.exit_status.specs.Statuses.{reading_status}
+use Rattle.flow_exchange.specs.Statuses.{ended_status, unencoded, unfit_status}
 use Rattle.flow_exchange.specs.Running.{WritesOf, RunsTo}
 use Rattle.flow_laws.specs.Laws.{EncodedIsRead, EncodedIsServed, EncodedIsResumed, BadBeforeLines}
 

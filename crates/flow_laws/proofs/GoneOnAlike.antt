@@ -25,8 +25,8 @@ use Rattle.session_resume.specs.Resuming.{FirstComesTo, Resumes}
 use Rattle.session_resume.proofs.OneFirst.{one_first, one_rest}
 use Rattle.session_resume.proofs.OneResumption.{continues_one}
 use Rattle.flow_exchange.specs.declared.form.Form.TheVariants.{Checkpoint, Resume}
-use Rattle.flow_exchange.specs.declared.status.Status.{Status}
-use Rattle.flow_exchange.specs.declared.status.Status.TheVariants as answer
+use Rattle.exit_status.specs.declared.status.Status.{Status}
+use Rattle.exit_status.specs.declared.status.Status.TheVariants as answer
 use Rattle.flow_exchange.specs.Statuses.{ended_status, unfit_status}
 use Rattle.flow_exchange.specs.Program.{ComesTo}
 use Rattle.flow_laws.specs.Laws.{NewRecords, GoesOn, EndAlike, GoOnAlike}

@@ -15,7 +15,7 @@ use Rattle.journal_records.specs.Formats.{journal_magic_of, journals, records_of
 use Rattle.journal_records.proofs.PairPrefixes.{no_pair-from_first}
 use Rattle.market_snapshot.specs.Checkpoints.{checkpoint_magic}
 use Rattle.market_history.specs.Histories.{encode_start}
-use Rattle.flow_exchange.specs.declared.status.Status.TheVariants as answer
+use Rattle.exit_status.specs.declared.status.Status.TheVariants as answer
 use Rattle.flow_exchange.proofs.HistoryOf.{history_of, makes_of, judged_all}
 use Rattle.flow_laws.specs.Laws.{IsMagic, TornAtMagics}
 use Rattle.flow_laws.proofs.AuditLaws.{audited, encoded_alike, lawful_pairs}

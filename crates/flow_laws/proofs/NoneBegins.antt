@@ -10,12 +10,12 @@ use Rattle.market_snapshot.specs.Checkpoints.{checkpoint_bytes, HasCheckpointMag
 use Rattle.market_history.specs.Histories.{Empty, Kept, market_of, starts, BeginsUnsound, BeginsOtherwise}
 use Rattle.market_history.proofs.Starting.{kept_magic}
 use Rattle.history_words.proofs.Starts.{other_magics}
-use Rattle.flow_exchange.specs.declared.status.Status.TheVariants as answer
+use Rattle.exit_status.specs.declared.status.Status.TheVariants as answer
 use Rattle.flow_exchange.specs.JournalFiles.{if_whole, audit_status}
 use Rattle.flow_exchange.specs.HistoryFiles.{History, history_status, HistoryTo}
 use Rattle.flow_exchange.specs.Stating.{statement_status, States}
 use Rattle.statement_rules.specs.Views.{is_there}
-use Rattle.flow_exchange.specs.declared.status.Status.{Status}
+use Rattle.exit_status.specs.declared.status.Status.{Status}
 use Rattle.flow_exchange.specs.Auditing.{audit_text}
 use Rattle.flow_exchange.specs.Explaining.{Explains}
 use Rattle.flow_exchange.specs.Reporting.{AreReported}

@@ -27,7 +27,7 @@ use Rattle.statement_word.proofs.StatementLaws.{statement_is_exact}
 use Rattle.session_resume.proofs.OneResumption.{into_is_prefix}
 use Rattle.flow_exchange.specs.declared.form.Form.{Form}
 use Rattle.flow_exchange.specs.declared.form.Form.TheVariants.{Run, Audit, Explain, Report, Encode, Sample, Statement, Checkpoint, Resume}
-use Rattle.flow_exchange.specs.declared.status.Status.{Status}
+use Rattle.exit_status.specs.declared.status.Status.{Status}
 use Rattle.flow_exchange.specs.Statuses.{ended_status}
 use Rattle.flow_exchange.specs.Private.{no_reason, no_statement, rejected}
 use Rattle.flow_exchange.specs.Program.{ComesTo, ComesToIfMore}

@@ -25,8 +25,8 @@ use Rattle.session_resume.specs.Continuing.{Continues}
 use Rattle.session_resume.specs.Firsts.{First, Neither, NoCheckpoint, Illegal, Whole, IsFirst}
 use Rattle.session_resume.specs.Rests.{Rest, Cut, Nothing, Commands, Other, IsRest, RestComesTo, IsNoFile, ServesAll, ended_by}
 use Rattle.session_resume.specs.Resuming.{FirstComesTo}
-use Rattle.flow_exchange.specs.declared.status.Status.{Status}
-use Rattle.flow_exchange.specs.declared.status.Status.TheVariants as answer
+use Rattle.exit_status.specs.declared.status.Status.{Status}
+use Rattle.exit_status.specs.declared.status.Status.TheVariants as answer
 use Rattle.flow_exchange.specs.Statuses.{ended_status, unfit_status}
 use Rattle.flow_exchange.specs.Resuming.{ResumesTo}
 use Rattle.flow_laws.specs.Laws.{IsWholeInput, ResumptionsEnd}

@@ -28,7 +28,7 @@ use Rattle.session_resume.specs.Resuming.{FirstComesTo, Resumes, ResumesFirst}
 use Rattle.wire_records.proofs.RecordCode.{eight}
 use Rattle.session_resume.proofs.OneFirst.{one_first}
 use Rattle.flow_exchange.specs.declared.form.Form.TheVariants.{Audit}
-use Rattle.flow_exchange.specs.declared.status.Status.TheVariants.{Done}
+use Rattle.exit_status.specs.declared.status.Status.TheVariants.{Done}
 use Rattle.flow_exchange.specs.Auditing.{legal_line}
 use Rattle.flow_exchange.specs.Program.{ComesTo}
 use Rattle.flow_exchange.proofs.CanonicallyKept.{are_own_kept, consistent_first}

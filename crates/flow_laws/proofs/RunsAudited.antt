@@ -20,9 +20,9 @@ use Rattle.batch_audit.specs.Legal.{IsLegalJournal}
 use Rattle.journal_records.proofs.Files.{eight}
 use Rattle.exchange_session.specs.Journals.{Journals}
 use Rattle.flow_exchange.specs.declared.form.Form.TheVariants.{Audit}
-use Rattle.flow_exchange.specs.declared.status.Status.{Status}
-use Rattle.flow_exchange.specs.declared.status.Status.TheVariants as answer
-use Rattle.flow_exchange.specs.Statuses.{reading_status}
+use Rattle.exit_status.specs.declared.status.Status.{Status}
+use Rattle.exit_status.specs.declared.status.Status.TheVariants as answer
+use Rattle.exit_status.specs.Statuses.{reading_status}
 use Rattle.flow_exchange.specs.Running.{WritesOf}
 use Rattle.flow_exchange.specs.Auditing.{legal_line}
 use Rattle.flow_exchange.specs.Program.{ComesTo}

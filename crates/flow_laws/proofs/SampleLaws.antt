@@ -19,8 +19,8 @@ use Rattle.sample_market.specs.Files.{sample, encode_commands, sample_file}
 use Rattle.sample_market.proofs.LawProofs.{samples_are_read}
 use Rattle.sample_market.proofs.Short.{samples_are_short}
 use Rattle.sample_summary.specs.Summary.{units_in, summary_line}
-use Rattle.flow_exchange.specs.declared.status.Status.{Status}
-use Rattle.flow_exchange.specs.declared.status.Status.TheVariants as answer
+use Rattle.exit_status.specs.declared.status.Status.{Status}
+use Rattle.exit_status.specs.declared.status.Status.TheVariants as answer
 use Rattle.flow_exchange.specs.Statuses.{ended_status}
 use Rattle.flow_exchange.specs.Private.{no_reason}
 use Rattle.flow_exchange.specs.Sampling.{SamplesTo}

@@ -12,7 +12,7 @@ use Rattle.encode_word.specs.Tasks.{encoding}
 use Rattle.encode_word.proofs.Encoding.{encodes_some}
 use Rattle.flow_exchange.specs.declared.form.Form.{Form}
 use Rattle.flow_exchange.specs.declared.form.Form.TheVariants.{Run, Audit, Explain, Report, Encode, Sample, Statement, Checkpoint, Resume}
-use Rattle.flow_exchange.specs.declared.status.Status.{Status}
+use Rattle.exit_status.specs.declared.status.Status.{Status}
 use Rattle.flow_exchange.specs.Statuses.{ended_status, unencoded, unfit_status}
 use Rattle.flow_exchange.specs.Private.{no_reason, no_statement, rejected}
 use Rattle.flow_exchange.specs.Program.{ComesTo}

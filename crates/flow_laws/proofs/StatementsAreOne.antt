@@ -22,8 +22,8 @@ use Rattle.statement_rules.proofs.ViewLaws.{one_view, views_compose, views_tell_
 use Rattle.statement_rules.proofs.FromMarkets.{held_there, journals_carry_nothing, equal_starts_equal_statements, statements_join}
 use Rattle.statement_rules.proofs.Texts.{all_stay}
 use Rattle.flow_exchange.specs.declared.form.Form.TheVariants.{Statement}
-use Rattle.flow_exchange.specs.declared.status.Status.{Status}
-use Rattle.flow_exchange.specs.declared.status.Status.TheVariants as answer
+use Rattle.exit_status.specs.declared.status.Status.{Status}
+use Rattle.exit_status.specs.declared.status.Status.TheVariants as answer
 use Rattle.flow_exchange.specs.JournalFiles.{if_whole, audit_status}
 use Rattle.flow_exchange.specs.HistoryFiles.{History, IsHistory}
 use Rattle.flow_exchange.specs.Stating.{statement_status, States}

@@ -12,7 +12,7 @@ use Rattle.market_rules.specs.Promises.{KeepsPromises}
 use Rattle.market_snapshot.specs.Checkpoints.{checkpoint_bytes}
 use Rattle.market_history.specs.Histories.{Start, CanStart, market_of, encode_start}
 use Rattle.flow_exchange.specs.declared.form.Form.TheVariants.{Checkpoint}
-use Rattle.flow_exchange.specs.declared.status.Status.TheVariants.{Done}
+use Rattle.exit_status.specs.declared.status.Status.TheVariants.{Done}
 use Rattle.flow_exchange.specs.HistoryFiles.{AreLegalFrom}
 use Rattle.flow_exchange.specs.Program.{ComesTo}
 

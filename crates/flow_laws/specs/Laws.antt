@@ -40,8 +40,8 @@ use Rattle.sample_summary.specs.Summary.{units_in, summary_line}
 use Rattle.flow_exchange.specs.Forms.{Asks}
 use Rattle.flow_exchange.specs.declared.form.Form.{Form}
 use Rattle.flow_exchange.specs.declared.form.Form.TheVariants.{Run, Audit, Explain, Report, Encode, Sample, Statement, Checkpoint, Resume}
-use Rattle.flow_exchange.specs.declared.status.Status.{Status}
-use Rattle.flow_exchange.specs.declared.status.Status.TheVariants.{Done, NotFlow, Torn, Rejected, NoAccount, BadCheckpoint}
+use Rattle.exit_status.specs.declared.status.Status.{Status}
+use Rattle.exit_status.specs.declared.status.Status.TheVariants.{Done, NotFlow, Torn, Rejected, NoAccount, BadCheckpoint}
 use Rattle.flow_exchange.specs.HistoryFiles.{AreLegalFrom}
 use Rattle.flow_exchange.specs.Auditing.{legal_line}
 use Rattle.flow_exchange.specs.Promising.{AreCanonicallyKept}

@@ -2,7 +2,7 @@
 use crate::asked::Asked;
 use crate::counting::Counts;
 use check_lines::Told;
-use flow_exchange::Status;
+use exit_status::Status;
 use kept_exchange::{flow_disk, flow_disk_limited, flow_lines, flow_lines_limited};
 use memory_disk::MemoryDisk;
 use memory_streams::{MemorySink, MemorySource};

@@ -1,9 +1,10 @@
 -- How keeping a journal ended, as a status.
-use Rattle.std.proofs.Common.{◌≡◌, ℕ, Option, Some, None, IfSome, Result, Ok, Err, refl}
+use Rattle.std.proofs.Common.{◌≡◌, ℕ, Option, Some, None, IfSome, Result, Ok, Err, refl, sym, ap, ◌∙◌}
 use Rattle.flow_io.specs.Faults.{Blames}
 use Rattle.journal_keeping.specs.declared.fault.KeepFault.{KeepFault}
 use Rattle.journal_keeping.specs.declared.fault.KeepFault.TheVariants.{Read, Write, Disk, Memory, NotDisk, Damaged, Rejected, NotFlow, BadCheckpoint, Torn, TooLong}
-use Rattle.flow_exchange.specs.declared.status.Status.TheVariants as status
+use Rattle.exit_status.specs.declared.status.Status.{Status}
+use Rattle.exit_status.specs.declared.status.Status.TheVariants as status
 use Rattle.kept_exchange.specs.Statuses.{kept_status}
 
 pub if_some : {T : Type 0} (o : Option T) (P Q : T → Type 0) → ((x : T) → P x → Q x) → IfSome o P → IfSome o Q
@@ -27,72 +28,46 @@ blames_as P Q before now to back blames = record {
   quiet = λ not. blames.quiet (λ p. not (to p));
 }
 
-pub read_back : (limit : ℕ) (result : Kept) → kept_status limit result ≡ status.ReadFault → ◌≡◌ {A = Kept} result (Err Read)
-read_back limit (Ok done) e = absurd cc
-read_back limit (Err Read) e = refl
-read_back limit (Err Write) e = absurd cc
-read_back limit (Err Disk) e = absurd cc
-read_back limit (Err Memory) e = absurd cc
-read_back limit (Err NotDisk) e = absurd cc
-read_back limit (Err (Damaged place)) e = absurd cc
-read_back limit (Err (Rejected number)) e = absurd cc
-read_back limit (Err NotFlow) e = absurd cc
-read_back limit (Err BadCheckpoint) e = absurd cc
-read_back limit (Err (Torn place)) e = absurd cc
-read_back limit (Err TooLong) e = absurd cc
+-- the fault that a status says of such a call, but for the end of its source
+abbrev fault_of : Status → Option KeepFault
+fault_of status.ReadFault = Some Read
+fault_of status.WriteFault = Some Write
+fault_of status.DiskFault = Some Disk
+fault_of status.NoMemory = Some Memory
+fault_of status.NotDisk = Some NotDisk
+fault_of (status.Damaged place) = Some (Damaged place)
+fault_of (status.Rejected number) = Some (Rejected number)
+fault_of status.NotFlow = Some NotFlow
+fault_of status.BadCheckpoint = Some BadCheckpoint
+fault_of (status.Torn place) = Some (Torn place)
+fault_of (status.TooLong most) = Some TooLong
+fault_of other = None
 
-pub write_back : (limit : ℕ) (result : Kept) → kept_status limit result ≡ status.WriteFault → ◌≡◌ {A = Kept} result (Err Write)
-write_back limit (Ok done) e = absurd cc
-write_back limit (Err Read) e = absurd cc
-write_back limit (Err Write) e = refl
-write_back limit (Err Disk) e = absurd cc
-write_back limit (Err Memory) e = absurd cc
-write_back limit (Err NotDisk) e = absurd cc
-write_back limit (Err (Damaged place)) e = absurd cc
-write_back limit (Err (Rejected number)) e = absurd cc
-write_back limit (Err NotFlow) e = absurd cc
-write_back limit (Err BadCheckpoint) e = absurd cc
-write_back limit (Err (Torn place)) e = absurd cc
-write_back limit (Err TooLong) e = absurd cc
+-- the fault of a result, if it is one
+abbrev fault_in : Kept → Option KeepFault
+fault_in (Ok done) = None
+fault_in (Err fault) = Some fault
 
-pub disk_back : (limit : ℕ) (result : Kept) → kept_status limit result ≡ status.DiskFault → ◌≡◌ {A = Kept} result (Err Disk)
-disk_back limit (Ok done) e = absurd cc
-disk_back limit (Err Read) e = absurd cc
-disk_back limit (Err Write) e = absurd cc
-disk_back limit (Err Disk) e = refl
-disk_back limit (Err Memory) e = absurd cc
-disk_back limit (Err NotDisk) e = absurd cc
-disk_back limit (Err (Damaged place)) e = absurd cc
-disk_back limit (Err (Rejected number)) e = absurd cc
-disk_back limit (Err NotFlow) e = absurd cc
-disk_back limit (Err BadCheckpoint) e = absurd cc
-disk_back limit (Err (Torn place)) e = absurd cc
-disk_back limit (Err TooLong) e = absurd cc
+says_fault : (limit : ℕ) (result : Kept) → fault_of (kept_status limit result) ≡ fault_in result
+says_fault limit (Ok done) = refl
+says_fault limit (Err Read) = refl
+says_fault limit (Err Write) = refl
+says_fault limit (Err Disk) = refl
+says_fault limit (Err Memory) = refl
+says_fault limit (Err NotDisk) = refl
+says_fault limit (Err (Damaged place)) = refl
+says_fault limit (Err (Rejected number)) = refl
+says_fault limit (Err NotFlow) = refl
+says_fault limit (Err BadCheckpoint) = refl
+says_fault limit (Err (Torn place)) = refl
+says_fault limit (Err TooLong) = refl
 
-pub memory_back : (limit : ℕ) (result : Kept) → kept_status limit result ≡ status.NoMemory → ◌≡◌ {A = Kept} result (Err Memory)
-memory_back limit (Ok done) e = absurd cc
-memory_back limit (Err Read) e = absurd cc
-memory_back limit (Err Write) e = absurd cc
-memory_back limit (Err Disk) e = absurd cc
-memory_back limit (Err Memory) e = refl
-memory_back limit (Err NotDisk) e = absurd cc
-memory_back limit (Err (Damaged place)) e = absurd cc
-memory_back limit (Err (Rejected number)) e = absurd cc
-memory_back limit (Err NotFlow) e = absurd cc
-memory_back limit (Err BadCheckpoint) e = absurd cc
-memory_back limit (Err (Torn place)) e = absurd cc
-memory_back limit (Err TooLong) e = absurd cc
+by_fault : (a b : Kept) → fault_in a ≡ fault_in b → ◌≡◌ {A = Kept} a b
+by_fault (Ok done) (Ok also) e = refl
+by_fault (Ok done) (Err fault) e = absurd cc
+by_fault (Err fault) (Ok done) e = absurd cc
+by_fault (Err fault) (Err other) e = cc
 
-pub done_back : (limit : ℕ) (result : Kept) → kept_status limit result ≡ status.Done → ◌≡◌ {A = Kept} result (Ok tt)
-done_back limit (Ok done) e = refl
-done_back limit (Err Read) e = absurd cc
-done_back limit (Err Write) e = absurd cc
-done_back limit (Err Disk) e = absurd cc
-done_back limit (Err Memory) e = absurd cc
-done_back limit (Err NotDisk) e = absurd cc
-done_back limit (Err (Damaged place)) e = absurd cc
-done_back limit (Err (Rejected number)) e = absurd cc
-done_back limit (Err NotFlow) e = absurd cc
-done_back limit (Err BadCheckpoint) e = absurd cc
-done_back limit (Err (Torn place)) e = absurd cc
-done_back limit (Err TooLong) e = absurd cc
+-- a status is that of one result
+pub one_result : (limit : ℕ) (a b : Kept) → kept_status limit a ≡ kept_status limit b → ◌≡◌ {A = Kept} a b
+one_result limit a b e = by_fault a b (sym (says_fault limit a) ∙ ap fault_of e ∙ says_fault limit b)

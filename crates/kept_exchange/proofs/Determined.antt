@@ -17,9 +17,9 @@ use Rattle.journal_keeping.proofs.SourceStart.{unsound_none}
 use Rattle.line_keeping.specs.Inputs.{IsBefore, HasLinesWithin}
 use Rattle.line_keeping.specs.Outputs.{Output}
 use Rattle.line_keeping.specs.Ended as lines
-use Rattle.flow_exchange.specs.Statuses.{ending_status}
-use Rattle.flow_exchange.specs.declared.status.Status.{Status}
-use Rattle.flow_exchange.specs.declared.status.Status.TheVariants as status
+use Rattle.exit_status.specs.Statuses.{ending_status}
+use Rattle.exit_status.specs.declared.status.Status.{Status}
+use Rattle.exit_status.specs.declared.status.Status.TheVariants as status
 use Rattle.kept_exchange.specs.Statuses.{AsksStatus, IsEnd, LinesAskStatus}
 use Rattle.kept_exchange.specs.Keeping.{EndsWith}
 use Rattle.kept_exchange.specs.Lines.{LinesEndWith}

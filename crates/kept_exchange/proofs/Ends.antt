@@ -8,13 +8,13 @@ use Rattle.journal_keeping.specs.Ended as kept
 use Rattle.journal_keeping.specs.declared.fault.KeepFault.TheVariants.{Read, Write, Disk, Memory, NotDisk, Damaged, Rejected, NotFlow, BadCheckpoint, Torn, TooLong}
 use Rattle.line_keeping.specs.Outputs.{Output}
 use Rattle.line_keeping.specs.Ended as lines
-use Rattle.flow_exchange.specs.declared.status.Status.{Status}
-use Rattle.flow_exchange.specs.declared.status.Status.TheVariants as status
+use Rattle.exit_status.specs.declared.status.Status.{Status}
+use Rattle.exit_status.specs.declared.status.Status.TheVariants as status
 use Rattle.kept_exchange.specs.Statuses.{kept_status}
 use Rattle.kept_exchange.specs.Keeping.{EndsWith, IsPaced}
 use Rattle.kept_exchange.specs.Lines.{LinesEndWith}
 use Rattle.kept_exchange.specs.Laws.{KeepEndsByResult, LinesEndByResult}
-use Rattle.kept_exchange.proofs.AsStatus.{Kept, each, read_back, write_back, disk_back, memory_back}
+use Rattle.kept_exchange.proofs.AsStatus.{Kept, each, one_result}
 
 module _ (limit : ℕ) (held : Option (List ℕ)) (end : DiskState) (source out : Change) where
   abbrev pub ByResult : Kept → Type 0
@@ -42,9 +42,9 @@ module _ (limit : ℕ) (held : Option (List ℕ)) (end : DiskState) (source out 
 
   pub paced_as : (result : Kept) → ByResult result → IsPaced limit (kept_status limit result) source out
   paced_as result by = record {
-    read = λ e. pace_of result (Err Read) (read_back limit result e) by;
-    near = λ e. ⊎_elim (λ write. pace_of result (Err Write) (write_back limit result write) by) (λ disk. pace_of result (Err Disk) (disk_back limit result disk) by) e;
-    memory = λ e. pace_of result (Err Memory) (memory_back limit result e) by;
+    read = λ e. pace_of result (Err Read) (one_result limit result (Err Read) e) by;
+    near = λ e. ⊎_elim (λ write. pace_of result (Err Write) (one_result limit result (Err Write) write) by) (λ disk. pace_of result (Err Disk) (one_result limit result (Err Disk) disk) by) e;
+    memory = λ e. pace_of result (Err Memory) (one_result limit result (Err Memory) e) by;
   }
 
   nothing : IfSome held (λ bytes. ⊤)
@@ -75,7 +75,7 @@ keep_ends end limit held source out ends = (
       let by : ByResult limit held end source out some.0 = (some.2, some.3, some.4) in (
         subst (EndsWith limit held end source out) (sym some.1) (ends_as limit held end source out some.0 by),
         subst (λ (s : Status). IsPaced limit s source out) (sym some.1) (paced_as limit held end source out some.0 by),
-        λ e. some.4 (memory_back limit some.0 (sym some.1 ∙ e)),
+        λ e. some.4 (one_result limit some.0 (Err Memory) (sym some.1 ∙ e)),
       ),
 )
 

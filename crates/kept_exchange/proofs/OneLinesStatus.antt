@@ -2,7 +2,7 @@
 use Rattle.std.proofs.Common.{◌≡◌, ◌⊎◌, inl, inr, ℕ, List, sym, ◌∙◌, arith}
 use Rattle.journal_keeping.specs.Openings.{Opening, Foreign, New, Damaged, Rejected, Legal}
 use Rattle.journal_keeping.proofs.OneOpening.{one_opening}
-use Rattle.flow_exchange.specs.declared.status.Status.{Status}
+use Rattle.exit_status.specs.declared.status.Status.{Status}
 use Rattle.kept_exchange.specs.Statuses.{IsEnd, LinesOpenTo}
 use Rattle.kept_exchange.specs.Laws.{LinesHaveOneStatus}
 

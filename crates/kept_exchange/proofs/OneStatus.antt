@@ -10,8 +10,8 @@ use Rattle.journal_keeping.specs.Starts.{version_of, source_start, sources}
 use Rattle.journal_keeping.specs.Openings.{Opening, Foreign, New, Damaged, Rejected, Legal}
 use Rattle.journal_keeping.proofs.OneOpening.{one_opening}
 use Rattle.journal_keeping.proofs.Starts.{one_reading}
-use Rattle.flow_exchange.specs.declared.status.Status.{Status}
-use Rattle.flow_exchange.specs.Statuses.{reading_status}
+use Rattle.exit_status.specs.declared.status.Status.{Status}
+use Rattle.exit_status.specs.Statuses.{reading_status}
 use Rattle.kept_exchange.specs.Statuses.{IsSourceStatus, OpensTo, ReadsKept}
 use Rattle.kept_exchange.specs.Laws.{OneStatus}
 

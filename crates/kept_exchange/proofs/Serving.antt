@@ -1,10 +1,9 @@
 -- A call that keeps a journal does what is promised of it.
-use Rattle.std.proofs.Common.{◌≡◌, ◌+◌, ℕ, List, Option, Result, Ok, Err, OnOk, OnErr, IsErr, refl, ap}
-use Rattle.flow_io.specs.Faults.{Rose, Blames}
+use Rattle.std.proofs.Common.{◌≡◌, ◌+◌, ℕ, List, Option, Result, Err, OnOk, OnErr, IsErr, ap}
+use Rattle.flow_io.specs.Faults.{Blames}
 use Rattle.flow_io.specs.Streams.{Grows, GrowsByPrefix, TakesAtMost}
 use Rattle.flow_io.specs.Changes.{Change}
 use Rattle.flow_io.specs.declared.sink.WriteFailed.{WriteFailed}
-use Rattle.flow_io.proofs.Growth.{GrowsByPrefix-whole}
 use Rattle.wire_records.specs.Records.{Record}
 use Rattle.wire_records.specs.Commands.{Pair}
 use Rattle.flow_orders.specs.Outcomes.{Outcome}
@@ -13,11 +12,12 @@ use Rattle.market_history.specs.Histories.{Start}
 use Rattle.disk_edge.specs.Disks.{DiskState}
 use Rattle.journal_keeping.specs.Keeping.{HoldsLegal, KeepsIn}
 use Rattle.journal_keeping.specs.declared.fault.KeepFault.TheVariants.{Read, Write, Disk}
-use Rattle.flow_exchange.specs.declared.status.Status.TheVariants as status
-use Rattle.flow_exchange.specs.Statuses.{line_of}
+use Rattle.exit_status.specs.declared.status.Status.TheVariants as status
+use Rattle.exit_status.specs.Statuses.{line_of}
+use Rattle.exit_status.proofs.Noted.{written, cut_line}
 use Rattle.kept_exchange.specs.Statuses.{kept_status}
 use Rattle.kept_exchange.specs.Keeping.{ServesKeep}
-use Rattle.kept_exchange.proofs.AsStatus.{Kept, blames_as, read_back, write_back, disk_back}
+use Rattle.kept_exchange.proofs.AsStatus.{Kept, blames_as, one_result}
 use Rattle.kept_exchange.proofs.Ends.{ByResult, ends_as}
 
 -- what a call keeps, for a weaker condition on when a write was cut short
@@ -46,16 +46,6 @@ keeps_wider limit content Cut Wider begin start end old market held holds wider 
       },
     )
 
--- the line was written, if no write of it failed
-pub written : (result : Result (Unit {0}) WriteFailed) (before after : Option (List ℕ)) (line : List ℕ) (faults now : ℕ) → OnOk result (Grows before after line) → Blames (IsErr result) faults now → (¬ Rose faults now) → Grows before after line
-written (Ok x) before after line faults now grows cause still = grows
-written (Err e) before after line faults now grows cause still = absurd (still (cause.rose refl))
-
--- a prefix of the line was written in any case
-pub cut_line : (result : Result (Unit {0}) WriteFailed) (before after : Option (List ℕ)) (line : List ℕ) → OnOk result (Grows before after line) → OnErr result (GrowsByPrefix before after line) → GrowsByPrefix before after line
-cut_line (Ok x) before after line grows prefix = GrowsByPrefix-whole before after line grows
-cut_line (Err e) before after line grows prefix = prefix
-
 module _ (limit : ℕ) (result : Kept) (start end : DiskState) (source out : Change) where
   pub serves : (notes : Change) (noting : Result (Unit {0}) WriteFailed)
       → ((begin : Start) (old : List (Pair Record Outcome)) (market : Market) → HoldsLegal start begin old market → KeepsIn limit source.before (◌≡◌ {A = Kept} result (Err Write)) begin start end old market out.before out.after)
@@ -72,9 +62,9 @@ module _ (limit : ℕ) (result : Kept) (start end : DiskState) (source out : Cha
     keeps = λ begin old market holds. keeps_wider limit source.before (◌≡◌ {A = Kept} result (Err Write)) (kept_status limit result ≡ status.WriteFault) begin start end old market out.before out.after (ap (kept_status limit)) (keeps begin old market holds);
     ends = ends_as limit start.content end source out result ended;
     taken = taken;
-    disks = blames_as _ _ _ _ (ap (kept_status limit)) (disk_back limit result) disk;
-    reads = blames_as _ _ _ _ (ap (kept_status limit)) (read_back limit result) read;
-    writes = blames_as _ _ _ _ (ap (kept_status limit)) (write_back limit result) write;
+    disks = blames_as _ _ _ _ (ap (kept_status limit)) (one_result limit result (Err Disk)) disk;
+    reads = blames_as _ _ _ _ (ap (kept_status limit)) (one_result limit result (Err Read)) read;
+    writes = blames_as _ _ _ _ (ap (kept_status limit)) (one_result limit result (Err Write)) write;
     noted = written noting notes.before notes.after (line_of (kept_status limit result)) notes.faults notes.faults_after line cause;
     cut = cut_line noting notes.before notes.after (line_of (kept_status limit result)) line prefix;
   }

@@ -1,5 +1,5 @@
 -- A call that serves lines and keeps their journal does what is promised of it.
-use Rattle.std.proofs.Common.{◌≡◌, ◌+◌, ℕ, List, subst, Option, IfSome, Result, Err, OnOk, OnErr, IsErr, ap}
+use Rattle.std.proofs.Common.{◌≡◌, ◌+◌, ℕ, List, subst, Option, IfSome, Result, Ok, Err, OnOk, OnErr, IsErr, ap}
 use Rattle.flow_io.specs.Faults.{Blames}
 use Rattle.flow_io.specs.Streams.{Grows, GrowsByPrefix, TakesAtMost}
 use Rattle.flow_io.specs.Changes.{Change}
@@ -16,12 +16,12 @@ use Rattle.line_keeping.specs.Outputs.{Output}
 use Rattle.line_keeping.specs.Keeping.{ServesIn}
 use Rattle.line_keeping.specs.Ended.{ComesTo, LeavesNone}
 use Rattle.line_keeping.proofs.Gaining.{gains_wider}
-use Rattle.flow_exchange.specs.declared.status.Status.TheVariants as status
-use Rattle.flow_exchange.specs.Statuses.{line_of}
+use Rattle.exit_status.specs.declared.status.Status.TheVariants as status
+use Rattle.exit_status.specs.Statuses.{line_of}
+use Rattle.exit_status.proofs.Noted.{written, cut_line}
 use Rattle.kept_exchange.specs.Statuses.{kept_status}
 use Rattle.kept_exchange.specs.Lines.{ServesLines}
-use Rattle.kept_exchange.proofs.AsStatus.{Kept, if_some, blames_as, read_back, write_back, disk_back, done_back}
-use Rattle.kept_exchange.proofs.Serving.{written, cut_line}
+use Rattle.kept_exchange.proofs.AsStatus.{Kept, if_some, blames_as, one_result}
 use Rattle.kept_exchange.proofs.Ends.{lines_end_as}
 
 -- what a call does to the disk and to the output, for a weaker condition on when a write was cut short
@@ -61,10 +61,10 @@ module _ (limit : ℕ) (result : Kept) (start end : DiskState) (source : Change)
     keeps = λ begin old market holds. serves_wider limit source.before (◌≡◌ {A = Kept} result (Err Write)) (kept_status limit result ≡ status.WriteFault) begin start end old market out later (ap (kept_status limit)) (keeps begin old market holds);
     comes = if_some start.content _ _ (λ (held : List ℕ) so. lines_end_as limit held source.before source.after end out later result so) comes;
     taken = taken;
-    left = λ e. subst (λ (r : Kept). LeavesNone r source.after) (done_back limit result e) left;
-    disks = blames_as _ _ _ _ (ap (kept_status limit)) (disk_back limit result) disk;
-    reads = blames_as _ _ _ _ (ap (kept_status limit)) (read_back limit result) read;
-    writes = blames_as _ _ _ _ (ap (kept_status limit)) (write_back limit result) write;
+    left = λ e. subst (λ (r : Kept). LeavesNone r source.after) (one_result limit result (Ok tt) e) left;
+    disks = blames_as _ _ _ _ (ap (kept_status limit)) (one_result limit result (Err Disk)) disk;
+    reads = blames_as _ _ _ _ (ap (kept_status limit)) (one_result limit result (Err Read)) read;
+    writes = blames_as _ _ _ _ (ap (kept_status limit)) (one_result limit result (Err Write)) write;
     noted = written noting notes.before notes.after (line_of (kept_status limit result)) notes.faults notes.faults_after line cause;
     cut = cut_line noting notes.before notes.after (line_of (kept_status limit result)) line prefix;
   }

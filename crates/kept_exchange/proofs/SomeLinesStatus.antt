@@ -7,8 +7,8 @@ use Rattle.market_snapshot.specs.Checkpoints.{HasCheckpointMagic}
 use Rattle.journal_keeping.specs.Starts.{BeginsUnsound}
 use Rattle.journal_keeping.specs.Openings.{Opening, Foreign, New, Damaged, Rejected, Legal, IsOpening}
 use Rattle.journal_keeping.proofs.SomeOpening.{some_opening}
-use Rattle.flow_exchange.specs.declared.status.Status.{Status}
-use Rattle.flow_exchange.specs.declared.status.Status.TheVariants as status
+use Rattle.exit_status.specs.declared.status.Status.{Status}
+use Rattle.exit_status.specs.declared.status.Status.TheVariants as status
 use Rattle.kept_exchange.specs.Statuses.{IsEnd, LinesAskStatus}
 use Rattle.kept_exchange.specs.Laws.{LinesHaveSomeStatus}
 

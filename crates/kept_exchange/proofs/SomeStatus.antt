@@ -17,9 +17,9 @@ use Rattle.journal_keeping.specs.Starts.{version_of, source_start, sources, Begi
 use Rattle.journal_keeping.specs.Openings.{Opening, Foreign, New, Damaged, Rejected, Legal, IsOpening}
 use Rattle.journal_keeping.proofs.SomeOpening.{some_opening}
 use Rattle.journal_keeping.proofs.Starts.{of_source}
-use Rattle.flow_exchange.specs.declared.status.Status.{Status}
-use Rattle.flow_exchange.specs.declared.status.Status.TheVariants as status
-use Rattle.flow_exchange.specs.Statuses.{ending_status, reading_status}
+use Rattle.exit_status.specs.declared.status.Status.{Status}
+use Rattle.exit_status.specs.declared.status.Status.TheVariants as status
+use Rattle.exit_status.specs.Statuses.{ending_status, reading_status}
 use Rattle.kept_exchange.specs.Statuses.{IsSourceStatus, AsksStatus, ReadsKept}
 use Rattle.kept_exchange.specs.Laws.{SomeStatus}
 

@@ -15,9 +15,9 @@ use Rattle.journal_keeping.specs.Keeping.{HoldsLegal, KeepsIn}
 use Rattle.journal_keeping.specs.Openings as opening
 use Rattle.journal_keeping.specs.Pacing.{ReadsAll, IsNear, IsInCheckpoint}
 use Rattle.journal_keeping.specs.Ended.{IsRefused, HasKeptAll, StaysNew, HasLeftAll}
-use Rattle.flow_exchange.specs.declared.status.Status.{Status}
-use Rattle.flow_exchange.specs.declared.status.Status.TheVariants.{Done, Usage, NotFlow, Torn, ReadFault, WriteFault, NoMemory, Rejected, TooLong, BadText, BadCheckpoint, NoAccount, DiskFault, NotDisk, Damaged}
-use Rattle.flow_exchange.specs.Statuses.{line_of}
+use Rattle.exit_status.specs.declared.status.Status.{Status}
+use Rattle.exit_status.specs.declared.status.Status.TheVariants.{Done, Usage, NotFlow, Torn, ReadFault, WriteFault, NoMemory, Rejected, TooLong, BadText, BadCheckpoint, NoAccount, DiskFault, NotDisk, Damaged}
+use Rattle.exit_status.specs.Statuses.{line_of}
 
 -- How a call that keeps a journal ends. `held` is what the disk held at the start, if that is known.
 module _ (limit : ℕ) (held : Option (List ℕ)) (end : DiskState) (source out : Change) where

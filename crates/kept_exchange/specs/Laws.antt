@@ -17,8 +17,8 @@ use Rattle.journal_keeping.specs.declared.fault.KeepFault.{KeepFault}
 use Rattle.journal_keeping.specs.declared.fault.KeepFault.TheVariants.{Memory}
 use Rattle.line_keeping.specs.Outputs.{Output}
 use Rattle.line_keeping.specs.Ended as lines
-use Rattle.flow_exchange.specs.declared.status.Status.{Status}
-use Rattle.flow_exchange.specs.declared.status.Status.TheVariants.{NoMemory}
+use Rattle.exit_status.specs.declared.status.Status.{Status}
+use Rattle.exit_status.specs.declared.status.Status.TheVariants.{NoMemory}
 use Rattle.kept_exchange.specs.Statuses.{kept_status, AsksStatus, LinesAskStatus}
 use Rattle.kept_exchange.specs.Keeping.{IsRefusal, EndsWith, IsPaced, ServesKeep}
 use Rattle.kept_exchange.specs.Lines.{LinesEndWith, ServesLines}

@@ -21,9 +21,9 @@ use Rattle.line_keeping.specs.Outputs.{Output}
 use Rattle.line_keeping.specs.Inputs.{HasLines, HasLinesWithin}
 use Rattle.line_keeping.specs.Keeping.{ServesIn}
 use Rattle.line_keeping.specs.Ended.{HasAnswered, BreaksOff, KeepsJust, RunsOutAt, IsNotOpened, IsNotBegun, RunsOutEarly}
-use Rattle.flow_exchange.specs.declared.status.Status.{Status}
-use Rattle.flow_exchange.specs.declared.status.Status.TheVariants as status
-use Rattle.flow_exchange.specs.Statuses.{line_of}
+use Rattle.exit_status.specs.declared.status.Status.{Status}
+use Rattle.exit_status.specs.declared.status.Status.TheVariants as status
+use Rattle.exit_status.specs.Statuses.{line_of}
 
 -- How a call that serves lines ends, if the disk is known to have held these bytes.
 module _ (limit : ℕ) (held : List ℕ) (content left : Option (List ℕ)) (end : DiskState) (out later : Output) where

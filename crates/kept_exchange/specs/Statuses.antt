@@ -11,9 +11,9 @@ use Rattle.journal_keeping.specs.Starts.{version_of, sources, BeginsUnsound}
 use Rattle.journal_keeping.specs.declared.fault.KeepFault.{KeepFault}
 use Rattle.journal_keeping.specs.declared.fault.KeepFault.TheVariants as kept
 use Rattle.journal_keeping.specs.Openings.{Opening, Foreign, New, Damaged, Rejected, Legal, IsOpening}
-use Rattle.flow_exchange.specs.declared.status.Status.{Status}
-use Rattle.flow_exchange.specs.declared.status.Status.TheVariants as status
-use Rattle.flow_exchange.specs.Statuses.{ending_status, reading_status}
+use Rattle.exit_status.specs.declared.status.Status.{Status}
+use Rattle.exit_status.specs.declared.status.Status.TheVariants as status
+use Rattle.exit_status.specs.Statuses.{ending_status, reading_status}
 
 -- the status of how keeping a journal ended
 abbrev pub kept_status : ℕ → Result (Unit {0}) KeepFault → Status

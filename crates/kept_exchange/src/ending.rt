@@ -2,7 +2,7 @@
 ghost use Rattle.std.specs.Prelude.{◌≡◌};
 ghost use Rattle.kept_exchange.specs.Statuses.{kept_status};
 
-use flow_exchange::Status;
+use exit_status::Status;
 use journal_keeping::KeepFault;
 
 // Returns the status of a run that keeps a journal.

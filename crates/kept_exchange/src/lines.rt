@@ -11,7 +11,7 @@ ghost use Rattle.kept_exchange.specs.Lines.{ServesLines};
 
 use crate::ending::status_of;
 use disk_edge::Disk;
-use flow_exchange::{INPUT_LIMIT, Status};
+use exit_status::{INPUT_LIMIT, Status};
 use flow_io::{Sink, Source};
 use line_keeping::serve_lines;
 use std::alloc::Global;

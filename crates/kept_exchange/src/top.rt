@@ -10,7 +10,7 @@ ghost use Rattle.kept_exchange.specs.Keeping.{IsRefusal, ServesKeep, IsPaced};
 
 use crate::ending::status_of;
 use disk_edge::Disk;
-use flow_exchange::{INPUT_LIMIT, Status};
+use exit_status::{INPUT_LIMIT, Status};
 use flow_io::{Sink, Source};
 use journal_keeping::keep;
 use std::alloc::Global;

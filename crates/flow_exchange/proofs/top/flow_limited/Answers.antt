@@ -1,30 +1,16 @@
-use Rattle.std.proofs.Common.{ℕ, List, Option, Result, Ok, Err, OnOk, OnErr, IsErr, refl}
-use Rattle.flow_io.specs.Faults.{Rose, Blames}
-use Rattle.flow_io.specs.Streams.{Grows, GrowsByPrefix}
 use Rattle.flow_io.specs.Changes.{change}
-use Rattle.flow_io.specs.declared.sink.WriteFailed.{WriteFailed}
-use Rattle.flow_exchange.specs.Statuses.{line_of}
-use Rattle.flow_io.proofs.Growth.{GrowsByPrefix-whole}
+use Rattle.exit_status.specs.Statuses.{line_of}
+use Rattle.exit_status.proofs.Noted.{written, cut_line}
 use Rattle.flow_exchange.specs.declared.form.Form.TheVariants.{Run}
 use Rattle.flow_exchange.proofs.Outcomes.{one_form}
 use Rattle.flow_exchange.proofs.Dispatch.{serves_form, wants_form, paced_form, serves_none, promised}
 use Rattle.flow_exchange.proofs.top.flow_limited.Goals as goal
 use Rattle.flow_exchange.proofs.top.flow_limited.Goals.{in-Some, in-None}
 
--- a line was written if no write of it failed
-written : (result : Result (Unit {0}) WriteFailed) (before after : Option (List ℕ)) (line : List ℕ) (faults now : ℕ) → OnOk result (Grows before after line) → Blames (IsErr result) faults now → (Rose faults now → ⊥) → Grows before after line
-written (Ok x) before after line faults now grows cause still = grows
-written (Err e) before after line faults now grows cause still = absurd (still (cause.rose refl))
-
--- a prefix of a line was written in any case
-cut : (result : Result (Unit {0}) WriteFailed) (before after : Option (List ℕ)) (line : List ℕ) → OnOk result (Grows before after line) → OnErr result (GrowsByPrefix before after line) → GrowsByPrefix before after line
-cut (Ok x) before after line grows prefix = GrowsByPrefix-whole before after line grows
-cut (Err e) before after line grows prefix = prefix
-
 pub returns-clause-serves : goal.returns-clause-serves
 returns-clause-serves g c =
     let noted = written c.write_line.result (g.N.Sink.held c.args.notes.now) (g.N.Sink.held c.write_line.new.notes) (line_of c.match-form_of.status) (g.N.Sink.faults c.args.notes.now) (g.N.Sink.faults c.write_line.new.notes) c.write_line.ensures.written c.write_line.ensures.cause in
-    let prefix = cut c.write_line.result (g.N.Sink.held c.args.notes.now) (g.N.Sink.held c.write_line.new.notes) (line_of c.match-form_of.status) c.write_line.ensures.written c.write_line.ensures.cut in
+    let prefix = cut_line c.write_line.result (g.N.Sink.held c.args.notes.now) (g.N.Sink.held c.write_line.new.notes) (line_of c.match-form_of.status) c.write_line.ensures.written c.write_line.ensures.cut in
     elim c.match-form_of.branch [
       | in-Some w ↦
           let form = w.do_form-status.ensures in

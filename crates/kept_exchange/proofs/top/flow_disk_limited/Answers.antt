@@ -1,6 +1,7 @@
-use Rattle.std.proofs.Common.{sym, ◌∙◌}
+use Rattle.std.proofs.Common.{Err, sym, ◌∙◌}
 use Rattle.flow_io.specs.Changes.{change}
-use Rattle.kept_exchange.proofs.AsStatus.{memory_back}
+use Rattle.journal_keeping.specs.declared.fault.KeepFault.TheVariants.{Memory}
+use Rattle.kept_exchange.proofs.AsStatus.{one_result}
 use Rattle.kept_exchange.proofs.Ends.{paced_as}
 use Rattle.kept_exchange.proofs.Serving.{serves}
 use Rattle.kept_exchange.proofs.top.flow_disk_limited.Goals as goal
@@ -24,4 +25,4 @@ returns-clause-paced g c =
     (change g.K.Sink.held g.K.Sink.faults c.args.out.now c.keep-ended.new.out) c.keep-ended.result (kept.comes, kept.paced, kept.allocates))
 
 pub returns-clause-allocates : goal.returns-clause-allocates
-returns-clause-allocates g c = λ e. c.keep-ended.ensures.allocates (memory_back c.args.limit c.keep-ended.result (sym c.status_of-status.ensures ∙ e))
+returns-clause-allocates g c = λ e. c.keep-ended.ensures.allocates (one_result c.args.limit c.keep-ended.result (Err Memory) (sym c.status_of-status.ensures ∙ e))

@@ -1,7 +1,7 @@
 use Rattle.std.proofs.Common.{decimal, ◌∙◌}
 use Rattle.std.proofs.lemmas.Result.{err_from_is_err_and}
 use Rattle.flow_io.proofs.Growth.{number_cut, end_cut}
-use Rattle.flow_exchange.proofs.line.write_number.Goals as goal
+use Rattle.exit_status.proofs.line.write_number.Goals as goal
 
 pub returns-in_err-write-2-clause-cut : goal.returns-in_err-write-2-clause-cut
 returns-in_err-write-2-clause-cut g c =
