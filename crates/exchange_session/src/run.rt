@@ -6,7 +6,7 @@ ghost use Rattle.exchange_session.specs.Serving.{HasNumbers};
 ghost use Rattle.exchange_session.specs.Running.{run};
 
 use crate::Session;
-use file_units::Front;
+use file_units::Prefix;
 use journal_records::{MOST_PLAIN_PAIR, journal_magic};
 use market_core::Market;
 use std::alloc::Global;
@@ -81,7 +81,7 @@ impl ServesWord for Run {
         }
     }
 
-    fn take(&mut self, bytes: &[u8], text: &mut Vec<u8>) -> Result<Front, Halt<Never>> {
+    fn take(&mut self, bytes: &[u8], text: &mut Vec<u8>) -> Result<Prefix, Halt<Never>> {
         match self.session.serve_next(bytes, text) {
             Ok(prefix) => Ok(prefix),
             Err(_) => Err(Halt::Memory),

@@ -9,7 +9,7 @@ ghost use Rattle.market_rules.specs.Allocating.{RecordMayAllocate};
 ghost use Rattle.exchange_session.specs.Private.{IsAsked};
 
 use crate::batch::hold_batch;
-use file_units::Front;
+use file_units::Prefix;
 use journal_records::{reserve_plain, write_plain};
 use market_core::Market;
 use std::alloc::Global;
@@ -131,7 +131,7 @@ impl Session {
     /// After `Memory` market and buffer are as before, except that the buffer may have more capacity. `Memory` comes
     /// only at a complete record, and only if the buffer had less capacity than 1,042 bytes, the length of the longest
     /// entry with a plain reply, or if the record may allocate.
-    pub fn serve_next(&mut self, bytes: &[u8], out: &mut Vec<u8>) -> Result<Front, Memory>
+    pub fn serve_next(&mut self, bytes: &[u8], out: &mut Vec<u8>) -> Result<Prefix, Memory>
         requires ready { (left : ℕ) × (length bytes.now ≤ left) × HasNumbers self.old left }
         requires empty { out.old.items ≡ [] }
         ensures taken { IfOk result (λ prefix. IsTaken commands Puts prefix bytes.now self.old self.new [] out.new.items) }
@@ -143,12 +143,12 @@ impl Session {
     {
         match next_record(bytes, MOST_BODY) {
             Framed::Whole(asked, taken) => match self.serve(&asked, out) {
-                Ok(()) => Ok(Front::Taken(taken)),
+                Ok(()) => Ok(Prefix::Taken(taken)),
                 Err(_) => Err(Memory),
             },
-            Framed::End => Ok(Front::NoBytes),
-            Framed::TooLarge(_) => Ok(Front::Overlong),
-            Framed::Short => Ok(Front::Short),
+            Framed::End => Ok(Prefix::NoBytes),
+            Framed::TooLarge(_) => Ok(Prefix::Overlong),
+            Framed::Short => Ok(Prefix::Short),
         }
     }
 }

@@ -3,8 +3,8 @@ use Rattle.std.specs.Prelude.{◌≡◌, ◌≢◌, ◌-◌, ◌<◌, ℕ, List,
 use Rattle.wire_records.specs.Grammars.{BeginsWithNone, encode_all}
 use Rattle.wire_records.specs.Reading.{Format, ReadsOn}
 use Rattle.wire_records.specs.Reading as reading
-use Rattle.file_units.specs.declared.units.Front.{Front}
-use Rattle.file_units.specs.declared.units.Front.TheVariants.{Taken, NoBytes, Overlong, Short}
+use Rattle.file_units.specs.declared.units.Prefix.{Prefix}
+use Rattle.file_units.specs.declared.units.Prefix.TheVariants.{Taken, NoBytes, Overlong, Short}
 use Rattle.file_units.specs.declared.units.Ending.{Ending}
 use Rattle.file_units.specs.declared.units.Ending.TheVariants.{End, Torn, TooLong}
 
@@ -32,7 +32,7 @@ module _ {V U S O : Type 0} (format : Format V U) (Steps : S → U → S → O �
     pub output : after ≡ before
 
   -- what was taken and done, by what the bytes begin with
-  abbrev pub IsTaken : Front → List ℕ → S → S → O → O → Type 0
+  abbrev pub IsTaken : Prefix → List ℕ → S → S → O → O → Type 0
   IsTaken (Taken n) bytes old new before after = TakesOne n bytes old new before after
   IsTaken NoBytes bytes old new before after = TakesNone bytes old new before after × (bytes ≡ []) × (¬ format.IsOverlong bytes)
   IsTaken Overlong bytes old new before after = TakesNone bytes old new before after × format.IsOverlong bytes
@@ -71,7 +71,7 @@ module _ {V U S O F : Type 0} (format : Format V U) (Steps : S → U → S → O
     pub breaks : BreaksOff format Breaks left middle fault between after
 
 -- a taker that is ready while so many bytes are left still is, after the unit that was taken
-abbrev pub StaysReady : (ℕ → Type 0) → Front → ℕ → Type 0
+abbrev pub StaysReady : (ℕ → Type 0) → Prefix → ℕ → Type 0
 StaysReady IsReady (Taken n) left = IsReady (left - n)
 StaysReady IsReady NoBytes left = IsReady left
 StaysReady IsReady Overlong left = IsReady left

@@ -6,7 +6,7 @@ ghost use Rattle.flow_io.specs.declared.window.InputEnd.TheVariants.{Source as s
 ghost use Rattle.wire_records.specs.Records.{AreBytes};
 ghost use Rattle.file_units.specs.Inputs.{HasLongest, GoesFrom};
 
-use crate::units::{Ending, Front, TakesUnits};
+use crate::units::{Ending, Prefix, TakesUnits};
 use flow_io::{Filled, ReadFailed, Source, Window};
 
 /// Why the units of an input weren't taken to its end.
@@ -68,15 +68,15 @@ pub fn take_from<S: Source, O, T: TakesUnits<O>>(
             Err(fault) => return Err(TakeFault::Broken(fault)),
         };
         match prefix {
-            Front::Taken(taken) => window.advance(taken),
-            Front::Overlong => return Ok(Ending::Torn(window.place())),
-            Front::Short => match read_on(window, source) {
+            Prefix::Taken(taken) => window.advance(taken),
+            Prefix::Overlong => return Ok(Ending::Torn(window.place())),
+            Prefix::Short => match read_on(window, source) {
                 Ok(Filled::Enough) => {}
                 Ok(Filled::Limited) => return Ok(Ending::TooLong),
                 Ok(Filled::Ended) => return Ok(Ending::Torn(window.place())),
                 Err(_) => return Err(TakeFault::Read),
             },
-            Front::NoBytes => match read_on(window, source) {
+            Prefix::NoBytes => match read_on(window, source) {
                 Ok(Filled::Enough) => {}
                 Ok(Filled::Limited) => return Ok(Ending::TooLong),
                 Ok(Filled::Ended) => return Ok(Ending::End),

@@ -9,4 +9,4 @@ mod input;
 mod units;
 
 pub use input::{TakeFault, take_from};
-pub use units::{Ending, Front, TakesUnits, take_units};
+pub use units::{Ending, Prefix, TakesUnits, take_units};

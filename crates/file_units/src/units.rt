@@ -6,7 +6,7 @@ ghost use Rattle.file_units.specs.Units.{ending_of, IsTaken, StaysReady, BreaksO
 
 /// What the rest of a file begins with, once a complete unit there has been taken.
 #[derive(Clone, Copy, Debug, PartialEq, Eq)]
-pub enum Front {
+pub enum Prefix {
     /// A complete unit of so many bytes, at least one, which was taken.
     Taken(usize),
     /// No bytes.
@@ -50,7 +50,7 @@ pub trait TakesUnits<O> {
     ghost is_ready: { Self → ℕ → Type 0 };
 
     /// Takes the unit that the bytes begin with, if it is complete.
-    fn take(&mut self, bytes: &[u8], out: &mut O) -> Result<Front, Self::Fault>
+    fn take(&mut self, bytes: &[u8], out: &mut O) -> Result<Prefix, Self::Fault>
         requires ready { (left : ℕ) × (length bytes.now ≤ left) × is_ready self.old left }
         ensures taken { IfOk result (λ prefix. IsTaken format steps prefix bytes.now (state self.old) (state self.new) out.old out.new) }
         ensures stays { IfOk result (λ prefix. (left : ℕ) → length bytes.now ≤ left → is_ready self.old left → StaysReady (is_ready self.new) prefix left) }
@@ -76,11 +76,11 @@ pub fn take_units<O, T: TakesUnits<O>>(
     let mut place = start;
     'units: loop {
         match taker.take(&bytes[place..], out)? {
-            Front::Taken(taken) => place += taken,
-            Front::Overlong => return Ok(Ending::Torn(place as u64)),
-            Front::Short if !more => return Ok(Ending::Torn(place as u64)),
-            Front::NoBytes if !more => return Ok(Ending::End),
-            Front::Short | Front::NoBytes => return Ok(Ending::TooLong),
+            Prefix::Taken(taken) => place += taken,
+            Prefix::Overlong => return Ok(Ending::Torn(place as u64)),
+            Prefix::Short if !more => return Ok(Ending::Torn(place as u64)),
+            Prefix::NoBytes if !more => return Ok(Ending::End),
+            Prefix::Short | Prefix::NoBytes => return Ok(Ending::TooLong),
         }
     }
 }

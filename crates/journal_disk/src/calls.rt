@@ -104,13 +104,13 @@ pub(crate) fn read_from<D: Disk>(
 
 // What a disk begins with: the version of its magic, if it has one, and its first commit byte.
 #[derive(Clone, Copy)]
-pub(crate) struct Front {
+pub(crate) struct Opening {
     pub(crate) version: Option<Version>,
     pub(crate) commit: u8,
 }
 
 // Returns what the disk begins with, which has 9 bytes at least.
-pub(crate) fn prefix_of<D: Disk>(disk: &mut D) -> Result<Front, DiskFailed>
+pub(crate) fn prefix_of<D: Disk>(disk: &mut D) -> Result<Opening, DiskFailed>
     requires { IfSome (D.state disk.old).content (λ bytes. 9 ≤ length bytes) }
     ensures magic { IfOk result (λ prefix. IfSome (D.state disk.old).content (IsMagicOf prefix.version)) }
     ensures commit { IfOk result (λ prefix. IfSome (D.state disk.old).content (λ bytes. prefix.commit ≡ slice_index bytes 8)) }
@@ -119,7 +119,7 @@ pub(crate) fn prefix_of<D: Disk>(disk: &mut D) -> Result<Front, DiskFailed>
 {
     let mut prefix = [0; 9];
     read_from(disk, 0, &mut prefix)?;
-    Ok(Front {
+    Ok(Opening {
         version: disk_version(&prefix),
         commit: prefix[8],
     })

@@ -16,8 +16,8 @@ use Rattle.market_rules.specs.Market.{Market}
 use Rattle.market_history.specs.Histories.{Start}
 use Rattle.market_rules.specs.Journal.{Step}
 use Rattle.market_rules.specs.Allocating.{RecordMayAllocate}
-use Rattle.file_units.specs.declared.units.Front.{Front}
-use Rattle.file_units.specs.declared.units.Front.TheVariants.{Taken, NoBytes, Overlong, Short}
+use Rattle.file_units.specs.declared.units.Prefix.{Prefix}
+use Rattle.file_units.specs.declared.units.Prefix.TheVariants.{Taken, NoBytes, Overlong, Short}
 use Rattle.file_units.specs.declared.units.Ending.{Ending}
 use Rattle.file_units.specs.declared.units.Ending.TheVariants as ending
 use Rattle.file_units.specs.declared.input.TakeFault.{TakeFault}
@@ -63,14 +63,14 @@ pub record TakesNext (n : ℕ) (bytes : List ℕ) (old new : Market) (from to : 
   pub written : Grows before after (pair_encoding pair)
 
 -- what the bytes begin with, and what was done with it
-abbrev pub IsTakenNext : Front → List ℕ → Market → Market → ℕ → ℕ → DiskState → DiskState → Option (List ℕ) → Option (List ℕ) → Type 0
+abbrev pub IsTakenNext : Prefix → List ℕ → Market → Market → ℕ → ℕ → DiskState → DiskState → Option (List ℕ) → Option (List ℕ) → Type 0
 IsTakenNext (Taken n) bytes old new from to disk later before after = TakesNext n bytes old new from to disk later before after
 IsTakenNext NoBytes bytes old new from to disk later before after = BeginsWithNone commands.units bytes × (bytes ≡ []) × (¬ commands.IsOverlong bytes)
 IsTakenNext Overlong bytes old new from to disk later before after = BeginsWithNone commands.units bytes × commands.IsOverlong bytes
 IsTakenNext Short bytes old new from to disk later before after = BeginsWithNone commands.units bytes × (bytes ≢ []) × (¬ commands.IsOverlong bytes)
 
 -- `Same` holds if nothing was taken: then nothing changed
-abbrev pub IsStill : Front → Type 0 → Type 0
+abbrev pub IsStill : Prefix → Type 0 → Type 0
 IsStill (Taken n) Same = ⊤
 IsStill NoBytes Same = Same
 IsStill Overlong Same = Same

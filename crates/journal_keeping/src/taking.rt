@@ -28,7 +28,7 @@ ghost use Rattle.journal_keeping.specs.Private.{IsReady, IsTakenNext, IsStill, B
 use crate::fault::KeepFault;
 use disk_edge::Disk;
 use exchange_session::Session;
-use file_units::Front;
+use file_units::Prefix;
 use flow_io::{Filled, ReadFailed, Sink, Source, Window};
 use journal_disk::Appender;
 
@@ -87,7 +87,7 @@ fn keep_next<D: Disk, K: Sink>(
     bytes: &[u8],
     disk: &mut D,
     out: &mut K,
-) -> Result<Front, KeepFault>
+) -> Result<Prefix, KeepFault>
     requires ready { (left : ℕ) × (length bytes.now ≤ left) × IsReady writer.old.session writer.old.appender left }
     requires room { longest_plain_pair ≤ vec_capacity writer.old.pair }
     requires kept { IfSome (D.state disk.old).content
@@ -110,13 +110,13 @@ fn keep_next<D: Disk, K: Sink>(
 {
     writer.pair.clear();
     match writer.session.serve_next(bytes, &mut writer.pair) {
-        Ok(Front::Taken(taken)) => match put_pair(&mut writer.appender, &writer.pair, disk, out) {
-            Ok(()) => Ok(Front::Taken(taken)),
+        Ok(Prefix::Taken(taken)) => match put_pair(&mut writer.appender, &writer.pair, disk, out) {
+            Ok(()) => Ok(Prefix::Taken(taken)),
             Err(fault) => Err(fault),
         },
-        Ok(Front::NoBytes) => Ok(Front::NoBytes),
-        Ok(Front::Overlong) => Ok(Front::Overlong),
-        Ok(Front::Short) => Ok(Front::Short),
+        Ok(Prefix::NoBytes) => Ok(Prefix::NoBytes),
+        Ok(Prefix::Overlong) => Ok(Prefix::Overlong),
+        Ok(Prefix::Short) => Ok(Prefix::Short),
         Err(_) => Err(KeepFault::Memory),
     }
 }
@@ -175,15 +175,15 @@ pub(crate) fn serve_on<S: Source, D: Disk, K: Sink>(
             Err(fault) => return Err(fault),
         };
         match prefix {
-            Front::Taken(taken) => window.advance(taken),
-            Front::Overlong => return Err(KeepFault::Torn(window.place())),
-            Front::Short => match read_on(window, source) {
+            Prefix::Taken(taken) => window.advance(taken),
+            Prefix::Overlong => return Err(KeepFault::Torn(window.place())),
+            Prefix::Short => match read_on(window, source) {
                 Ok(Filled::Enough) => {}
                 Ok(Filled::Limited) => return Err(KeepFault::TooLong),
                 Ok(Filled::Ended) => return Err(KeepFault::Torn(window.place())),
                 Err(_) => return Err(KeepFault::Read),
             },
-            Front::NoBytes => match read_on(window, source) {
+            Prefix::NoBytes => match read_on(window, source) {
                 Ok(Filled::Enough) => {}
                 Ok(Filled::Limited) => return Err(KeepFault::TooLong),
                 Ok(Filled::Ended) => return Ok(()),

@@ -6,7 +6,7 @@ ghost use Rattle.journal_replay.specs.Private.{State, CountsOne, BreaksOffWith, 
 ghost use Rattle.journal_replay.specs.Replays.{FindsLegal, FindsFault};
 
 use batch_audit::{Audit, Legality};
-use file_units::{Ending, Front, TakesUnits, take_units};
+use file_units::{Ending, Prefix, TakesUnits, take_units};
 use journal_records::{PairFramed, PairView, is_overlong, next_pair};
 use market_core::Market;
 use std::alloc::Global;
@@ -76,15 +76,15 @@ impl TakesUnits<()> for Auditing {
 
     ghost is_ready = { λ a left. HasRoom (state_of a) left };
 
-    fn take(&mut self, bytes: &[u8], _out: &mut ()) -> Result<Front, PairFault> {
+    fn take(&mut self, bytes: &[u8], _out: &mut ()) -> Result<Prefix, PairFault> {
         match next_pair(bytes) {
             PairFramed::Whole(pair, taken) => {
                 self.take_pair(&pair)?;
-                Ok(Front::Taken(taken))
+                Ok(Prefix::Taken(taken))
             }
-            PairFramed::End => Ok(Front::NoBytes),
-            PairFramed::Broken if is_overlong(bytes) => Ok(Front::Overlong),
-            PairFramed::Broken => Ok(Front::Short),
+            PairFramed::End => Ok(Prefix::NoBytes),
+            PairFramed::Broken if is_overlong(bytes) => Ok(Prefix::Overlong),
+            PairFramed::Broken => Ok(Prefix::Short),
         }
     }
 }

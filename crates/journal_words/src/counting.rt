@@ -11,7 +11,7 @@ use journal_records::PairView;
 use word_driver::{Halt, Memory, put_number};
 
 // The bytes of the longest line: three numbers of 20 digits, and 34 bytes between them.
-const MOST_LINE: usize = 94;
+const LONGEST_SUMMARY: usize = 94;
 
 // The tags of the replies to a batch.
 const CLEARED: u8 = 133;
@@ -62,7 +62,7 @@ impl OnPair for Counting {
 
     type Stop = u64;
 
-    const ROOM: usize = MOST_LINE;
+    const ROOM: usize = LONGEST_SUMMARY;
 
     ghost ROOM = { 94 };
 

@@ -8,7 +8,7 @@ ghost use Rattle.journal_words.specs.Private.{HasRoom};
 
 use crate::on_pair::OnPair;
 use batch_audit::Audit;
-use file_units::Front;
+use file_units::Prefix;
 use journal_records::{MOST_PAIR, PairFramed, PairView, is_overlong, journal_version, next_pair};
 use market_core::Market;
 use std::alloc::Global;
@@ -135,15 +135,15 @@ impl<P: OnPair + Drop> ServesWord for Pairs<P> {
         }
     }
 
-    fn take(&mut self, bytes: &[u8], text: &mut Vec<u8>) -> Result<Front, Halt<P::Stop>> {
+    fn take(&mut self, bytes: &[u8], text: &mut Vec<u8>) -> Result<Prefix, Halt<P::Stop>> {
         match next_pair(bytes) {
             PairFramed::Whole(pair, taken) => match self.take_pair(&pair, text) {
-                Ok(()) => Ok(Front::Taken(taken)),
+                Ok(()) => Ok(Prefix::Taken(taken)),
                 Err(halt) => Err(halt),
             },
-            PairFramed::End => Ok(Front::NoBytes),
-            PairFramed::Broken if is_overlong(bytes) => Ok(Front::Overlong),
-            PairFramed::Broken => Ok(Front::Short),
+            PairFramed::End => Ok(Prefix::NoBytes),
+            PairFramed::Broken if is_overlong(bytes) => Ok(Prefix::Overlong),
+            PairFramed::Broken => Ok(Prefix::Short),
         }
     }
 

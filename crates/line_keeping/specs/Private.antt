@@ -127,12 +127,16 @@ pub record OpensSafely (limit : ℕ) (content : Option (List ℕ)) (start end : 
   pub journal : IsKeptJournal of old from
   pub moments : AtEachMoment start end (WhileOpening of start old)
 
+-- the room of the text that a line is no command: "line ", at most 20 digits, and the rest
+abbrev pub refusal_room : ℕ
+refusal_room = 40
+
 -- what a desk needs to begin
 pub record IsReadyToServe (market : Market) (entries place room : ℕ) : Type 0 where
   pub orders : market.next_order ≤ place + 2 ^ 63
   pub counted : entries ≤ place
   pub few : place ≤ 2 ^ 60
-  pub text : 64 ≤ room
+  pub text : refusal_room ≤ room
 
 -- why nothing was answered, if the disk held these bytes
 module _ (limit : ℕ) (held : List ℕ) (content left : Option (List ℕ)) (end : DiskState) where

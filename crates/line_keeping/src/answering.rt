@@ -73,7 +73,7 @@ impl Desk {
     ghost use Rattle.journal_disk.specs.Entries.{Head, Keeps};
     ghost use Rattle.journal_disk.specs.Lengths.{ReachesAtMost};
     ghost use Rattle.input_lines.specs.Long.{most_line};
-    ghost use Rattle.line_keeping.specs.Private.{IsReadyFor, IsServed, AnswersCommand, BreaksCommand, AnswersCommands, BreaksCommands, AnswersLine, BreaksLine, Refuses};
+    ghost use Rattle.line_keeping.specs.Private.{IsReadyFor, IsServed, AnswersCommand, BreaksCommand, AnswersCommands, BreaksCommands, AnswersLine, BreaksLine, Refuses, refusal_room};
 
     // Serves a command, and gets its entry and the entry's text ready. If memory runs out, the market may be past what is kept.
     fn serve(&mut self, command: &Command) -> Result<(), Memory>
@@ -184,10 +184,10 @@ impl Desk {
 
     // Answers that the line that was counted last is no command.
     fn refuse<K: Sink>(&mut self, out: &mut K) -> Result<(), KeepFault>
-        requires room { 64 ≤ vec_capacity self.old.text }
+        requires room { refusal_room ≤ vec_capacity self.old.text }
         ensures refuses { Refuses self.old.lines result (output K.held K.calls K.faults out.old) (output K.held K.calls K.faults out.new) }
         ensures same { (self.new.writer ≡ self.old.writer) × (self.new.lines ≡ self.old.lines) × (self.new.entries ≡ self.old.entries) }
-        ensures room { 64 ≤ vec_capacity self.new.text }
+        ensures room { refusal_room ≤ vec_capacity self.new.text }
         ensures out_cause { Blames (result ≡ Err KeepFault.Write) (K.faults out.old) (K.faults out.new) }
     {
         self.text.clear();
@@ -201,10 +201,10 @@ impl Desk {
     // Answers a line that is too long.
     pub(crate) fn answer_long<K: Sink>(&mut self, out: &mut K) -> Result<(), KeepFault>
         requires few { self.old.lines + 1 < 2 ^ 64 }
-        requires room { 64 ≤ vec_capacity self.old.text }
+        requires room { refusal_room ≤ vec_capacity self.old.text }
         ensures refuses { Refuses (self.old.lines + 1) result (output K.held K.calls K.faults out.old) (output K.held K.calls K.faults out.new) }
         ensures same { (self.new.writer ≡ self.old.writer) × (self.new.lines ≡ self.old.lines + 1) × (self.new.entries ≡ self.old.entries) }
-        ensures room { 64 ≤ vec_capacity self.new.text }
+        ensures room { refusal_room ≤ vec_capacity self.new.text }
         ensures out_cause { Blames (result ≡ Err KeepFault.Write) (K.faults out.old) (K.faults out.new) }
     {
         self.lines += 1;
@@ -220,7 +220,7 @@ impl Desk {
     ) -> Result<(), KeepFault>
         requires short { length line.now ≤ most_line }
         requires few { self.old.lines + 1 < 2 ^ 64 }
-        requires room { 64 ≤ vec_capacity self.old.text }
+        requires room { refusal_room ≤ vec_capacity self.old.text }
         requires ready { IsReadyFor self.old.writer.session self.old.entries self.old.writer.appender (32 * length line.now) }
         requires kept { IfSome (D.state disk.old).content
             (λ _. (head : Head) × (pairs : List RecordPair) × Keeps head pairs self.old.writer.appender (D.state disk.old)) }
@@ -228,7 +228,7 @@ impl Desk {
             self.old.writer.appender self.new.writer.appender (D.state disk.old) (D.state disk.new)
             (output K.held K.calls K.faults out.old) (output K.held K.calls K.faults out.new)) }
         ensures counted { OnOk result (self.new.lines ≡ self.old.lines + 1) }
-        ensures room { 64 ≤ vec_capacity self.new.text }
+        ensures room { refusal_room ≤ vec_capacity self.new.text }
         ensures lengths { ReachesAtMost (self.old.writer.appender + (263183 * (32 * length line.now) + 1)) (D.state disk.old) (D.state disk.new) }
         ensures broken { IfErr result (BreaksLine (self.old.lines + 1) line.now self.old.writer.session self.old.entries self.old.writer.appender
             (D.state disk.old) (D.state disk.new) (output K.held K.calls K.faults out.old) (output K.held K.calls K.faults out.new)) }

@@ -17,7 +17,7 @@ ghost use Rattle.journal_keeping.specs.Beginning.{Asked};
 ghost use Rattle.input_lines.specs.Long.{most_line};
 ghost use Rattle.line_keeping.specs.Making.{HasShownStart, IsMadeAfterStart};
 ghost use Rattle.line_keeping.specs.Lengths.{GrowsAtMost};
-ghost use Rattle.line_keeping.specs.Private.{HasBegun, OpensSafely, IsReadyToServe, NotBegun, OpensInput, NotOpened};
+ghost use Rattle.line_keeping.specs.Private.{HasBegun, OpensSafely, IsReadyToServe, NotBegun, OpensInput, NotOpened, refusal_room};
 
 use crate::answering::Desk;
 use crate::input::has_checkpoint;
@@ -36,8 +36,8 @@ use wire_records::{MOST_RECORD, Version};
 // The highest version, which a journal has that begins without a checkpoint.
 const NEWEST: Version = Version::Four;
 
-// Memory for the text that a line is no command, which takes 40 bytes: "line ", at most 20 digits, and the rest.
-const MOST_TEXT: usize = 64;
+// Memory for the text that a line is no command: "line ", at most 20 digits, and the rest.
+const REFUSAL_ROOM: usize = 40;
 
 // A disk and an input that are opened.
 #[derive(Drop)]
@@ -59,7 +59,7 @@ struct Buffers {
 fn make_buffers(alloc: Global, limit: u64) -> Result<Buffers, KeepFault>
     ensures window { IfOk result (λ b. b.window ≡ empty_window (most_line + 1) limit) }
     ensures pair { IfOk result (λ b. longest_plain_pair ≤ vec_capacity b.pair) }
-    ensures text { IfOk result (λ b. 64 ≤ vec_capacity b.text) }
+    ensures text { IfOk result (λ b. refusal_room ≤ vec_capacity b.text) }
     ensures refused { IfErr result (λ fault. fault ≡ KeepFault.Memory) }
 {
     let window = match Window::new(alloc, MOST_LINE + 1, limit) {
@@ -74,7 +74,7 @@ fn make_buffers(alloc: Global, limit: u64) -> Result<Buffers, KeepFault>
         Ok(record) => record,
         Err(_) => return Err(KeepFault::Memory),
     };
-    let text = match Vec::with_capacity(alloc, MOST_TEXT) {
+    let text = match Vec::with_capacity(alloc, REFUSAL_ROOM) {
         Ok(text) => text,
         Err(_) => return Err(KeepFault::Memory),
     };

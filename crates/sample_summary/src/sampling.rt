@@ -12,7 +12,7 @@ use crate::counting::{Counts, counts_of};
 use crate::line::line_of;
 use batch_audit::{Audit, Legality};
 use exchange_session::Session;
-use file_units::{Front, TakesUnits, take_units};
+use file_units::{Prefix, TakesUnits, take_units};
 use journal_records::{PairFramed, PairView, next_pair};
 use sample_market::sample_commands;
 use std::alloc::Global;
@@ -115,18 +115,18 @@ impl TakesUnits<()> for Sampling {
 
     ghost is_ready = { λ s left. IsReady s left };
 
-    fn take(&mut self, bytes: &[u8], _out: &mut ()) -> Result<Front, Memory> {
+    fn take(&mut self, bytes: &[u8], _out: &mut ()) -> Result<Prefix, Memory> {
         // Called for its contract: the audit's market is consistent.
         let _consistent = self.audit.market();
         self.pair.clear();
         match self.session.serve_next(bytes, &mut self.pair)? {
-            Front::Taken(taken) => {
+            Prefix::Taken(taken) => {
                 take_pair(&mut self.audit, &self.pair, &mut self.counts)?;
-                Ok(Front::Taken(taken))
+                Ok(Prefix::Taken(taken))
             }
-            Front::NoBytes => Ok(Front::NoBytes),
-            Front::Overlong => Ok(Front::Overlong),
-            Front::Short => Ok(Front::Short),
+            Prefix::NoBytes => Ok(Prefix::NoBytes),
+            Prefix::Overlong => Ok(Prefix::Overlong),
+            Prefix::Short => Ok(Prefix::Short),
         }
     }
 }

@@ -3,8 +3,8 @@ use Rattle.std.proofs.Common.{◌≡◌, ◌≢◌, ℕ, List, [], Option, Some,
 use Rattle.flow_io.specs.Faults.{Blames}
 use Rattle.flow_io.specs.Streams.{Grows, GrowsByPrefix, HandsOver}
 use Rattle.flow_io.specs.Changes.{change}
-use Rattle.file_units.specs.declared.units.Front.{Front}
-use Rattle.file_units.specs.declared.units.Front.TheVariants.{Taken, NoBytes, Overlong, Short}
+use Rattle.file_units.specs.declared.units.Prefix.{Prefix}
+use Rattle.file_units.specs.declared.units.Prefix.TheVariants.{Taken, NoBytes, Overlong, Short}
 use Rattle.file_units.specs.Units.{IsTaken, BreaksOff}
 use Rattle.word_driver.specs.declared.fault.Fault.{Fault}
 use Rattle.word_driver.specs.declared.fault.Fault.TheVariants.{Write}
@@ -31,7 +31,7 @@ module _ {U S B O : Type 0} (w : Word U S B) (calls : O → Option (List (List �
   BreaksPut old unit fault before after = Breaks w held faults old unit fault before after × PutsLast w calls held old (Some unit) (fault ≡ Write) before after
 
   -- the unit was taken, and its text written
-  pub taken : (prefix : Front) (bytes : List ℕ) (old new : S) (text : List ℕ) (before after : O) → IsTakenBy w prefix bytes old new text → Grows (held before) (held after) text → (text ≡ [] → after ≡ before) → faults after ≡ faults before
+  pub taken : (prefix : Prefix) (bytes : List ℕ) (old new : S) (text : List ℕ) (before after : O) → IsTakenBy w prefix bytes old new text → Grows (held before) (held after) text → (text ≡ [] → after ≡ before) → faults after ≡ faults before
       → HandsOver calls held before after ⊥ (piece text) → IsTaken w.format Puts prefix bytes old new before after
   taken (Taken n) bytes old new text before after is written none quiet hands = record {
     unit = is.unit;
@@ -46,7 +46,7 @@ module _ {U S B O : Type 0} (w : Word U S B) (calls : O → Option (List (List �
   taken Short bytes old new text before after is written none quiet hands = (record { none = is.0.none; state = is.0.state; output = none is.0.output }, is.1, is.2)
 
   -- the write of the unit's text was cut
-  pub cut : (prefix : Front) (bytes : List ℕ) (old new : S) (text : List ℕ) (before after : O) → IsTakenBy w prefix bytes old new text → GrowsByPrefix (held before) (held after) text → text ≢ [] → Blames (Unit {0}) (faults before) (faults after)
+  pub cut : (prefix : Prefix) (bytes : List ℕ) (old new : S) (text : List ℕ) (before after : O) → IsTakenBy w prefix bytes old new text → GrowsByPrefix (held before) (held after) text → text ≢ [] → Blames (Unit {0}) (faults before) (faults after)
       → HandsOver calls held before after (◌≡◌ {A = Fault B} Write Write) (piece text) → BreaksOff w.format BreaksPut bytes old Write before after
   cut (Taken n) bytes old new text before after is prefix some cause hands = record {
     unit = is.unit;

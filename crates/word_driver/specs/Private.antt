@@ -6,7 +6,7 @@ use Rattle.flow_io.specs.Windows.{WindowState}
 use Rattle.flow_io.specs.Changes.{Change}
 use Rattle.wire_records.specs.Grammars.{BeginsWith, BeginsWithNone, encode_all}
 use Rattle.wire_records.specs.declared.version.Version.{Version}
-use Rattle.file_units.specs.declared.units.Front.{Front}
+use Rattle.file_units.specs.declared.units.Prefix.{Prefix}
 use Rattle.file_units.specs.Units.{IsTaken}
 use Rattle.file_units.specs.Inputs.{known}
 use Rattle.word_driver.specs.declared.fault.Fault.{Fault}
@@ -31,7 +31,7 @@ IsOpened w start bytes state IsReady text true = OpensAt w start bytes state IsR
 IsOpened w start bytes state IsReady text false = BeginsWithNone w.format.magics bytes
 
 -- the unit at the beginning of the bytes was taken, and the buffer holds its text
-abbrev pub IsTakenBy : {U S B : Type 0} → Word U S B → Front → List ℕ → S → S → List ℕ → Type 0
+abbrev pub IsTakenBy : {U S B : Type 0} → Word U S B → Prefix → List ℕ → S → S → List ℕ → Type 0
 IsTakenBy w prefix bytes old new text = IsTaken w.format (λ old unit new (before after : List ℕ). w.Steps old unit new after) prefix bytes old new [] text
 
 -- what the buffer holds if a subcommand stops early, at a unit or at the end: nothing is said of it if memory ran out

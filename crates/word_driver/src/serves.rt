@@ -6,7 +6,7 @@ ghost use Rattle.word_driver.specs.Word.{Word};
 ghost use Rattle.word_driver.specs.Private.{IsOpened, IsTakenBy, HaltsAt, IsClosed};
 
 use crate::fault::Halt;
-use file_units::Front;
+use file_units::Prefix;
 
 /// A subcommand at work: it has its state, and puts what is to be written into a buffer that the driver empties.
 pub trait ServesWord {
@@ -46,7 +46,7 @@ pub trait ServesWord {
         ensures opened { IsOpened word (start self.old) bytes.now (state self.new) (is_ready self.new) text.new.items result };
 
     /// Takes the unit at the beginning of the bytes, if it is complete, and puts its text into the buffer.
-    fn take(&mut self, bytes: &[u8], text: &mut Vec<u8>) -> Result<Front, Halt<Self::Stop>>
+    fn take(&mut self, bytes: &[u8], text: &mut Vec<u8>) -> Result<Prefix, Halt<Self::Stop>>
         requires ready { (left : ℕ) × (length bytes.now ≤ left) × is_ready self.old left }
         requires empty { text.old.items ≡ [] }
         requires none { vec_len text.old ≡ 0 }

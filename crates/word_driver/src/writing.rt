@@ -8,7 +8,7 @@ ghost use Rattle.word_driver.specs.Pieces.{piece};
 
 use crate::fault::{Fault, Halt};
 use crate::serves::ServesWord;
-use file_units::{Front, TakesUnits};
+use file_units::{Prefix, TakesUnits};
 use flow_io::{Sink, WriteFailed};
 
 // Writes the bytes by one call, or makes no call if there are none.
@@ -72,7 +72,7 @@ impl<K: Sink, W: ServesWord + Drop> TakesUnits<K> for Writing<W> {
 
     ghost is_ready = { λ w left. W.is_ready w.word left };
 
-    fn take(&mut self, bytes: &[u8], out: &mut K) -> Result<Front, Fault<W::Stop>> {
+    fn take(&mut self, bytes: &[u8], out: &mut K) -> Result<Prefix, Fault<W::Stop>> {
         self.text.clear();
         match self.word.take(bytes, &mut self.text) {
             Ok(prefix) => match put(out, &self.text) {
