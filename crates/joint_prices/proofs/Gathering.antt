@@ -13,7 +13,7 @@ use Rattle.weight_rows.specs.Rows.{weight_in, price_of, IsPrice}
 use Rattle.weight_rows.proofs.RowLawProofs.{weights_are_small}
 use Rattle.flow_orders.specs.Orders.{Order, IsOrder}
 use Rattle.joint_prices.specs.OrderStates.{OrderState, slope, aim}
-use Rattle.joint_prices.specs.Steps.{sum_with, pair_part, aim_part, entry, right, diagonal, pull, row_of, moves}
+use Rattle.joint_prices.specs.Steps.{sum_with, pair_part, aim_part, entry, right, diagonal, regularization, row_of, moves}
 use Rattle.joint_prices.specs.Numbers.{cut, whole}
 use Rattle.joint_prices.specs.Solving.{solved, IsTriangle}
 use Rattle.joint_prices.proofs.Filling.{map_range_same}
@@ -93,8 +93,8 @@ all_gathered os ss old before i grid sides past few all = record {
 
 -- ---- before any order
 
-sides_at : (start prices : List ℤ) (a : ℕ) → a < length prices → price_of (no_sides start prices) a ≡ pull start prices a
-sides_at start prices a inside = get_or-map-range_with_len (pull start prices) 0 (length prices) a a (pos 0) inside (omega arith)
+sides_at : (start prices : List ℤ) (a : ℕ) → a < length prices → price_of (no_sides start prices) a ≡ regularization start prices a
+sides_at start prices a inside = get_or-map-range_with_len (regularization start prices) 0 (length prices) a a (pos 0) inside (omega arith)
 
 begun : ℕ → ℕ → List ℤ
 begun n a = map (diagonal a) (range_with_len 0 n)
@@ -122,7 +122,7 @@ grid_small_at_first n a b ina inb =
     rw (grid_at n a b (omega (arith, ina, count)) (omega (arith, inb, count))) (diagonal_small a b)
 
 pub count_of_sides : (start prices : List ℤ) → length (no_sides start prices) ≡ length prices
-count_of_sides start prices = length-map-range_with_len (pull start prices) 0 (length prices)
+count_of_sides start prices = length-map-range_with_len (regularization start prices) 0 (length prices)
 
 pub sides_small_at_first : (start prices : List ℤ) → All IsPrice start → All IsPrice prices → length start ≡ length prices → AreSmall (2 ^ 34) (no_sides start prices)
 sides_small_at_first start prices first range same a inside =

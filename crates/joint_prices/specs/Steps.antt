@@ -37,8 +37,8 @@ abbrev pub diagonal : ℕ → ℕ → ℤ
 diagonal a b = if a == b then pos (2 ^ 20) else pos 0
 
 -- the regularization's part of the right side, which draws prices to the start prices: the regularization of the diagonal times the distance
-abbrev pub pull : List ℤ → List ℤ → ℕ → ℤ
-pull start prices a = int_div (price_of start a -ℤ price_of prices a) (pos (2 ^ 30))
+abbrev pub regularization : List ℤ → List ℤ → ℕ → ℤ
+regularization start prices a = int_div (price_of start a -ℤ price_of prices a) (pos (2 ^ 30))
 
 -- the matrix: how many units more of asset a the orders buy to first order for each grain that asset b falls, in 1/2^82 of a unit
 unfoldable pub entry : List Order → List OrderState → ℕ → ℕ → ℤ
@@ -46,7 +46,7 @@ entry os ss a b = diagonal a b +ℤ sum_with (pair_part a b) os ss
 
 -- the right side: how many units of an asset the orders buy in sum after a whole Newton step at these prices, in 1/2^32 of a unit
 unfoldable pub right : List ℤ → List ℤ → List Order → List OrderState → ℕ → ℤ
-right start prices os ss a = pull start prices a +ℤ sum_with (aim_part a) os ss
+right start prices os ss a = regularization start prices a +ℤ sum_with (aim_part a) os ss
 
 -- the row of an asset in the upper triangle; the right side is scaled by 2^50, to the unit of the matrix
 abbrev pub row_of : List ℤ → List ℤ → List Order → List OrderState → ℕ → List Num

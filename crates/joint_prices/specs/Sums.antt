@@ -8,7 +8,7 @@ use Rattle.flow_orders.specs.Residuals.{HasEach}
 use Rattle.joint_prices.specs.Numbers.{Num, cut}
 use Rattle.joint_prices.specs.Solving.{IsTriangle}
 use Rattle.joint_prices.specs.OrderStates.{OrderState}
-use Rattle.joint_prices.specs.Steps.{sum_with, pair_part, aim_part, diagonal, pull, entry, right}
+use Rattle.joint_prices.specs.Steps.{sum_with, pair_part, aim_part, diagonal, regularization, entry, right}
 
 -- each sum has grown by the asset's weight in a row times a factor
 abbrev pub IsRowAdded : List Entry → ℤ → List ℤ → List ℤ → Type 0
@@ -59,7 +59,7 @@ abbrev pub no_grid : ℕ → List (List ℤ)
 no_grid n = map (λ a. map (diagonal a) (range_with_len 0 n)) (range_with_len 0 n)
 
 abbrev pub no_sides : List ℤ → List ℤ → List ℤ
-no_sides start prices = map (pull start prices) (range_with_len 0 (length prices))
+no_sides start prices = map (regularization start prices) (range_with_len 0 (length prices))
 
 -- the row of the upper triangle that is made of the sums of an asset and its right side
 abbrev pub row_from : List ℤ → ℤ → ℕ → List Num

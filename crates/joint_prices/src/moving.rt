@@ -17,20 +17,20 @@ pub(crate) fn state_all(
     orders: &[Order],
     shares: &[u32],
     prices: &[i64],
-    places: &mut [OrderState],
+    states: &mut [OrderState],
 )
     requires tau { tau ≤ 2 ^ 60 }
     requires lines { lines.now ≡ map (λ o. line_in (terms_of o)) orders.now }
     requires shares { All IsShare shares.now }
     requires count { length shares.now ≡ length orders.now }
-    requires room { length places.old ≡ length orders.now }
+    requires room { length states.old ≡ length orders.now }
     requires priced { All (λ o. IsPricedBy o.row prices.now) orders.now }
     requires range { All IsPrice prices.now }
-    ensures { places.new ≡ order_states tau prices.now orders.now shares.now }
+    ensures { states.new ≡ order_states tau prices.now orders.now shares.now }
 {
     for i in 0..orders.len() {
         let order = &orders[i];
-        places[i] = state_of(tau, lines[i], order, shares[i], prices);
+        states[i] = state_of(tau, lines[i], order, shares[i], prices);
     }
 }
 
@@ -48,18 +48,18 @@ fn state_of(tau: u64, line: u128, order: &Order, share: u32, prices: &[i64]) -> 
 }
 
 // Each order's share after its Newton step, given by how much each price moves.
-pub(crate) fn share_all(orders: &[Order], places: &[OrderState], by: &[i64], shares: &mut [u32])
+pub(crate) fn share_all(orders: &[Order], states: &[OrderState], by: &[i64], shares: &mut [u32])
     requires count { length shares.old ≡ length orders.now }
-    requires room { length places.now ≡ length orders.now }
+    requires room { length states.now ≡ length orders.now }
     requires shares { All IsShare shares.old }
     requires priced { All (λ o. IsPricedBy o.row by.now) orders.now }
     requires range { All IsPrice by.now }
-    ensures value { shares.new ≡ shared by.now orders.now places.now }
+    ensures value { shares.new ≡ shared by.now orders.now states.now }
     ensures shares { All IsShare shares.new }
 {
     for i in 0..orders.len() {
         let order = &orders[i];
-        let share = share_of(order, places[i], by);
+        let share = share_of(order, states[i], by);
         shares[i] = share;
     }
 }

@@ -128,11 +128,11 @@ fn lack(tau: u64, v: i128, share: u32) -> i128
     ensures value { result ≡ lack tau v share }
     ensures small { unsigned_abs result ≤ 2 ^ 93 }
 {
-    pull(tau, u64::from(share)) - pull(tau, ONE - u64::from(share)) - v
+    barrier_force(tau, u64::from(share)) - barrier_force(tau, ONE - u64::from(share)) - v
 }
 
 // The barrier's force from one bound, at the share's distance from it.
-fn pull(tau: u64, share: u64) -> i128
+fn barrier_force(tau: u64, share: u64) -> i128
     requires tau { tau ≤ 2 ^ 60 }
     requires share { 1 ≤ share }
     ensures value { result ≡ pos (tau * one / share) }

@@ -41,7 +41,7 @@ fn step(
     lines: &[u128],
     orders: &[Order],
     start: &[i64],
-    places: &mut [OrderState],
+    states: &mut [OrderState],
     system: &mut System,
     shares: &mut [u32],
     prices: &mut [i64],
@@ -51,7 +51,7 @@ fn step(
     requires few { length orders.now ≤ most_orders }
     requires shares { All IsShare shares.old }
     requires count { length shares.old ≡ length orders.now }
-    requires room { length places.old ≡ length orders.now }
+    requires room { length states.old ≡ length orders.now }
     requires system { length system.old ≡ length prices.old }
     requires priced { All (λ o. IsPricedBy o.row prices.old) orders.now }
     requires range { All IsPrice prices.old }
@@ -63,9 +63,9 @@ fn step(
     ensures range { All IsPrice prices.new }
     ensures each { All IsShare shares.new }
 {
-    state_all(tau, lines, orders, shares, prices, places);
-    system.solve(orders, places, start, prices);
-    share_all(orders, places, system.by(), shares);
+    state_all(tau, lines, orders, shares, prices, states);
+    system.solve(orders, states, start, prices);
+    share_all(orders, states, system.by(), shares);
     move_all(system.by(), prices);
 }
 
@@ -99,7 +99,7 @@ pub fn joint_prices<T: Settles>(
 {
     let lines = lines_of(alloc, orders)?;
     let mut shares = half_of(alloc, orders)?;
-    let mut places = vec![in alloc; OrderState::none(); orders.len()]?;
+    let mut states = vec![in alloc; OrderState::none(); orders.len()]?;
     let mut system = System::new(alloc, start.len())?;
     let mut prices = Vec::from_slice(alloc, start)?;
     search(
@@ -107,7 +107,7 @@ pub fn joint_prices<T: Settles>(
         start,
         &lines,
         test,
-        &mut places,
+        &mut states,
         &mut system,
         &mut shares,
         &mut prices,
@@ -121,7 +121,7 @@ fn search<T: Settles>(
     start: &[i64],
     lines: &[u128],
     test: &mut T,
-    places: &mut [OrderState],
+    states: &mut [OrderState],
     system: &mut System,
     shares: &mut [u32],
     prices: &mut [i64],
@@ -129,7 +129,7 @@ fn search<T: Settles>(
     requires lines { lines.now ≡ map (λ o. line_in (terms_of o)) orders.now }
     requires few { length orders.now ≤ most_orders }
     requires shares { shares.old ≡ map (λ o. 2 ^ 31) orders.now }
-    requires room { length places.old ≡ length orders.now }
+    requires room { length states.old ≡ length orders.now }
     requires system { length system.old ≡ length start.now }
     requires prices { prices.old ≡ start.now }
     requires priced { All (λ o. IsPricedBy o.row start.now) orders.now }
@@ -147,7 +147,7 @@ fn search<T: Settles>(
         if test.are_settled(prices) {
             return;
         }
-        step(tau, lines, orders, start, places, system, shares, prices);
+        step(tau, lines, orders, start, states, system, shares, prices);
         tau /= 3;
     }
 }

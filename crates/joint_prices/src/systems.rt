@@ -4,7 +4,7 @@ ghost use Rattle.std.specs.List.{range_with_len};
 ghost use Rattle.weight_rows.specs.Rows.{IsPrice, IsPricedBy, price_of};
 ghost use Rattle.flow_orders.specs.Orders.{IsOrder, most_orders};
 ghost use Rattle.joint_prices.specs.OrderStates.{slope, aim};
-ghost use Rattle.joint_prices.specs.Steps.{diagonal, pull, moves};
+ghost use Rattle.joint_prices.specs.Steps.{diagonal, regularization, moves};
 ghost use Rattle.joint_prices.specs.Solving.{IsTriangle};
 ghost use Rattle.joint_prices.specs.Sums.{IsRowAdded, IsSquareAdded, IsSquare, AreSmall, AreSquareSmall, AreGathered, IsSystem, HasRoom, no_grid, no_sides};
 
@@ -205,25 +205,25 @@ fn reset_sides(start: &[i64], prices: &[i64], right: &mut [i128])
     ensures { right.new ≡ no_sides start.now prices.now }
 {
     for a in 0..right.len() {
-        let pull = pull_at(start, prices, a);
-        right[a] = pull;
+        let regularization = regularization_at(start, prices, a);
+        right[a] = regularization;
     }
 }
 
 // The regularization's part of an asset's right side.
-fn pull_at(start: &[i64], prices: &[i64], a: usize) -> i128
+fn regularization_at(start: &[i64], prices: &[i64], a: usize) -> i128
     requires a { a < length prices.now }
     requires range { All IsPrice prices.now }
     requires start { All IsPrice start.now }
     requires assets { length start.now ≡ length prices.now }
-    ensures { result ≡ pull start.now prices.now a }
+    ensures { result ≡ regularization start.now prices.now a }
 {
-    pull(start[a], prices[a])
+    regularization(start[a], prices[a])
 }
 
 // The regularization's part of a right side, which draws the price to its start price: the regularization of the diagonal
 // times the distance, in 1/2^32 of a unit.
-fn pull(start: i64, price: i64) -> i128
+fn regularization(start: i64, price: i64) -> i128
     requires start { IsPrice start }
     requires price { IsPrice price }
     ensures { result ≡ int_div (start -ℤ price) (pos (2 ^ 30)) }

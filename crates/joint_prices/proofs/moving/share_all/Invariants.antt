@@ -6,4 +6,4 @@ use Rattle.joint_prices.proofs.moving.share_all.Given as goal
 
 abbrev pub invariant-loop-i : goal.invariant-loop-i
 invariant-loop-i l =
-    (shared l.by l.orders l.places ≡ take l.i l.shares ++ shared l.by (drop l.i l.orders) (drop l.i l.places)) × (length l.shares ≡ length l.orders) × All IsShare l.shares
+    (shared l.by l.orders l.states ≡ take l.i l.shares ++ shared l.by (drop l.i l.orders) (drop l.i l.states)) × (length l.shares ≡ length l.orders) × All IsShare l.shares

@@ -4,4 +4,4 @@ use Rattle.joint_prices.proofs.moving.state_all.Given as goal
 
 abbrev pub invariant-loop-i : goal.invariant-loop-i
 invariant-loop-i l =
-    (order_states l.tau l.prices l.orders l.shares ≡ take l.i l.places ++ order_states l.tau l.prices (drop l.i l.orders) (drop l.i l.shares)) × (length l.places ≡ length l.orders)
+    (order_states l.tau l.prices l.orders l.shares ≡ take l.i l.states ++ order_states l.tau l.prices (drop l.i l.orders) (drop l.i l.shares)) × (length l.states ≡ length l.orders)

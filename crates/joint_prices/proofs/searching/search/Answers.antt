@@ -15,7 +15,7 @@ loop-step-preserved g c =
     let inv = c.loop-step.invariant in (
       one_searched _ _ _ c.loop-step._step c.loop-step.tau c.loop-step.prices _ c.loop-step.shares _ c.loop-step-test.true (sym (inv.3 c.loop-step.prices) ∙ sym c.are_settled.ensures.answer ∙ c.if-are_settled.false) inv.0
           c.step.ensures.prices c.step.ensures.shares c.step.auto.prices c.step.auto.shares c.step.ensures.range c.step.ensures.each,
-      c.step.auto.places ∙ inv.1,
+      c.step.auto.states ∙ inv.1,
       c.step.ensures.system ∙ inv.2,
       λ p. c.are_settled.ensures.same p ∙ inv.3 p,
       c.are_settled.ensures.assets ∙ inv.4,
