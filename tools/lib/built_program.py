@@ -59,13 +59,6 @@ def valid_history(place):
     return history
 
 
-def legal_journal(place):
-    """The bytes of a journal that `flow audit` finds valid."""
-    journal = bytes_of(place)
-    output_of("audit", journal)
-    return journal
-
-
 def compiled(source, folder, *options):
     """What a C compiler makes of a source in tools/lib, or nothing if there is none that makes it."""
     made = f"{folder}/{os.path.splitext(source)[0]}"

@@ -204,6 +204,7 @@ def day_from(kept, pairs=b""):
     day.deposited, day.exchange = dict(zip(keys, kept.totals)), dict(zip(keys, kept.exchange))
     day.next_order, day.held = kept.next_number, kept.batches
     day.orders = {order.number: placed(order) for order in kept.orders}
+    day.open()
     day.go_on(pairs)
     return day
 

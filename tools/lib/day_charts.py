@@ -2,6 +2,7 @@
 colour: demand is a solid line, supply a broken one, a clearing price a dotted one. Colours come from the page's style, by
 the classes `demand`, `supply`, `price`, `axis`, `grid` and `bar`."""
 import math
+from collections import namedtuple
 from html import escape
 
 from formats import TICK
@@ -10,6 +11,9 @@ WIDTH, HEIGHT = 340, 230
 LEFT, RIGHT, TOP, BOTTOM = 62, 12, 26, 38
 VOLUME_TOP = 150
 LEGEND_WIDTH = 460
+# A chart of more batches than these draws several as one: their lowest and highest prices, and the largest volume. A digit is about so wide.
+MOST_DRAWN, MOST_DOTS, DIGIT = 200, 100, 6.5
+Group = namedtuple("Group", "name middle prices volume has_skip")
 LONG = 10_000_000
 STYLE = """
 .chart text { font: 11px system-ui, sans-serif; fill: var(--ink); }
@@ -106,35 +110,56 @@ def widened(numbers, share):
     return low - room, high + room
 
 
+def batches_axis(across, batches):
+    """The line at the bottom, with the numbers of some batches, of which none reaches into the next or out of the drawing."""
+    parts = [line("axis", LEFT, HEIGHT - BOTTOM, WIDTH - RIGHT, HEIGHT - BOTTOM)]
+    room = DIGIT * len(str(batches[-1].number)) if batches else 0
+    every = max(1, math.ceil(len(batches) / 10), math.ceil(len(batches) * (room + 8) / (WIDTH - LEFT - RIGHT)))
+    for batch in batches[::every]:
+        parts += [text(min(across(batch.number), WIDTH - room / 2), HEIGHT - 22, str(batch.number), "middle")]
+    has_skips = not all(batch.cleared() for batch in batches)
+    return [*parts, text((LEFT + WIDTH - RIGHT) / 2, HEIGHT - 6, "batch" + ", x: skipped" * has_skips, "middle")]
+
+
+def groups_of(batches, asset):
+    """The batches in groups of so few that a chart can draw each group, and of each what it draws."""
+    together = max(1, math.ceil(len(batches) / MOST_DRAWN))
+    for first in range(0, len(batches), together):
+        group = batches[first:first + together]
+        held = [batch for batch in group if batch.cleared() and asset < len(batch.prices)]
+        prices = [batch.prices[asset] for batch in held]
+        name = f"batch {group[0].number}" if len(group) == 1 else f"batches {group[0].number} to {group[-1].number}"
+        middle, volume = (group[0].number + group[-1].number) / 2, max((batch.volume(asset) for batch in held), default=0)
+        ends = sorted({min(prices), max(prices)}) if prices else []
+        yield Group(name, middle, ends, volume, not all(batch.cleared() for batch in group))
+
+
 def prices_chart(batches, asset, ticker):
-    """The price of each batch in ticks, and below it the volume in units. A batch that was skipped has a cross."""
-    cleared = [batch for batch in batches if batch.cleared() and asset < len(batch.prices)]
-    prices = [batch.prices[asset] / TICK for batch in cleared]
-    volumes = [batch.volume(asset) for batch in cleared]
-    across = Scale(0.5, max(len(batches), 1) + 0.5, LEFT, WIDTH - RIGHT)
+    """The price of each batch in ticks, and below it the volume in units. A batch that was skipped has a cross. The batches follow one
+    another, from any number on."""
+    groups = [*groups_of(batches, asset)]
+    cleared, first = [group for group in groups if group.prices], batches[0].number if batches else 1
+    across = Scale(first - 0.5, first + max(len(batches), 1) - 0.5, LEFT, WIDTH - RIGHT)
+    prices, most = [price / TICK for group in groups for price in group.prices], max((group.volume for group in groups), default=0) or 1
     up = Scale(*widened(prices, 0.15), VOLUME_TOP - 14, TOP + 8) if prices else None
-    most = max(volumes, default=0) or 1
     tall = Scale(0, most, HEIGHT - BOTTOM, VOLUME_TOP)
     parts = [text(LEFT, 16, ticker, kind="name"), text(WIDTH - RIGHT, 16, "price in ticks, volume in units", "end")]
     parts += side_axis(up, 4) if prices else []
-    width = min(24, (WIDTH - LEFT - RIGHT) / max(len(batches), 1) * 0.6)
-    for batch, volume in zip(cleared, volumes):
-        said = f"batch {batch.number}: {volume} units"
-        parts += [bar("bar", across(batch.number) - width / 2, tall(volume), width, HEIGHT - BOTTOM - tall(volume), said)]
+    width = min(24, (WIDTH - LEFT - RIGHT) / max(len(groups), 1) * 0.6)
+    for group in cleared:
+        said = f"{group.name}: {'at most ' * (len(groups) < len(batches))}{group.volume} units"
+        parts += [bar("bar", across(group.middle) - width / 2, tall(group.volume), width, HEIGHT - BOTTOM - tall(group.volume), said)]
     parts += [text(LEFT - 5, VOLUME_TOP + 6, short(most), "end"), text(LEFT - 5, HEIGHT - BOTTOM + 4, "0", "end")]
-    parts += [path("line", [(across(batch.number), up(price)) for batch, price in zip(cleared, prices)])] if prices else []
-    for batch, price in zip(cleared, prices):
-        said = f"batch {batch.number}: {batch.prices[asset]} grains, about {in_ticks(batch.prices[asset])} ticks"
-        parts += [dot("bought", across(batch.number), up(price), said, 3 if len(batches) > 40 else 4)]
-    for batch in batches:
-        if not batch.cleared():
-            x, y, arm = across(batch.number), HEIGHT - BOTTOM - 6, min(4, width / 2)
+    points = [(across(group.middle), up(price / TICK), group, price) for group in cleared for price in group.prices]
+    parts += [path("line", [(x, y) for x, y, _, _ in points])] if points else []
+    for x, y, group, price in points if len(groups) <= MOST_DOTS else ():
+        said = f"{group.name}: {price} grains, about {in_ticks(price)} ticks"
+        parts += [dot("bought", x, y, said, 4 if len(groups) <= 40 else 3)]
+    for group in groups:
+        if group.has_skip:
+            x, y, arm = across(group.middle), HEIGHT - BOTTOM - 6, min(4, width / 2)
             parts += [line("skip", x - arm, y - arm, x + arm, y + arm), line("skip", x - arm, y + arm, x + arm, y - arm)]
-    parts += [line("axis", LEFT, HEIGHT - BOTTOM, WIDTH - RIGHT, HEIGHT - BOTTOM)]
-    every = max(1, math.ceil(len(batches) / 10))
-    parts += [text(across(batch.number), HEIGHT - 22, str(batch.number), "middle") for batch in batches[::every]]
-    has_skips = not all(batch.cleared() for batch in batches)
-    parts += [text((LEFT + WIDTH - RIGHT) / 2, HEIGHT - 6, "batch" + ", x: skipped" * has_skips, "middle")]
+    parts += batches_axis(across, batches)
     return drawing(parts, f"{ticker}: price and volume of {len(batches)} batches")
 
 
@@ -151,7 +176,8 @@ def curve(sides, low, high):
     """Demand or supply between two prices, as points. A side is a line's bends, its weight and its most."""
     changes, amount, slope = [], 0.0, 0.0
     for full, empty, _, most in sides:
-        first, last = min(full, empty), max(full, empty)
+        first = min(full, empty)
+        last = max(full, empty, math.nextafter(first, math.inf))  # (a short line, far from 0, may have rounded ends that are equal)
         start, end = (most, 0) if full <= empty else (0, most)
         if last <= low:
             amount += end

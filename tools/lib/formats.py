@@ -16,6 +16,11 @@ MOST_ENTRIES, MOST_WEIGHT = 16, 1 << 12
 # The tags of replies.
 DONE, ASSET, ACCOUNT, ORDER, REFUSED, CLEARED, SKIPPED = range(128, 135)
 
+# The names of refusals, by their codes.
+REFUSALS = dict(enumerate("UnknownTag BadBody AssetLimit TickerTaken BadTicker AccountLimit NoAccount NoAsset ZeroAmount TotalLimit NotFree "
+                          "BadLimits BadRate BadCap BadRow OrderLimit NoOrder BadBudget BatchLimit".split(), 1))
+REFUSALS.update({22: "BadLast", 23: "CreditInUse", 24: "CreditLimit"})
+
 # The form of each command's body by its tag, but of orders, whose legs follow their terms.
 MONEY, UNITS, TERMS, ENTRY = ">IQ", ">IHQ", ">IqqIQB", ">Hi"
 FORMS = {1: ">8s", 2: ">", 3: MONEY, 4: UNITS, 5: MONEY, 6: UNITS, 8: MONEY, 9: ">I", 11: MONEY, 12: UNITS}

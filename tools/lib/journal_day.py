@@ -2,6 +2,8 @@
 fills, balances, the exchange's own account, and the result of each batch. It doesn't ask whether the journal is valid."""
 import struct
 from collections import Counter, namedtuple
+from copy import copy, deepcopy
+from decimal import Decimal
 
 from formats import ACCOUNT, ASSET, CLEARED, DONE, FORMS, MONEY, MONEY_KEY, ORDER, REFUSED, SKIPPED, TICK, name_of, records, signed, terms_of
 from report_text import told
@@ -24,6 +26,8 @@ REPLIES = {DONE: "Done", ASSET: "Asset", ACCOUNT: "Account", ORDER: "Order", REF
 REPLIES.update({CLEARED: "Cleared", SKIPPED: "Skipped"})
 LIVE, FILLED, CANCELLED, ENDED = "live", "filled", "cancelled", "left after its last batch"
 
+# What is carried forward to a day: how many batches were held, the balances of accounts and of the exchange, and the live orders.
+Opening = namedtuple("Opening", "held accounts exchange orders")
 # An entry: its number from 1, the tags and bodies of its records, and its text as a report has it, without the number.
 Pair = namedtuple("Pair", "number tag body reply answer text")
 # What an order had in a batch: its batch maximum, and its rate.
@@ -57,6 +61,8 @@ class Batch:
         self.prices, self.residuals, self.gap = None, None, None
         self.start_dual, self.end_dual, self.trace = None, None, None
         self.bought, self.sold = Counter(), Counter()
+        # What the batch brought the exchange, and what that holds after it, as balances are.
+        self.left, self.exchange = {}, {}
         for order, _, rate in trades:
             for asset, weight in order.row:
                 (self.bought if weight > 0 else self.sold)[asset] += abs(weight) * rate
@@ -82,7 +88,12 @@ class Day:
         self.tickers, self.accounts, self.credits, self.exchange = [], {}, {}, {}
         self.orders, self.batches, self.pairs, self.deposited = {}, [], [], {}
         self.prices, self.next_order, self.held = [], 1, 0
+        self.opening = None
         self.go_on(journal[8:])
+
+    def open(self):
+        """Notes what is carried forward from a checkpoint, before the first entry."""
+        self.opening = Opening(self.held, deepcopy(self.accounts), dict(self.exchange), [copy(order) for order in self.orders.values()])
 
     def go_on(self, pairs):
         """Takes more entries, which a valid journal may have after those before."""
@@ -132,6 +143,7 @@ class Day:
             batch = Batch(pair, int.from_bytes(answer[:4], "big"), [Trade(order, order.room(), 0) for order in live])
             batch.start_dual, batch.end_dual = signed(answer, 4, 16, 2)
             batch.trace = answer[40:40 + moves]
+        batch.exchange = dict(self.exchange)
         self.batches.append(batch)
         self.held = batch.number
         for order in live:
@@ -150,16 +162,25 @@ class Day:
         batch.gap, = signed(answer, behind + 8 * count, 16, 1)
         self.prices = list(batch.prices)
         for order, rate in zip(live, rates):
-            self.settle(order, rate, batch.prices)
+            self.settle(order, rate, batch)
+        for key, amount in batch.left.items():
+            add(self.exchange, key, amount)
         return batch
 
-    def settle(self, order, rate, prices):
-        """The account pays and gets what results from the rate, and the exchange has the other side of it."""
+    def settle(self, order, rate, batch):
+        """The account pays and gets what results from the rate, and the batch leaves the other side of it with the exchange."""
         order.filled += rate
-        for key, amount in [(MONEY_KEY, -order.cost(prices) * rate), *((asset, weight * rate) for asset, weight in order.row)]:
+        paid = order.cost(batch.prices) * rate
+        for key, amount in [(MONEY_KEY, -paid), *((asset, weight * rate) for asset, weight in order.row)]:
             add(self.accounts[order.account], key, amount)
-            add(self.exchange, key, -amount)
+            add(batch.left, key, -amount)
 
     def names(self):
         """Money and each asset, by their keys."""
         return [(MONEY_KEY, "money"), *enumerate(self.tickers)]
+
+    def exchange_line(self):
+        """What the exchange holds after the last entry: money in grains, and in ticks to four places, and units of each asset."""
+        money = self.exchange.get(MONEY_KEY, 0)
+        units = "".join(f", {ticker} {self.exchange.get(asset, 0)}" for asset, ticker in enumerate(self.tickers))
+        return f"exchange: money {money} grains (about {round(Decimal(money) / TICK, 4) + 0:.4f} ticks){units}"
