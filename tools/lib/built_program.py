@@ -22,12 +22,9 @@ def program():
 
 
 def bytes_of(place):
-    """What a file holds. If it can't be read, the tool ends, and says why."""
-    try:
-        with open(place, "rb") as file:
-            return file.read()
-    except OSError as fault:
-        sys.exit(f"{os.path.basename(sys.argv[0])}: {fault}")
+    """What a file holds."""
+    with open(place, "rb") as file:
+        return file.read()
 
 
 def output_of(word, given):

@@ -2,6 +2,9 @@
 import html.parser
 from collections import namedtuple
 
+# The classes of what stands within the axes of a drawing.
+INNER = {"bar", "line", "demand", "supply", "price", "bought", "sold", "skip"}
+
 # A part of a drawing: its element, class and attributes, and the text in it, that of its title too.
 Part = namedtuple("Part", "tag kind at text")
 
@@ -59,11 +62,11 @@ class Chart:
         return [part for part in self.parts if part.kind == kind and tag in (None, part.tag)]
 
     def outside(self):
-        """The parts that reach out of the drawing, or of lines of prices, bars and dots those that reach out of its axis."""
+        """The parts that reach out of the drawing, and those within its axes that reach to the left, the right or the bottom of these."""
         axis = max(self.all("axis"), key=lambda part: part.at["x2"] - part.at["x1"], default=None)
         frame = (0, self.width, 0, self.height)
         inner = (axis.at["x1"], axis.at["x2"], 0, axis.at["y1"]) if axis else frame
-        return [part for part in self.parts if not is_within(part, inner if part.kind in ("bar", "line", "demand", "supply", "price") else frame)]
+        return [part for part in self.parts if not is_within(part, inner if part.kind in INNER else frame)]
 
 
 def corners(part):
