@@ -2,7 +2,7 @@
 import html.parser
 from collections import namedtuple
 
-# The classes of what stands within the axes of a drawing.
+# The classes of what is drawn within the axes of a drawing.
 INNER = {"bar", "line", "demand", "supply", "price", "bought", "sold", "skip"}
 
 # A part of a drawing: its element, class and attributes, and the text in it, that of its title too.
