@@ -66,6 +66,21 @@ ssize_t pwrite(int to, const void *bytes, size_t size, off_t place)
     return fails() ? -1 : real(to, bytes, size, place);
 }
 
+int open(const char *path, int flags, ...)
+{
+    static int (*real)(const char *, int, ...);
+    mode_t mode = 0;
+    if (!real)
+        real = (int (*)(const char *, int, ...))next("open");
+    if (flags & O_CREAT) {
+        va_list more;
+        va_start(more, flags);
+        mode = va_arg(more, mode_t);
+        va_end(more);
+    }
+    return fails() ? -1 : real(path, flags, mode);
+}
+
 int ftruncate(int of, off_t length)
 {
     static int (*real)(int, off_t);
