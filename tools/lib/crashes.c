@@ -9,6 +9,7 @@
 #include <stdarg.h>
 #include <stdint.h>
 #include <stdlib.h>
+#include <string.h>
 #include <sys/file.h>
 #include <sys/stat.h>
 #include <sys/types.h>
@@ -64,6 +65,22 @@ ssize_t pwrite(int to, const void *bytes, size_t size, off_t place)
         real = (ssize_t (*)(int, const void *, size_t, off_t))next("pwrite");
     note('w', (uint64_t)place, size, bytes);
     return fails() ? -1 : real(to, bytes, size, place);
+}
+
+int open(const char *path, int flags, ...)
+{
+    static int (*real)(const char *, int, ...);
+    mode_t mode = 0;
+    if (!real)
+        real = (int (*)(const char *, int, ...))next("open");
+    if (flags & O_CREAT) {
+        va_list more;
+        va_start(more, flags);
+        mode = va_arg(more, mode_t);
+        va_end(more);
+    }
+    /* (at its start the program opens the root, where a failure changes nothing) */
+    return strcmp(path, "/") && fails() ? -1 : real(path, flags, mode);
 }
 
 int ftruncate(int of, off_t length)

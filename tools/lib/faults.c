@@ -1,14 +1,15 @@
 /* Makes a call of the program fail into which this is loaded: of the kind that FAULT_KIND names, the one of the number FAULT_AT,
    counted from 1, and all after it if FAULT_EVER is set. A read gives at most FAULT_PIECE bytes. At the end it writes, on the
-   descriptor FAULT_TELL, how many calls of the kind there were. tools/check/check_faults compiles it and says what the kinds are. */
+   descriptor FAULT_TELL, how many calls of the kind there were, and how many bytes of the input were read. tools/check/check_faults compiles it and says what the kinds are. */
 #define _GNU_SOURCE
 #include <dlfcn.h>
 #include <errno.h>
 #include <stdlib.h>
+#include <sys/types.h>
 #include <unistd.h>
 
 static char kind;
-static long calls, at, ever, most;
+static long calls, at, ever, most, taken;
 static int tell = -1;
 
 static void *next(const char *name) { return dlsym(RTLD_NEXT, name); }
@@ -48,7 +49,17 @@ ssize_t read(int from, void *into, size_t size)
         real = (ssize_t (*)(int, void *, size_t))next("read");
     if (from == 0 && fails('r', EIO))
         return -1;
-    return real(from, into, from == 0 && most && size > (size_t)most ? (size_t)most : size);
+    ssize_t count = real(from, into, from == 0 && most && size > (size_t)most ? (size_t)most : size);
+    taken += from == 0 && count > 0 ? count : 0;
+    return count;
+}
+
+ssize_t pread(int from, void *into, size_t size, off_t place)
+{
+    static ssize_t (*real)(int, void *, size_t, off_t);
+    if (!real)
+        real = (ssize_t (*)(int, void *, size_t, off_t))next("pread");
+    return fails('d', EIO) ? -1 : real(from, into, size, place);
 }
 
 ssize_t write(int to, const void *bytes, size_t size)
@@ -80,6 +91,7 @@ __attribute__((constructor)) static void begin(void)
 __attribute__((destructor)) static void end(void)
 {
     ssize_t (*real)(int, const void *, size_t) = (ssize_t (*)(int, const void *, size_t))next("write");
-    if (tell > 2 && real(tell, &calls, sizeof calls) < 0)
+    long told[] = {calls, taken};
+    if (tell > 2 && real(tell, told, sizeof told) < 0)
         _exit(99);
 }
