@@ -4,6 +4,7 @@ pub mod ColumnLaws
 pub mod Listing
 pub mod Requoting
 pub mod Kept
+mod Halving
 pub mod StepFacts
 pub mod Moves
 pub mod Settled

@@ -4,13 +4,13 @@ use Rattle.std.specs.Prelude.{unsigned_abs, All, int_lt, if◌then◌else◌}
 use Rattle.std.specs.Ordering.{int_eq}
 use Rattle.std.proofs.Math.Nat.{mul-le-mul_left}
 use Rattle.std.proofs.lemmas.Int.{ints}
-use Rattle.std.proofs.lemmas.Bool.{cases_Bool}
+use Rattle.std.proofs.lemmas.Bool.{cases_Bool, cases_lt}
 use Rattle.std.proofs.lemmas.Bool.Decides.{Decides-int_eq}
 use Rattle.std.proofs.lemmas.List.{length-map, length-take, drop_more, get_or_at, get_or_default, take_more_set, drop-set-lt}
 use Rattle.std.proofs.lemmas.List.Elements.{All-push, All-set}
 use Rattle.list_sums.specs.Sums.{int_sum_by}
 use Rattle.list_sums.proofs.Products.{*ℤ-add, unsigned_abs-add}
-use Rattle.list_sums.proofs.SumLemmas.{int_sum_by_more, int_sum_by-push, int_sum_by-map_same}
+use Rattle.list_sums.proofs.SumLemmas.{int_sum_by_more, int_sum_by-push, int_sum_by-map_same, int_sum_by-le}
 use Rattle.weight_rows.specs.Rows.{most_weight}
 use Rattle.demand_curve.specs.Demand.{Terms, IsWithinLimits, span, floor_rate, ceil_rate, floor_in, ceil_in}
 use Rattle.demand_curve.specs.Curve.{terms}
@@ -19,13 +19,15 @@ use Rattle.demand_curve.proofs.Parts.{parts_enclose_demand}
 use Rattle.flow_orders.specs.Excess.{low_part_in}
 use Rattle.flow_orders.proofs.BookLaws.{low_part-falls}
 use Rattle.excess_bounds.specs.declared.columns.Cell.{Cell}
+use Rattle.excess_bounds.specs.declared.directions.Direction.{Direction}
+use Rattle.excess_bounds.specs.declared.directions.Direction.TheVariants.{Rise, Fall}
 use Rattle.excess_bounds.specs.declared.narrowing.Bracket.{Bracket}
 use Rattle.excess_bounds.specs.declared.steps.Step.{Step}
 use Rattle.excess_bounds.specs.Parts.{part_by_sign}
-use Rattle.excess_bounds.specs.Brackets.{IsBracket}
+use Rattle.excess_bounds.specs.Ends.{IsEnd}
 use Rattle.excess_bounds.specs.Quotes.{Quote}
 use Rattle.excess_bounds.specs.Private.{quote_in, no_quote, low_after}
-use Rattle.excess_bounds.specs.Steps.{part_after, looked, closed, still_open, settled_sum, CanLook, IsSmall, IsStep, IsNarrowed, turned, asked_after, CanMove}
+use Rattle.excess_bounds.specs.Steps.{part_after, looked, closed, still_open, settled_sum, CanLook, IsSmall, IsStep, IsNarrowed, IsBracket, turned, asked_after, CanMove}
 
 -- ---- one step
 
@@ -230,6 +232,12 @@ module _ (asked : ℕ → ℤ) where
         room = omega (arith, before.room, count, open_room from to next each, unsigned_abs-add rest (settled_sum next));
       }
 
+  -- between both ends, no more is asked for after a greater amount
+  asked_falls : (steps : List Step) (rest : ℤ) (most low high m n : ℕ) → IsNarrowed asked steps rest most low high → low ≤ m → m ≤ n → n ≤ high → asked n ≤ℤ asked m
+  asked_falls steps rest most low high m n narrowed from later to =
+      let sums = int_sum_by-le (part_after n) (part_after m) steps (λ k d inside. falls_to (get_or steps k d) m n later) in
+      omega (arith, ints, sums, narrowed.sum m from (omega (arith, later, to)), narrowed.sum n (omega (arith, from, later)) to)
+
   -- an amount is looked at, and becomes an end of the bracket
   pub one_turn : (bound : ℤ) (reach most : ℕ) (steps next : List Step) (rest sum after : ℤ) (low high mid : ℕ) (is_low : Bool) (b : Bracket)
       → IsNarrowed asked steps rest most low high → IsBracket asked bound reach low high → low < mid → mid < high
@@ -241,13 +249,22 @@ module _ (asked : ℕ → ℤ) where
       let total : asked mid ≡ rest +ℤ sum = rw sum_is (narrowed.sum mid (omega (arith, above)) (omega (arith, below))) in
       rw (b_is, next_is, after_is) (
         closing steps rest most low high mid true mid high narrowed (omega (arith, above)) (omega arith) (λ s h. closed_low low high mid s (omega (arith, above)) (omega (arith, below)) h),
-        record { some = below; most = bracket.most; goes_on = inr (omega (arith, ints, total, tells)); ends = bracket.ends },
+        record {
+          some = below;
+          most = bracket.most;
+          goes_on = λ d one inside.
+              ⊎_elim
+              (λ before. bracket.goes_on d one (omega (arith, before)))
+              (λ past. omega (arith, ints, asked_falls steps rest most low high d mid narrowed (omega (arith, past)) inside (omega (arith, below)), total, tells))
+              (cases_lt d (low + 1));
+          ends = bracket.ends;
+        },
       )
   one_turn bound reach most steps next rest sum after low high mid false b narrowed bracket above below sum_is tells next_is after_is b_is =
       let total : asked mid ≡ rest +ℤ sum = rw sum_is (narrowed.sum mid (omega (arith, above)) (omega (arith, below))) in
       rw (b_is, next_is, after_is) (
         closing steps rest most low high mid false low mid narrowed (omega arith) (omega (arith, below)) (λ s h. closed_high low high mid s (omega (arith, above)) (omega (arith, below)) h),
-        record { some = above; most = omega (arith, below, bracket.most); goes_on = bracket.goes_on; ends = inr (omega (arith, ints, total, tells)) },
+        record { some = above; most = omega (arith, below, bracket.most); goes_on = bracket.goes_on; ends = inl (omega (arith, ints, total, tells)) },
       )
 
   pub turn_room : (steps : List Step) (rest : ℤ) (most low high mid : ℕ) (is_low : Bool) → IsNarrowed asked steps rest most low high → low < mid → mid < high
@@ -266,13 +283,22 @@ module _ (asked : ℕ → ℤ) where
   none_narrowed high steps none nothing =
       rw none (record { sum = λ m from to. nothing m; each = λ k d inside. absurd (omega (arith, inside)); room = omega arith })
 
-  -- two functions that agree up to the reach have the same brackets
-  pub same_bracket : (other : ℕ → ℤ) (bound : ℤ) (reach low high : ℕ) → ((m : ℕ) → m ≤ reach → asked m ≡ other m) → IsBracket asked bound reach low high → IsBracket other bound reach low high
-  same_bracket other bound reach low high same b = record {
-    some = b.some;
+  -- a bracket whose ends are one grain apart has the end
+  pub closed_bracket : (bound : ℤ) (reach low high : ℕ) → IsBracket asked bound reach low high → high ≤ low + 1 → IsEnd asked bound reach high
+  closed_bracket bound reach low high b near = record {
+    least = omega (arith, b.some);
     most = b.most;
-    goes_on = ⊎_elim inl (λ above. inr (rw (same low (omega (arith, b.some, b.most))) at above)) b.goes_on;
-    ends = ⊎_elim inl (λ near. inr (rw (same high b.most) at near)) b.ends;
+    first = λ d one before. b.goes_on d one (omega (arith, before, near));
+    ends = b.ends;
+  }
+
+  -- two functions that agree up to the reach have the same end
+  pub same_end : (other : ℕ → ℤ) (bound : ℤ) (reach amount : ℕ) → ((m : ℕ) → m ≤ reach → asked m ≡ other m) → IsEnd asked bound reach amount → IsEnd other bound reach amount
+  same_end other bound reach amount same end = record {
+    least = end.least;
+    most = end.most;
+    first = λ d one before. rw (same d (omega (arith, before, end.most))) at (end.first d one before);
+    ends = ⊎_elim (λ near. inl (rw (same amount end.most) at near)) inr end.ends;
   }
 
 pub with_order : (is_low : Bool) (low mid high : ℕ) (b : Bracket) → b ≡ (if is_low then record { low = mid; high = high } else record { low = low; high = mid }) → low < mid → mid < high → b.low ≤ b.high
@@ -287,32 +313,32 @@ mixed_at f xs ys i d within is =
     let count : length (map f (take i xs)) ≡ i = omega (arith, length-map (take i xs) f, length-take i xs, within) in
     rw (is, drop_more xs i d within) (get_or_at (map f (take i xs)) (get_or xs i d) (drop (i + 1) xs) d i count)
 
-turned_place : (falls : Bool) (c : Cell) → (turned falls c).place ≡ c.place
-turned_place true c = refl
-turned_place false c = refl
+turned_place : (direction : Direction) (c : Cell) → (turned direction c).place ≡ c.place
+turned_place Rise c = refl
+turned_place Fall c = refl
 
 -- the step of one more cell
-pub begin_more : (parts : ℕ) (quotes : List Quote) (falls : Bool) (cells : List Cell) (i : ℕ) (d t : Cell) (reach : ℕ) (steps next : List Step) (s : Step) (q : Quote)
-    → 1 ≤ parts → parts ≤ 256 → i < length cells → All (λ c. c.place < length quotes) cells → All (CanMove quotes falls reach) cells
-    → IsNarrowed (asked_after parts quotes falls (take i cells)) steps (pos 0) i 0 reach
-    → t ≡ turned falls (get_or cells i d) → unsigned_abs t.weight ≤ most_weight → q ≡ get_or quotes t.place q
+pub begin_more : (parts : ℕ) (quotes : List Quote) (direction : Direction) (cells : List Cell) (i : ℕ) (d t : Cell) (reach : ℕ) (steps next : List Step) (s : Step) (q : Quote)
+    → 1 ≤ parts → parts ≤ 256 → i < length cells → All (λ c. c.place < length quotes) cells → All (CanMove quotes direction reach) cells
+    → IsNarrowed (asked_after parts quotes direction (take i cells)) steps (pos 0) i 0 reach
+    → t ≡ turned direction (get_or cells i d) → unsigned_abs t.weight ≤ most_weight → q ≡ get_or quotes t.place q
     → terms s.curve ≡ q.terms → s.price ≡ q.price → s.parts ≡ parts → s.weight ≡ t.weight
     → s.first ≡ part_by_sign t.weight (floor_rate q.terms q.price + (parts - 1) * ceil_rate q.terms q.price) (ceil_rate q.terms q.price + (parts - 1) * floor_rate q.terms q.price)
     → s.last ≡ part_by_sign t.weight 0 (parts * q.terms.room) → IsSmall s
     → next ≡ steps ++ s ∷ []
-    → IsNarrowed (asked_after parts quotes falls (take (i + 1) cells)) next (pos 0) (i + 1) 0 reach
-begin_more parts quotes falls cells i d t reach steps next s q some few within there moves before t_is light q_is terms_are price_is parts_are weight_is first_is last_is small next_is =
+    → IsNarrowed (asked_after parts quotes direction (take (i + 1) cells)) next (pos 0) (i + 1) 0 reach
+begin_more parts quotes direction cells i d t reach steps next s q some few within there moves before t_is light q_is terms_are price_is parts_are weight_is first_is last_is small next_is =
     let c : Cell = get_or cells i d in
-    let place : t.place ≡ c.place = ap (λ (x : Cell). x.place) t_is ∙ turned_place falls c in
+    let place : t.place ≡ c.place = ap (λ (x : Cell). x.place) t_is ∙ turned_place direction c in
     let inside : t.place < length quotes = omega (arith, place, there i d within) in
     let quote : q ≡ quote_in quotes t.place = q_is ∙ get_or_default quotes t.place q no_quote inside in
     let stays : (m : ℕ) → m ≤ reach → unsigned_abs (q.price +ℤ t.weight *ℤ pos m) ≤ 2 ^ 78 = λ m h. rw (quote, t_is) (moves i d within m h) in
     let step = first_step s q parts t.weight reach terms_are price_is parts_are weight_is first_is last_is small some few light stays in
     rw next_is
-    (add_open (asked_after parts quotes falls (take i cells)) (asked_after parts quotes falls (take (i + 1) cells)) steps (pos 0) i 0 reach s before step.0
+    (add_open (asked_after parts quotes direction (take i cells)) (asked_after parts quotes direction (take (i + 1) cells)) steps (pos 0) i 0 reach s before step.0
     (λ m.
-    let part : part_after m s ≡ low_after parts quotes (pos m) (turned falls c) = step.1 m ∙ rw (quote, t_is) refl in
-    int_sum_by_more (λ c. low_after parts quotes (pos m) (turned falls c)) cells i d within ∙ ap (λ x. asked_after parts quotes falls (take i cells) m +ℤ x) (sym part)))
+    let part : part_after m s ≡ low_after parts quotes (pos m) (turned direction c) = step.1 m ∙ rw (quote, t_is) refl in
+    int_sum_by_more (λ c. low_after parts quotes (pos m) (turned direction c)) cells i d within ∙ ap (λ x. asked_after parts quotes direction (take i cells) m +ℤ x) (sym part)))
 
 -- of the steps before a place, those that are open are kept
 pub record IsClosing (is_low : Bool) (steps now : List Step) (kept at : ℕ) (rest : ℤ) : Type 0 where

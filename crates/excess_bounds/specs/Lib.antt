@@ -1,7 +1,7 @@
 pub mod Quotes
 pub mod Workspace
 pub mod Columns
-pub mod Brackets
+pub mod Ends
 pub mod Directions
 pub mod Parts
 pub mod Private

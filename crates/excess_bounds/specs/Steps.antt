@@ -1,11 +1,13 @@
 -- Definitions for private functions: what orders ask for between two amounts by which the price of an asset moves.
-use Rattle.std.specs.Prelude.{◌≡◌, ℕ, ◌+◌, ◌*◌, ◌^◌, ◌≤◌, ℤ, pos, neg_ℤ, ◌+ℤ◌, ◌*ℤ◌, ◌≤ℤ◌, unsigned_abs, Bool, if◌then◌else◌, List, [], ◌∷◌, length, All}
+use Rattle.std.specs.Prelude.{◌≡◌, ◌⊎◌, ℕ, ◌+◌, ◌*◌, ◌^◌, ◌≤◌, ◌<◌, ℤ, pos, neg_ℤ, ◌+ℤ◌, ◌*ℤ◌, ◌≤ℤ◌, ◌<ℤ◌, unsigned_abs, Bool, if◌then◌else◌, List, [], ◌∷◌, length, All}
 use Rattle.std.specs.Ordering.{int_eq}
 use Rattle.list_sums.specs.Sums.{int_sum_by}
 use Rattle.weight_rows.specs.Rows.{most_weight}
 use Rattle.demand_curve.specs.Curve.{terms}
 use Rattle.flow_orders.specs.Excess.{low_part_in}
 use Rattle.excess_bounds.specs.declared.columns.Cell.{Cell}
+use Rattle.excess_bounds.specs.declared.directions.Direction.{Direction}
+use Rattle.excess_bounds.specs.declared.directions.Direction.TheVariants.{Rise, Fall}
 use Rattle.excess_bounds.specs.declared.steps.Step.{Step}
 use Rattle.excess_bounds.specs.Quotes.{Quote}
 use Rattle.excess_bounds.specs.Private.{low_after, StaysInRange}
@@ -63,14 +65,26 @@ pub record IsNarrowed (asked : ℕ → ℤ) (steps : List Step) (rest : ℤ) (mo
   pub each : All (IsStep low high) steps
   pub room : unsigned_abs rest + length steps * 2 ^ 44 ≤ most * 2 ^ 44
 
+-- two amounts between which a move ends: up to the low one more than the bound is asked for; after the high one it isn't, or that is the reach
+pub record IsBracket (asked : ℕ → ℤ) (bound : ℤ) (reach low high : ℕ) : Type 0 where
+  pub some : low < high
+  pub most : high ≤ reach
+  pub goes_on : (d : ℕ) → 1 ≤ d → d ≤ low → bound <ℤ asked d
+  pub ends : (asked high ≤ℤ bound) ⊎ (high ≡ reach)
+
+-- how many amounts in a row may leave more than half of a bracket; the next one is its middle
+abbrev pub most_slow : ℕ
+most_slow = 3
+
 -- a cell, with the opposite weight if the price falls
-abbrev pub turned : Bool → Cell → Cell
-turned falls c = if falls then record { place = c.place; weight = neg_ℤ c.weight } else c
+abbrev pub turned : Direction → Cell → Cell
+turned Rise c = c
+turned Fall c = record { place = c.place; weight = neg_ℤ c.weight }
 
 -- what the orders of a column ask for after an amount, in parts of a unit
-abbrev pub asked_after : ℕ → List Quote → Bool → List Cell → ℕ → ℤ
-asked_after parts quotes falls cells amount = int_sum_by (λ c. low_after parts quotes (pos amount) (turned falls c)) cells
+abbrev pub asked_after : ℕ → List Quote → Direction → List Cell → ℕ → ℤ
+asked_after parts quotes direction cells amount = int_sum_by (λ c. low_after parts quotes (pos amount) (turned direction c)) cells
 
 -- the price of a cell's order stays in range for amounts up to `reach`
-abbrev pub CanMove : List Quote → Bool → ℕ → Cell → Type 0
-CanMove quotes falls reach c = (m : ℕ) → m ≤ reach → StaysInRange quotes (pos m) (turned falls c)
+abbrev pub CanMove : List Quote → Direction → ℕ → Cell → Type 0
+CanMove quotes direction reach c = (m : ℕ) → m ≤ reach → StaysInRange quotes (pos m) (turned direction c)

@@ -7,6 +7,7 @@ ghost use Rattle.excess_bounds.specs.Columns.{column_of};
 ghost use Rattle.excess_bounds.specs.Private.{listed, spread_in, steepness_in};
 ghost use Rattle.excess_bounds.specs.Steps.{turned};
 
+use crate::directions::Direction;
 use flow_orders::Order;
 use std::alloc::{AllocError, Global};
 use std::marker::Model;
@@ -22,18 +23,17 @@ pub struct Cell {
 
 impl Cell {
     // Returns the cell, with the opposite weight if the price falls.
-    pub(crate) fn turned(self, falls: bool) -> Cell
+    pub(crate) fn turned(self, direction: Direction) -> Cell
         requires { unsigned_abs self.weight ≤ most_weight }
-        ensures cell { result ≡ turned falls self }
+        ensures cell { result ≡ turned direction self }
         ensures light { unsigned_abs result.weight ≤ most_weight }
     {
-        if falls {
-            Cell {
+        match direction {
+            Direction::Rise => self,
+            Direction::Fall => Cell {
                 place: self.place,
                 weight: -self.weight,
-            }
-        } else {
-            self
+            },
         }
     }
 }

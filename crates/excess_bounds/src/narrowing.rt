@@ -1,27 +1,28 @@
-//! Narrows down how far the price of an asset has to move.
+//! Finds how far the price of an asset moves.
 //!
 //! As a price moves, what an order asks for of the asset never grows: it falls in steps. Between two amounts most orders
 //! soon ask for the same at both ends, and aren't looked at again.
 
-ghost use Rattle.std.specs.Prelude.{◌≡◌, ◌*◌, ◌^◌, ◌+◌, ◌-◌, ◌<◌, ◌≤◌, if◌then◌else◌, int_lt, pos, length, map, unsigned_abs, vec_len, vec_capacity, All};
+ghost use Rattle.std.specs.Prelude.{◌≡◌, ◌*◌, ◌^◌, ◌+◌, ◌-◌, ◌/◌, ◌<◌, ◌≤◌, ◌⊎◌, min, if◌then◌else◌, int_lt, pos, length, map, unsigned_abs, vec_len, vec_capacity, All};
 ghost use Rattle.list_sums.specs.Sums.{int_sum_by};
 ghost use Rattle.flow_orders.specs.Orders.{most_orders};
-ghost use Rattle.excess_bounds.specs.Brackets.{IsBracket};
+ghost use Rattle.excess_bounds.specs.Ends.{IsEnd};
 ghost use Rattle.excess_bounds.specs.Private.{IsColumn};
-ghost use Rattle.excess_bounds.specs.Steps.{CanLook, IsSmall, IsNarrowed, CanMove, asked_after, part_after, looked, closed, still_open, settled_sum};
+ghost use Rattle.excess_bounds.specs.Steps.{CanLook, IsSmall, IsNarrowed, CanMove, asked_after, part_after, looked, closed, still_open, settled_sum, most_slow};
 
 use crate::columns::Cell;
+use crate::directions::Direction;
 use crate::quotes::Quote;
 use crate::steps::Step;
 
-/// Two amounts, in grains, between which the move of a price ends: after the low one it has to go on, and after the high
-/// one it has ended or can't go further.
+// Two amounts, in grains, between which the move of a price ends: after the low one it goes on, and after the high one it
+// has ended or can't go further.
 #[derive(Clone, Copy)]
-pub struct Bracket {
-    /// The low amount: 0, or it is known that the move goes on.
-    pub low: u64,
-    /// The high amount: the reach of the move, or it is known that the move has ended.
-    pub high: u64,
+struct Bracket {
+    // The low amount: 0, or it is known that the move goes on.
+    low: u64,
+    // The high amount: the reach of the move, or it is known that the move has ended.
+    high: u64,
 }
 
 // What steps ask for together, in parts of a unit, and how fast that falls: about 2^40 times the parts per grain.
@@ -31,48 +32,43 @@ struct Seen {
     slope: u64,
 }
 
-// How many amounts narrowing looks at, at most. Of four in a row, one at least halves the bracket.
-const MOST_TURNS: u32 = 250;
-
-// How many amounts in a row may leave more than half of the bracket.
+// How many amounts in a row may leave more than half of the bracket. The next one is its middle, so of four in a row one at
+// least halves the bracket, and at most 248 are looked at.
 const MOST_SLOW: u32 = 3;
 
 // With so few steps left, amounts are looked at at which one of them asks for less.
 const FEW: usize = 2;
 
-// Narrows down after which amount, of at most `reach`, the orders of a column ask for no more than the bound, both in parts
-// of a unit.
+// Returns the least amount, of at most `reach`, after which the orders of a column ask for no more than the bound, both in
+// parts of a unit; or the reach, if there is none. A bracket is narrowed until its ends are one grain apart.
 pub(crate) fn narrow(
     parts: u16,
     quotes: &[Quote],
     cells: &[Cell],
-    falls: bool,
+    direction: Direction,
     steps: &mut Vec<Step>,
     bound: i64,
     reach: u64,
-) -> Bracket
+) -> u64
     requires some_parts { 1 ≤ parts }
     requires few_parts { parts ≤ 256 }
     requires column { IsColumn cells.now }
     requires there { All (λ c. c.place < length quotes.now) cells.now }
-    requires moves { All (CanMove quotes.now falls reach) cells.now }
+    requires moves { All (CanMove quotes.now direction reach) cells.now }
     requires room { length cells.now ≤ vec_capacity steps.old }
     requires some { 0 < reach }
     requires most { reach ≤ 2 ^ 62 }
-    ensures bracket { IsBracket (asked_after parts quotes.now falls cells.now) bound reach result.low result.high }
+    ensures end { IsEnd (asked_after parts quotes.now direction cells.now) bound reach result }
     ensures capacity { vec_capacity steps.new ≡ vec_capacity steps.old }
 {
-    let seen = begin(parts, quotes, cells, falls, reach, steps);
+    let seen = begin(parts, quotes, cells, direction, reach, steps);
     let mut rest = 0;
     let mut bracket = Bracket {
         low: 0,
         high: reach,
     };
     let mut guess = Guess::first(missing(seen.sum, bound), seen.slope);
-    for _turn in 0..MOST_TURNS {
-        if bracket.high - bracket.low <= 1 {
-            return bracket;
-        }
+    while bracket.low + 1 < bracket.high {
         let amount = guess.amount(steps, bracket);
         let seen = ask(steps, amount);
         let asked = rest + seen.sum;
@@ -82,13 +78,14 @@ pub(crate) fn narrow(
         guess = guess.next(bracket, next, is_low, missing(asked, bound), seen.slope);
         bracket = next;
     }
-    bracket
+    bracket.high
 }
 
 impl Bracket {
     // Returns the amount in the middle of both.
     fn middle(self) -> u64
         requires { self.low ≤ self.high }
+        ensures { result ≡ self.low + (self.high - self.low) / 2 }
     {
         self.low + (self.high - self.low) / 2
     }
@@ -126,7 +123,7 @@ fn begin(
     parts: u16,
     quotes: &[Quote],
     cells: &[Cell],
-    falls: bool,
+    direction: Direction,
     reach: u64,
     steps: &mut Vec<Step>,
 ) -> Seen
@@ -134,16 +131,16 @@ fn begin(
     requires few_parts { parts ≤ 256 }
     requires column { IsColumn cells.now }
     requires there { All (λ c. c.place < length quotes.now) cells.now }
-    requires moves { All (CanMove quotes.now falls reach) cells.now }
+    requires moves { All (CanMove quotes.now direction reach) cells.now }
     requires room { length cells.now ≤ vec_capacity steps.old }
-    ensures narrowed { IsNarrowed (asked_after parts quotes.now falls cells.now) steps.new.items (pos 0) (length cells.now) 0 reach }
+    ensures narrowed { IsNarrowed (asked_after parts quotes.now direction cells.now) steps.new.items (pos 0) (length cells.now) 0 reach }
     ensures capacity { vec_capacity steps.new ≡ vec_capacity steps.old }
 {
     let mut sum = 0i64;
     let mut slope = 0u64;
     steps.clear();
     for cell in cells {
-        let cell = cell.turned(falls);
+        let cell = cell.turned(direction);
         let step = quotes[cell.place as usize].step(parts, cell);
         sum = sum.wrapping_add(step.first);
         slope = slope.saturating_add(step.pull_now());
@@ -224,17 +221,26 @@ impl Guess {
     fn next(self, before: Bracket, next: Bracket, is_low: bool, missing: u64, slope: u64) -> Guess
         requires before { before.low ≤ before.high }
         requires next { next.low ≤ next.high }
+        ensures slow { (next.high - next.low ≤ (before.high - before.low) / 2) ⊎ (min (self.slow + 1) most_slow ≤ result.slow) }
     {
         let far = distance(missing, slope);
-        let is_slow = next.high - next.low > (before.high - before.low) / 2;
         Guess {
             after_low: if is_low { far } else { self.after_low },
             before_high: if is_low { self.before_high } else { far },
-            slow: if is_slow {
-                self.slow.saturating_add(1)
-            } else {
-                0
-            },
+            slow: self.slow_after(before, next),
+        }
+    }
+
+    // Returns how many amounts in a row left more than half of the bracket, after it was narrowed.
+    fn slow_after(self, before: Bracket, next: Bracket) -> u32
+        requires before { before.low ≤ before.high }
+        requires next { next.low ≤ next.high }
+        ensures slow { (next.high - next.low ≤ (before.high - before.low) / 2) ⊎ (min (self.slow + 1) most_slow ≤ result) }
+    {
+        if next.high - next.low > (before.high - before.low) / 2 {
+            self.slow.saturating_add(1)
+        } else {
+            0
         }
     }
 
@@ -243,6 +249,7 @@ impl Guess {
         requires { bracket.low + 1 < bracket.high }
         ensures above { bracket.low < result }
         ensures below { result < bracket.high }
+        ensures middle { most_slow ≤ self.slow → result ≡ bracket.low + (bracket.high - bracket.low) / 2 }
     {
         self.wanted(steps, bracket)
             .clamp(bracket.low + 1, bracket.high - 1)
@@ -251,6 +258,7 @@ impl Guess {
     // Returns the amount that would be looked at, wherever the ends are.
     fn wanted(self, steps: &[Step], bracket: Bracket) -> u64
         requires { bracket.low < bracket.high }
+        ensures { most_slow ≤ self.slow → result ≡ bracket.low + (bracket.high - bracket.low) / 2 }
     {
         if self.slow >= MOST_SLOW {
             return bracket.middle();

@@ -4,13 +4,13 @@ ghost use Rattle.list_sums.specs.Sums.{int_sum_by};
 ghost use Rattle.weight_rows.specs.Rows.{most_weight};
 ghost use Rattle.demand_curve.specs.Demand.{most_rate};
 ghost use Rattle.excess_bounds.specs.Parts.{part_by_sign};
-ghost use Rattle.excess_bounds.specs.Private.{IsColumn, StaysInRange, low_now, high_now, low_after, high_after};
+ghost use Rattle.excess_bounds.specs.Private.{IsColumn, low_now, high_now};
 
 use crate::columns::Cell;
 use crate::quotes::Quote;
 use demand_curve::{PartRoundings, Roundings};
 
-/// The excess demand for an asset, bought less sold, in whole units or in parts of one: at least the low bound and at most
+/// The excess demand for an asset, bought less sold, in whole units: at least the low bound and at most
 /// the high one. The low bound rounds purchases down and sales up, the high bound purchases up and sales down.
 #[derive(Clone, Copy, PartialEq, Eq)]
 pub struct Excess {
@@ -39,29 +39,6 @@ pub(crate) fn excess_of(quotes: &[Quote], cells: &[Cell]) -> Excess
     Excess { low, high }
 }
 
-// Returns the excess of a column's asset in parts of a unit, after its price has moved by an amount.
-pub(crate) fn excess_after(parts: u16, quotes: &[Quote], cells: &[Cell], amount: i128) -> Excess
-    requires some { 1 ≤ parts }
-    requires few { parts ≤ 256 }
-    requires column { IsColumn cells.now }
-    requires there { All (λ c. c.place < length quotes.now) cells.now }
-    requires amount { unsigned_abs amount ≤ 2 ^ 63 }
-    requires stays { All (StaysInRange quotes.now amount) cells.now }
-    ensures low { result.low ≡ int_sum_by (low_after parts quotes.now amount) cells.now }
-    ensures high { result.high ≡ int_sum_by (high_after parts quotes.now amount) cells.now }
-    ensures low_bound { unsigned_abs result.low ≤ 2 ^ 58 }
-    ensures high_bound { unsigned_abs result.high ≤ 2 ^ 58 }
-{
-    let mut low = 0;
-    let mut high = 0;
-    for cell in cells {
-        let part = part_after(parts, quotes, *cell, amount);
-        low += part.low;
-        high += part.high;
-    }
-    Excess { low, high }
-}
-
 // Returns what a cell's order asks for of the cell's asset, in units.
 fn part_now(quotes: &[Quote], cell: Cell) -> Excess
     requires there { cell.place < length quotes.now }
@@ -72,23 +49,6 @@ fn part_now(quotes: &[Quote], cell: Cell) -> Excess
     ensures high_bound { unsigned_abs result.high ≤ 2 ^ 36 }
 {
     part_of(cell.weight, quotes[cell.place as usize].demand())
-}
-
-// Returns what a cell's order asks for of the cell's asset in parts of a unit, after its price has moved by an amount.
-fn part_after(parts: u16, quotes: &[Quote], cell: Cell, amount: i128) -> Excess
-    requires some { 1 ≤ parts }
-    requires few { parts ≤ 256 }
-    requires there { cell.place < length quotes.now }
-    requires light { unsigned_abs cell.weight ≤ most_weight }
-    requires amount { unsigned_abs amount ≤ 2 ^ 63 }
-    requires stays { StaysInRange quotes.now amount cell }
-    ensures low { result.low ≡ low_after parts quotes.now amount cell }
-    ensures high { result.high ≡ high_after parts quotes.now amount cell }
-    ensures low_bound { unsigned_abs result.low ≤ 2 ^ 44 }
-    ensures high_bound { unsigned_abs result.high ≤ 2 ^ 44 }
-{
-    let quote = &quotes[cell.place as usize];
-    part_in(cell.weight, quote.demand_after(parts, cell.weight, amount))
 }
 
 // Returns what an order with this demand asks for of an asset of this weight, in units.
@@ -104,22 +64,6 @@ fn part_of(weight: i32, demand: Roundings) -> Excess
     Excess {
         low: units(weight, demand.floor, demand.ceil),
         high: units(weight, demand.ceil, demand.floor),
-    }
-}
-
-// Returns what an order with this demand in parts of a unit asks for of an asset of this weight, in parts.
-fn part_in(weight: i32, demand: PartRoundings) -> Excess
-    requires weight { unsigned_abs weight ≤ most_weight }
-    requires floor { demand.floor ≤ 256 * most_rate }
-    requires ceil { demand.ceil ≤ 256 * most_rate }
-    ensures low { result.low ≡ part_by_sign weight demand.floor demand.ceil }
-    ensures high { result.high ≡ part_by_sign weight demand.ceil demand.floor }
-    ensures low_bound { unsigned_abs result.low ≤ 2 ^ 44 }
-    ensures high_bound { unsigned_abs result.high ≤ 2 ^ 44 }
-{
-    Excess {
-        low: units_in(weight, demand.floor, demand.ceil),
-        high: units_in(weight, demand.ceil, demand.floor),
     }
 }
 

@@ -1,7 +1,7 @@
 //! Each order at the price of its portfolio.
 ghost use Rattle.std.specs.Prelude.{◌≡◌, ℤ, ◌+◌, ◌-◌, ◌*◌, ◌^◌, ◌<◌, ◌≤◌, ◌+ℤ◌, ◌*ℤ◌, length, map, unsigned_abs, All, IfOk};
 ghost use Rattle.weight_rows.specs.Rows.{most_weight, IsPrice, IsPricedBy};
-ghost use Rattle.demand_curve.specs.Demand.{floor_rate, ceil_rate, floor_in, ceil_in, most_rate};
+ghost use Rattle.demand_curve.specs.Demand.{floor_rate, ceil_rate, most_rate};
 ghost use Rattle.demand_curve.specs.Curve.{terms};
 ghost use Rattle.flow_orders.specs.Orders.{IsOrder, most_orders};
 ghost use Rattle.flow_orders.specs.Residuals.{most_prices};
@@ -14,7 +14,7 @@ ghost use Rattle.excess_bounds.specs.Steps.{IsSmall};
 use crate::columns::Cell;
 use crate::parts::{least_parts, most_parts, price_after};
 use crate::steps::Step;
-use demand_curve::{Curve, PartRoundings, Roundings};
+use demand_curve::{Curve, Roundings};
 use flow_orders::Order;
 use std::alloc::{AllocError, Global};
 use std::marker::Model;
@@ -101,22 +101,6 @@ impl Quote {
         ensures ceil_most { result.ceil ≤ most_rate }
     {
         self.demand
-    }
-
-    // Returns the demand in parts of a unit, after the price of an asset of this weight has moved by an amount.
-    pub(crate) fn demand_after(&self, parts: u16, weight: i32, amount: i128) -> PartRoundings
-        requires some { 1 ≤ parts }
-        requires few { parts ≤ 256 }
-        requires weight { unsigned_abs weight ≤ most_weight }
-        requires amount { unsigned_abs amount ≤ 2 ^ 63 }
-        requires stays { unsigned_abs (self.now.price +ℤ weight *ℤ amount) ≤ 2 ^ 78 }
-        ensures floor { result.floor ≡ floor_in parts self.now.terms (self.now.price +ℤ weight *ℤ amount) }
-        ensures ceil { result.ceil ≡ ceil_in parts self.now.terms (self.now.price +ℤ weight *ℤ amount) }
-        ensures floor_most { result.floor ≤ 256 * most_rate }
-        ensures ceil_most { result.ceil ≤ 256 * most_rate }
-    {
-        self.curve
-            .roundings_in(parts, price_after(self.price, weight, amount))
     }
 
     // Returns the order after the price of a cell's asset has moved by an amount.

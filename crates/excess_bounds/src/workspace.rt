@@ -3,19 +3,18 @@ ghost use Rattle.std.specs.Prelude.{◌≡◌, ◌*◌, ◌^◌, ◌<◌, ◌≤
 ghost use Rattle.std.specs.List.{range_with_len};
 ghost use Rattle.weight_rows.specs.Rows.{IsPrice, IsPricedBy, price_of};
 ghost use Rattle.flow_orders.specs.Orders.{IsOrder, most_orders};
-ghost use Rattle.flow_orders.specs.Excess.{low_excess_in, high_excess_in, spread, steepness, is_unsettled};
+ghost use Rattle.flow_orders.specs.Excess.{spread, steepness, is_unsettled};
 ghost use Rattle.flow_orders.specs.WholeUnits.{low_excess, high_excess};
 ghost use Rattle.flow_orders.specs.Residuals.{most_prices};
-ghost use Rattle.flow_orders.specs.Moves.{risen, fallen};
-ghost use Rattle.excess_bounds.specs.Brackets.{IsBracket};
+ghost use Rattle.excess_bounds.specs.Ends.{IsEnd};
 ghost use Rattle.excess_bounds.specs.Columns.{column_of};
-ghost use Rattle.excess_bounds.specs.Directions.{IsTowards};
+ghost use Rattle.excess_bounds.specs.Directions.{IsTowards, asked_towards, price_towards};
 ghost use Rattle.excess_bounds.specs.Private.{IsColumn};
 
 use crate::columns::{Cell, Column, columns_of};
 use crate::directions::Direction;
-use crate::narrowing::{Bracket, narrow};
-use crate::parts::{Excess, excess_after, excess_of};
+use crate::narrowing::narrow;
+use crate::parts::{Excess, excess_of};
 use crate::quotes::{Quote, quotes_of, requote};
 use crate::steps::Step;
 use flow_orders::Order;
@@ -145,76 +144,27 @@ impl<'a> Workspace<'a> {
         excess_of(&self.quotes, self.cells(asset))
     }
 
-    /// Returns the excess of an asset with this price in place of its own, in parts of a unit, 1 to 256 of them: both bounds
-    /// are within 2^58 of 0. The prices stay. It costs one pass over the asset's column, with at most one division for each
-    /// order.
-    pub fn excess_at(&self, parts: u16, asset: u16, price: i64) -> Excess
-        requires some { 1 ≤ parts }
-        requires few { parts ≤ 256 }
-        requires asset { asset < length self.now.prices }
-        requires price { IsPrice price }
-        ensures low { result.low
-            ≡ low_excess_in parts self.now.orders (slice_set self.now.prices asset price) asset }
-        ensures high { result.high
-            ≡ high_excess_in parts self.now.orders (slice_set self.now.prices asset price) asset }
-        ensures low_bound { unsigned_abs result.low ≤ 2 ^ 58 }
-        ensures high_bound { unsigned_abs result.high ≤ 2 ^ 58 }
-    {
-        excess_after(
-            parts,
-            &self.quotes,
-            self.cells(asset),
-            self.amount(asset, price),
-        )
-    }
-
-    /// Returns two amounts between which a rise of an asset's price by at most `reach` grains ends: when its low excess in
-    /// parts of a unit, 1 to 256 of them, is no longer above the slope bound in parts, or after `reach`. They are one apart in
-    /// all cases tried; the contract doesn't say so. It costs a few passes over the asset's column, each with at most one
-    /// division for each order, and then passes over ever fewer of its orders.
-    pub fn narrow_rise(&mut self, parts: u16, asset: u16, reach: u64) -> Bracket
+    /// Returns by how many grains the price of an asset moves in a direction, at most `reach`: the least amount after which its
+    /// low excess in parts of a unit, 1 to 256 of them, is no longer above the slope bound in parts, if it rises, or its high
+    /// excess no longer below minus that, if it falls; or else the reach. The prices stay. It costs a few passes over the
+    /// asset's column, each with at most one division for each order, and then passes over ever fewer of its orders.
+    pub fn move_amount(&mut self, parts: u16, asset: u16, direction: Direction, reach: u64) -> u64
         requires some_parts { 1 ≤ parts }
         requires few_parts { parts ≤ 256 }
         requires asset { asset < length self.old.prices }
         requires some { 0 < reach }
         requires far { reach ≤ 2 ^ 61 }
-        requires room { (price_of self.old.prices asset +ℤ pos reach) ≤ℤ pos (2 ^ 62) }
+        requires room { IsPrice (price_towards direction (price_of self.old.prices asset) reach) }
         ensures stays { self.new ≡ self.old }
-        ensures bracket { IsBracket (λ d. low_excess_in parts self.old.orders (risen self.old.prices asset d) asset)
-            (pos (parts * steepness self.old.orders asset)) reach result.low result.high }
+        ensures end { IsEnd (asked_towards direction parts self.old.orders self.old.prices asset)
+            (pos (parts * steepness self.old.orders asset)) reach result }
     {
         let bound = self.steepness_in(parts, asset);
         narrow(
             parts,
             &self.quotes,
             self.columns[usize::from(asset)].cells(),
-            false,
-            &mut self.steps,
-            bound,
-            reach,
-        )
-    }
-
-    /// Returns two amounts between which a fall of an asset's price by at most `reach` grains ends: when its high excess in
-    /// parts of a unit, 1 to 256 of them, is no longer below minus the slope bound in parts, or after `reach`. They are one
-    /// apart in all cases tried; the contract doesn't say so. It costs as much as [`Workspace::narrow_rise`].
-    pub fn narrow_fall(&mut self, parts: u16, asset: u16, reach: u64) -> Bracket
-        requires some_parts { 1 ≤ parts }
-        requires few_parts { parts ≤ 256 }
-        requires asset { asset < length self.old.prices }
-        requires some { 0 < reach }
-        requires far { reach ≤ 2 ^ 61 }
-        requires room { neg_ℤ (pos (2 ^ 62)) ≤ℤ (price_of self.old.prices asset -ℤ pos reach) }
-        ensures stays { self.new ≡ self.old }
-        ensures bracket { IsBracket (λ d. neg_ℤ (high_excess_in parts self.old.orders (fallen self.old.prices asset d) asset))
-            (pos (parts * steepness self.old.orders asset)) reach result.low result.high }
-    {
-        let bound = self.steepness_in(parts, asset);
-        narrow(
-            parts,
-            &self.quotes,
-            self.columns[usize::from(asset)].cells(),
-            true,
+            direction,
             &mut self.steps,
             bound,
             reach,

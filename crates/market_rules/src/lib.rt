@@ -9,7 +9,7 @@
 
 pub mod laws;
 mod limits;
-mod parts;
+mod search;
 
 pub use limits::{MOST_BATCHES, MOST_ORDERS};
-pub use parts::{parts_of, search_of};
+pub use search::{parts_of, search_of};

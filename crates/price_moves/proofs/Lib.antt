@@ -1,4 +1,3 @@
-mod Between
 pub mod Ends
 pub mod Lowering
 pub mod MadeAgain

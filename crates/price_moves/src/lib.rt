@@ -7,20 +7,18 @@
 //!
 //! A price rises while the low excess of its asset is above the slope bound, since then more of it is demanded than
 //! rounding can explain, and it falls while the high excess is below minus the slope bound. A higher price of an asset
-//! never raises its excess, so the end of a move is found by bisection.
+//! never raises its excess, so the workspace finds the end of a move between two amounts that it brings together.
 //!
 //! # Costs
 //!
 //! The column of an asset has the orders that name it. Testing whether an asset is settled, and which way its price moves,
-//! costs one pass over its column, without a division. A move then costs one such pass to begin with, a few that narrow its
-//! end down, and one that sets the price, with at most one division for each order in each but the first. At most 250 passes
-//! narrow the end down, over ever fewer orders of the column; from prices that are nearly settled, two or three go over most
-//! of them. A bisection of what is left then finds the end, with a pass for each price that it tests, mostly none. No call
-//! allocates.
+//! costs one pass over its column, without a division. A move then costs one such pass to begin with, a few that find its
+//! end, and one that sets the price, with at most one division for each order in each but the first. At most 248 passes find
+//! the end, over ever fewer orders of the column; from prices that are nearly settled, two or three go over most of them. No
+//! call allocates.
 #![tactic(auto)]
 
 mod moves;
-mod probes;
 mod retracing;
 
 pub use moves::{make_move, step, step_towards};

@@ -1,18 +1,14 @@
 //! The move of one asset's price.
-ghost use Rattle.std.specs.Prelude.{◌≡◌, ◌+◌, ◌*◌, ◌^◌, ◌<◌, ◌≤◌, ◌≤ℤ◌, ◌+ℤ◌, ◌-ℤ◌, pos, neg_ℤ, true, length, slice_set, unsigned_abs, All};
+ghost use Rattle.std.specs.Prelude.{◌≡◌, ◌+◌, ◌^◌, ◌<◌, ◌≤◌, ◌≤ℤ◌, ◌+ℤ◌, ◌-ℤ◌, pos, neg_ℤ, true, length, slice_set, unsigned_abs};
 ghost use Rattle.weight_rows.specs.Rows.{IsPrice, price_of};
-ghost use Rattle.flow_orders.specs.Orders.{IsOrder};
-ghost use Rattle.flow_orders.specs.Excess.{is_unsettled, steepness};
-ghost use Rattle.flow_orders.specs.WholeUnits.{is_above, is_below};
+ghost use Rattle.flow_orders.specs.Excess.{is_unsettled};
 ghost use Rattle.flow_orders.specs.Moves.{moved};
 ghost use Rattle.flow_orders.specs.Outcomes.{step_of};
-ghost use Rattle.excess_bounds.specs.Directions.{IsTowards};
+ghost use Rattle.excess_bounds.specs.Directions.{IsTowards, price_towards};
 ghost use Rattle.excess_bounds.specs.Workspace.{ArePriced};
 ghost use Rattle.price_moves.specs.Retracing.{IsLowered};
 
-use crate::probes::{Fall, Rise};
 use excess_bounds::{Direction, Workspace};
-use single_bisect::{greatest_true, least_true};
 
 // The reach of a move in a walk, in grains.
 const REACH: i64 = 1 << 45;
@@ -114,11 +110,8 @@ fn end_of_move(
     ensures priced { ArePriced work.old.orders work.old.prices }
 {
     let price = price_in(work, asset);
-    let bound = work.steepness_in(parts, asset);
-    match direction {
-        Direction::Rise => end_of_rise(work, parts, asset, bound, price, reach),
-        Direction::Fall => end_of_fall(work, parts, asset, -bound, price, reach),
-    }
+    let amount = work.move_amount(parts, asset, direction, reach.unsigned_abs());
+    moved_price(price, direction, amount)
 }
 
 // Returns the price of an asset.
@@ -131,104 +124,14 @@ fn price_in(work: &Workspace<'_>, asset: u16) -> i64
     work.prices()[usize::from(asset)]
 }
 
-// Returns the price at which a rise by at most `reach` ends.
-fn end_of_rise(
-    work: &mut Workspace<'_>,
-    parts: u16,
-    asset: u16,
-    bound: i64,
-    price: i64,
-    reach: i64,
-) -> i64
-    requires some_parts { 1 ≤ parts }
-    requires few_parts { parts ≤ 256 }
-    requires asset { asset < length work.old.prices }
-    requires above { is_above work.old.orders work.old.prices asset ≡ true }
-    requires bound { bound ≡ pos (parts * steepness work.old.orders asset) }
-    requires price { price ≡ price_of work.old.prices asset }
-    requires range { IsPrice price }
-    requires far { reach ≤ℤ pos (2 ^ 61) }
-    requires some { pos 1 ≤ℤ reach }
-    requires room { (price +ℤ reach) ≤ℤ pos (2 ^ 62) }
-    requires each { All IsOrder work.old.orders }
-    ensures moved { slice_set work.old.prices asset result ≡ moved parts work.old.orders (unsigned_abs reach) work.old.prices asset }
-    ensures range { IsPrice result }
-    ensures stays { work.new ≡ work.old }
-{
-    let bracket = work.narrow_rise(parts, asset, reach.unsigned_abs());
-    let last = price + reach;
-    let mut rise = Rise {
-        work,
-        parts,
-        asset,
-        bound,
-        first: price,
-        last,
-        asks: 0,
-    };
-    least_true(
-        &mut rise,
-        risen(price, bracket.low),
-        risen(price, bracket.high),
-    )
-}
-
-// Returns the price at which a fall by at most `reach` ends.
-fn end_of_fall(
-    work: &mut Workspace<'_>,
-    parts: u16,
-    asset: u16,
-    bound: i64,
-    price: i64,
-    reach: i64,
-) -> i64
-    requires some_parts { 1 ≤ parts }
-    requires few_parts { parts ≤ 256 }
-    requires asset { asset < length work.old.prices }
-    requires below { is_below work.old.orders work.old.prices asset ≡ true }
-    requires bound { bound ≡ neg_ℤ (pos (parts * steepness work.old.orders asset)) }
-    requires price { price ≡ price_of work.old.prices asset }
-    requires range { IsPrice price }
-    requires far { reach ≤ℤ pos (2 ^ 61) }
-    requires some { pos 1 ≤ℤ reach }
-    requires room { neg_ℤ (pos (2 ^ 62)) ≤ℤ (price -ℤ reach) }
-    requires each { All IsOrder work.old.orders }
-    ensures moved { slice_set work.old.prices asset result ≡ moved parts work.old.orders (unsigned_abs reach) work.old.prices asset }
-    ensures range { IsPrice result }
-    ensures stays { work.new ≡ work.old }
-{
-    let bracket = work.narrow_fall(parts, asset, reach.unsigned_abs());
-    let first = price - reach;
-    let mut fall = Fall {
-        work,
-        parts,
-        asset,
-        bound,
-        first,
-        last: price,
-        asks: 0,
-    };
-    greatest_true(
-        &mut fall,
-        fallen(price, bracket.high),
-        fallen(price, bracket.low),
-    )
-}
-
-// Returns a price after a rise by an amount.
-fn risen(price: i64, amount: u64) -> i64
+// Returns a price after it moved by an amount.
+fn moved_price(price: i64, direction: Direction, amount: u64) -> i64
     requires range { IsPrice price }
     requires amount { amount ≤ 2 ^ 61 }
-    ensures { result ≡ price +ℤ pos amount }
+    ensures { result ≡ price_towards direction price amount }
 {
-    price + amount as i64
-}
-
-// Returns a price after a fall by an amount.
-fn fallen(price: i64, amount: u64) -> i64
-    requires range { IsPrice price }
-    requires amount { amount ≤ 2 ^ 61 }
-    ensures { result ≡ price -ℤ pos amount }
-{
-    price - amount as i64
+    match direction {
+        Direction::Rise => price + amount as i64,
+        Direction::Fall => price - amount as i64,
+    }
 }

@@ -5,5 +5,5 @@ use Rattle.excess_bounds.proofs.narrowing.begin.Given as goal
 
 abbrev pub invariant-loop-cell : goal.invariant-loop-cell
 invariant-loop-cell l =
-    IsNarrowed (asked_after l.parts l.quotes l.falls (take l.cell-index l.cells)) l.steps.items (pos 0) l.cell-index 0 l.reach
+    IsNarrowed (asked_after l.parts l.quotes l.direction (take l.cell-index l.cells)) l.steps.items (pos 0) l.cell-index 0 l.reach
     × (vec_capacity l.steps ≡ vec_capacity l.fn.steps)
