@@ -1,24 +1,28 @@
 //! The excess of assets, as prices move.
+ghost use Rattle.std.specs.Prelude.{◌≤◌, ◌<◌, ◌^◌, unsigned_abs, IsTrue};
+
 use crate::books::Book;
 use crate::telling::{pair_of, put, put_answer, put_pair, put_prices};
 use check_lines::Told;
-use excess_bounds::{Excess, Workspace};
+use excess_bounds::{Direction, Excess, Workspace};
 use std::alloc::Global;
 
 // The price farthest from 0, in grains.
 const FAR: u64 = 1 << 62;
+
+// The price farthest from 0 that is moved, and how far at most, in grains.
+const NEAR: u64 = 1 << 61;
 
 fn put_excess(excess: Excess, told: &mut Told) {
     put(excess.low.into(), told);
     put(excess.high.into(), told);
 }
 
-// Sets the price of an asset, and prints its excess at that price, before and after it is set, and whether it is settled then.
+// Sets the price of an asset, and prints its excess then, and whether it is settled.
 fn put_change(work: &mut Workspace<'_>, asset: u16, price: i64, told: &mut Told) {
     if usize::from(asset) >= work.prices().len() || price.unsigned_abs() > FAR {
         return told.give_up();
     }
-    put_excess(work.excess_at(1, asset, price), told);
     work.set_price(asset, price);
     put_excess(work.excess(asset), told);
     put_answer(work.is_settled(asset), told);
@@ -43,30 +47,62 @@ pub(crate) fn put_changes(alloc: Global, list: &str, book: &Book<'_>, told: &mut
     }
 }
 
-// Prints the excess of an asset at a price, in parts of a unit.
-fn put_excess_at(work: &Workspace<'_>, parts: u16, asset: u16, price: i64, told: &mut Told) {
+// Returns whether a price may be moved by at most `reach` grains.
+fn may_move(price: i64, reach: u64) -> bool
+    ensures some { IsTrue result → 0 < reach }
+    ensures far { IsTrue result → reach ≤ 2 ^ 61 }
+    ensures near { IsTrue result → unsigned_abs price ≤ 2 ^ 61 }
+{
+    0 < reach && reach <= NEAR && price.unsigned_abs() <= NEAR
+}
+
+// Prints by how many grains the price of an asset moves in a direction.
+fn put_amount(
+    work: &mut Workspace<'_>,
+    parts: u16,
+    asset: u16,
+    direction: Direction,
+    reach: u64,
+    told: &mut Told,
+) {
     if parts == 0
         || parts > 256
         || usize::from(asset) >= work.prices().len()
-        || price.unsigned_abs() > FAR
+        || !may_move(work.prices()[usize::from(asset)], reach)
     {
         return told.give_up();
     }
-    put_excess(work.excess_at(parts, asset, price), told)
+    put(
+        work.move_amount(parts, asset, direction, reach).into(),
+        told,
+    )
 }
 
-fn put_asked(work: &Workspace<'_>, words: &str, told: &mut Told) {
-    let (parts, item) = words.split_once(' ').unwrap_or((words, ""));
-    match (parts.parse(), pair_of(item)) {
-        (Ok(parts), Some((asset, price))) => put_excess_at(work, parts, asset, price, told),
+// Returns a direction and a reach.
+fn way_of(words: &str) -> Option<(Direction, u64)> {
+    let (way, reach) = words.split_once(' ')?;
+    let reach = reach.parse().ok()?;
+    match way {
+        "rise" => Some((Direction::Rise, reach)),
+        "fall" => Some((Direction::Fall, reach)),
+        _ => None,
+    }
+}
+
+fn put_asked(work: &mut Workspace<'_>, words: &str, told: &mut Told) {
+    let (place, words) = words.split_once(' ').unwrap_or((words, ""));
+    match (pair_of(place), way_of(words)) {
+        (Some((parts, asset)), Some((direction, reach))) => {
+            put_amount(work, parts, asset, direction, reach, told)
+        }
         _ => told.give_up(),
     }
 }
 
-// Prints the excess of an asset at another price, in parts of a unit.
-pub(crate) fn put_excess_in(alloc: Global, words: &str, book: &Book<'_>, told: &mut Told) {
+// Prints how far the price of an asset moves.
+pub(crate) fn put_move(alloc: Global, words: &str, book: &Book<'_>, told: &mut Told) {
     match Workspace::new(alloc, book.orders, book.prices) {
-        Ok(work) => put_asked(&work, words, told),
+        Ok(mut work) => put_asked(&mut work, words, told),
         Err(_) => told.give_up(),
     }
 }
