@@ -2,7 +2,7 @@ use Rattle.std.proofs.Common.{◌≡◌, ℕ, option_map, slice_get, Some, map, 
 use Rattle.std.proofs.lemmas.Bool.{ltb-true}
 use Rattle.std.proofs.lemmas.Option.{slice_get-map, slice_get_read}
 use Rattle.flow_orders.specs.Outcomes.{Fill}
-use Rattle.curve_tests.proofs.verdicts.PublishedClearedParts.rate.Goals as goal
+use Rattle.curve_checks.proofs.verdicts.PublishedClearedParts.rate.Goals as goal
 
 fill : ℕ × ℕ → Fill
 fill f = record { order = f.0; rate = f.1 }

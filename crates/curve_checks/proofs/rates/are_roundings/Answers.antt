@@ -6,7 +6,7 @@ use Rattle.flow_orders.specs.Orders.{terms_of}
 use Rattle.flow_orders.specs.Excess.{price_for}
 use Rattle.flow_orders.specs.Trades.{trades}
 use Rattle.batch_certificate.proofs.Sums.{IsTurn, one_more_holds, length-trades}
-use Rattle.curve_tests.proofs.certificate.are_roundings.Goals as goal
+use Rattle.curve_checks.proofs.rates.are_roundings.Goals as goal
 
 pub loop-place-preserved : goal.loop-place-preserved
 loop-place-preserved c =
