@@ -2,7 +2,7 @@ use Rattle.std.proofs.Common.{◌≡◌, ◌<◌, ◌≤◌, length, sym, subst,
 use Rattle.flow_orders.specs.Orders.{terms_of}
 use Rattle.flow_orders.specs.Trades.{Trade}
 use Rattle.order_book.proofs.Traded.{length-trades, get_or-trades}
-use Rattle.account_tests.proofs.book.are_within.Goals as goal
+use Rattle.account_checks.proofs.books.are_within.Goals as goal
 
 pub returns-clause-within : goal.returns-clause-within
 returns-clause-within c true k d inside =
