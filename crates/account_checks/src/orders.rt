@@ -149,7 +149,7 @@ fn put_bounds(orders: &[Order], asset: u16, told: &mut Told) {
     put("asset", &numbers, told)
 }
 
-// Prints the sums of the orders' weights of assets: `ASSET; ORDER; ORDER`.
+// Prints the sums of the orders' weights of assets: `ASSETS; ORDER; ORDER ..`.
 pub(crate) fn put_sums(alloc: Global, words: &str, told: &mut Told) {
     let (assets, placed) = words.split_once(';').unwrap_or((words, ""));
     let mut orders = Vec::new(alloc);

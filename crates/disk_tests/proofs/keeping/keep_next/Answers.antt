@@ -1,5 +1,5 @@
 use Rattle.disk_tests.proofs.Found.{ends_known, keeps_known}
-use Rattle.disk_tests.proofs.journals.keep_next.Goals as goal
+use Rattle.disk_tests.proofs.keeping.keep_next.Goals as goal
 
 pub begin-requires : goal.begin-requires
 begin-requires g c =

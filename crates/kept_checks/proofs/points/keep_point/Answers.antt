@@ -1,7 +1,7 @@
 use Rattle.std.proofs.Common.{◌∷◌, [], length, ap, length-append, arith}
 use Rattle.journal_disk.specs.Entries.{framed}
 use Rattle.journal_disk.proofs.Entries.{length-framed}
-use Rattle.disk_tests.proofs.journals.keep_point.Goals as goal
+use Rattle.kept_checks.proofs.points.keep_point.Goals as goal
 
 pub append_first-requires-clause-short : goal.append_first-requires-clause-short
 append_first-requires-clause-short g c =

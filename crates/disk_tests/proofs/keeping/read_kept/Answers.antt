@@ -3,7 +3,7 @@ use Rattle.journal_disk.specs.declared.fault.Step.{Step}
 use Rattle.journal_disk.specs.Entries.{Holds}
 use Rattle.journal_disk.specs.Stepping.{IsStep}
 use Rattle.journal_disk.proofs.GoingOn.{looks_hold, looks_more, step_holds, step_ends}
-use Rattle.disk_tests.proofs.journals.read_kept.Goals as goal
+use Rattle.disk_tests.proofs.keeping.read_kept.Goals as goal
 
 pub pairs-init : goal.pairs-init
 pairs-init g c =

@@ -3,7 +3,7 @@ use Rattle.journal_disk.specs.Pairs.{RecordPair}
 use Rattle.journal_disk.specs.Ahead.{IsPiece}
 use Rattle.journal_disk.specs.Entries.{Head, Holds}
 use Rattle.journal_disk.specs.Looking.{OnlyLooks}
-use Rattle.disk_tests.proofs.journals.read_kept.Given as goal
+use Rattle.disk_tests.proofs.keeping.read_kept.Given as goal
 
 abbrev pub invariant-pairs : goal.invariant-pairs
 invariant-pairs g l = record {
