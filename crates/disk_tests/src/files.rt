@@ -1,5 +1,5 @@
 //! A real file as a disk.
-use crate::journals::keeps;
+use crate::keeping::keeps;
 use disk_edge::{Disk, DiskFailed, FileDisk, PathDisk};
 use std::alloc::AllocGlobal;
 use std::fs;

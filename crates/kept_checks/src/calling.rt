@@ -50,9 +50,16 @@ fn sink_of(alloc: Global, most: usize, fails: u64) -> Option<MemorySink> {
     MemorySink::new(alloc, most, failing(alloc, fails)?).ok()
 }
 
-fn disk_of(alloc: Global, bytes: &[u8], calls: u32, fails: u64) -> Option<MemoryDisk> {
+// Returns a disk in memory with these bytes and this room, so many calls, and the call that fails, if one does.
+pub(crate) fn disk_from(
+    alloc: Global,
+    bytes: &[u8],
+    room: usize,
+    calls: u32,
+    fails: u64,
+) -> Option<MemoryDisk> {
     let fails = failing(alloc, fails)?;
-    MemoryDisk::new(alloc, bytes.to_vec(alloc).ok()?, ROOM, calls, fails).ok()
+    MemoryDisk::new(alloc, bytes.to_vec(alloc).ok()?, room, calls, fails).ok()
 }
 
 // Makes the call of a subcommand with this source, this disk and these sinks.
@@ -81,7 +88,7 @@ fn end_of(alloc: Global, asked: &Asked, held: &[u8], given: &[u8]) -> Option<End
     let mut source = source_of(alloc, given, asked.read)?;
     let mut out = sink_of(alloc, MOST_OUT, asked.out)?;
     let mut notes = sink_of(alloc, MOST_NOTES, asked.notes)?;
-    let mut disk = disk_of(alloc, held, asked.calls, asked.fail)?;
+    let mut disk = disk_from(alloc, held, ROOM, asked.calls, asked.fail)?;
     let status = call(alloc, asked, &mut source, &mut disk, &mut out, &mut notes);
     Some(Ended {
         status,

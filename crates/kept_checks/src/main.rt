@@ -19,16 +19,35 @@
 //! is one, the records or the lines in the output, and what the disk holds. With `fails` and `stops` it is printed how often each number came with each
 //! output.
 //!
+//! Two kinds of cases call what the exchange stands on:
+//!
+//! | case | what is done, and what is printed |
+//! |---|---|
+//! | `memory ROOM CALLS FAILING; CALL; CALL ..: BYTES` | calls of a disk in memory that holds the bytes, with so much room for writes, so many calls, and the number of the call that fails, or 0: `write PLACE TEXT`, `cut LENGTH`, `sync`, `length`, `read PLACE COUNT`, `holds`, `recorded`; and `stop CALL PART FILL`, what a stop in this call leaves |
+//! | `point MAGICS: BYTES` | a new disk is made whose first entry has the bytes: what it holds. Then a first entry is looked for by each magic: its bytes, or `none` |
+//!
 //! What is in `stdout` comes from the formats of the files and the rules of the market, by hand.
 #![tactic(auto)]
 
 mod asked;
 mod calling;
 mod counting;
+mod memory;
+mod points;
 
 use check_lines::{Line, Names, Told};
 use std::alloc::Global;
 use std::io;
+
+// Appends the result of a case.
+fn put_case(alloc: Global, words: &str, bytes: &[u8], told: &mut Told) {
+    let (call, with) = words.split_once(' ').unwrap_or((words, ""));
+    match call {
+        "memory" => memory::put_calls(alloc, with, bytes, told),
+        "point" => points::put_found(alloc, with, bytes, told),
+        _ => calling::put_case(alloc, words, bytes, told),
+    }
+}
 
 // Appends the result of a line.
 fn put_line(alloc: Global, names: &mut Names, line: &str, told: &mut Told) {
@@ -38,10 +57,10 @@ fn put_line(alloc: Global, names: &mut Names, line: &str, told: &mut Told) {
             told.put("\n");
         }
         Some(Line::Named) => (),
-        Some(Line::Case(options, bytes)) => {
-            told.put(options);
+        Some(Line::Case(words, bytes)) => {
+            told.put(words);
             told.put(":");
-            calling::put_case(alloc, options, &bytes, told);
+            put_case(alloc, words, &bytes, told);
         }
         None => told.give_up(),
     }
