@@ -18,6 +18,23 @@
 //! | `line_2`, `lines_2` | `read_line`, `encode_lines` in version Two | as for `line` and `lines` |
 //! | `line_3`, `lines_3` | `read_line`, `encode_lines` in version Three | as for `line` and `lines` |
 //! | `sample NUMBER ORDERS:` | `sample_commands` | how many bytes, their sum (FNV-1a of 64 bits), and the last seven records |
+//! | `put FIELDS: BYTES` | `put_u8` and its like for `u8/NUMBER`, `put_bytes` of the bytes for `bytes` | the bytes |
+//! | `take FIELDS: BYTES` | `Cursor::take_u8` and its like for `u8`, `take` for a number | the fields, a number with its type; the type alone or `none` if too few bytes are left; then `left` how many |
+//! | `read LIMITS PIECE FAILING: BYTES` | `read_all` up to each limit, of a source of such pieces, whose calls of these numbers fail; or of a `steady` one | the bytes, with `more` or `all`, or `failed` |
+//! | `reads ROOMS PIECE FAILING: BYTES` | `Source::read` into each of these rooms, of such a source | the bytes, or `failed` |
+//! | `writes ROOM FAILING PIECES:` | `Sink::write` of each piece, to a sink of this room, whose calls of these numbers fail, or to a `steady` one | `done` or `failed`, and the bytes that it holds; then `handed`, and what it was handed call by call |
+//! | `reader KIND: BYTES` | `StdSource::read`, then `read_all` up to 3 and 1,000, of a `slice` or a `broken` reader | as for `reads` and `read` |
+//! | `writer KIND PIECES:` | `StdSink::write` of each piece to a `vector`, an `array` of three bytes, a `broken` or an `unflushed` writer | `done` or `failed`; then what a vector or an array has |
+//! | `window: BYTES` | `Window::fill` of four bytes within six, `advance`, `fill`; then `read_all` up to 8 | `enough`, `ended` or `limited`, and what it holds; `at` its place; as for `read` |
+//! | `tickers COUNT: TICKERS` | `TickerTable::add`, with so many tickers in the table | `asset NUMBER`, `bad`, `taken NUMBER` or `full`; then `of` how many |
+//! | `found COUNT NUMBER: TICKER` | `TickerTable::find`, `ticker`, with so many tickers in the table | `found NUMBER` or `none`; the ticker of the number or `none` |
+//! | `legs LEGS:` | `row_fault`, `EntryList::into_vec` | `lawful`, or why these are no weight vector; then the legs |
+//! | `leg PLACE ASSET LEG:` | `place_fault`, behind a leg of this asset, or `-` | the same of one place |
+//! | `price LEGS PRICES:` | `WeightRow::price`, `is_single`, `weight_of` | `price PRICE`, `single` or `several`, the weights of the assets from 0 on, and of one without a price |
+//! | `price_with ASSET/PRICE LEGS PRICES:` | `WeightRow::price_with` | `price PRICE` |
+//! | `ladder TURNS POINTS:` | `ladder_fault` | `ladder`, or `points`, `price PLACE`, `rate PLACE` or `turns` |
+//! | `value PRICE TURNS POINTS:` | `Ladder::value` | `value WHOLE PART OVER` |
+//! | `segment PLACE TURNS POINTS:` | `Ladder::segments`, `segment` | `of` how many, then `segment LOW HIGH RATE CAP` or `none` |
 //! | `write: RECORD` | `write_command` of the command that this encodes, copied | |
 //! | `plain REPLY: RECORD` | `reserve_plain`, `write_plain` | |
 //! | `cleared BATCH GAP ASSETS FILLS: RECORD` | `write_cleared` | |
@@ -31,15 +48,22 @@
 //!   END MOVES`, and `cleared BATCH GAP` with prices and imbalances, as `99/-1 101/0 -`, and orders with their rates. A `copy`
 //!   follows: gap, prices, imbalances, rates.
 //! - ASSETS and FILLS are such lists too, written as `99/-1,101/0`. In what is printed `-` is the answer after the last item. An
-//!   empty list, or no bytes, is `-` everywhere.
+//!   empty list, or no bytes, is `-` everywhere. So are POINTS, each a price in ticks and a rate,
+//!   and LEGS, each an asset and a weight. LIMITS, ROOMS, FAILING and PRICES are numbers with commas.
 #![tactic(auto)]
 
+mod edges;
+mod fields;
+mod ladders;
 mod pairs;
 mod records;
 mod replies;
+mod rows;
 mod samples;
+mod streams;
 mod telling;
 mod texts;
+mod tickers;
 
 use check_lines::{Line, Names, Told};
 use std::alloc::Global;
@@ -101,6 +125,32 @@ fn put_row(alloc: Global, words: (&str, &str), bytes: &[u8], told: &mut Told) {
     told.put("\n");
 }
 
+// Prints the one row of a call without records; answers whether it is one.
+fn put_value(alloc: Global, words: (&str, &str), bytes: &[u8], told: &mut Told) -> bool {
+    match words.0 {
+        "put" => fields::put_fields(alloc, words.1, bytes, told),
+        "take" => fields::put_taken(words.1, bytes, told),
+        "read" => streams::put_all(alloc, words.1, bytes, told),
+        "reads" => streams::put_parts(alloc, words.1, bytes, told),
+        "writes" => streams::put_pieces(alloc, words.1, told),
+        "reader" => edges::put_reader(alloc, words.1, bytes, told),
+        "writer" => edges::put_writer(alloc, words.1, told),
+        "window" => edges::put_window(alloc, bytes, told),
+        "tickers" => tickers::put_tickers(alloc, words.1, bytes, told),
+        "found" => tickers::put_found(alloc, words.1, bytes, told),
+        "legs" => rows::put_legs(alloc, words.1, told),
+        "leg" => rows::put_leg(words.1, told),
+        "price" => rows::put_price(alloc, words.1, told),
+        "price_with" => rows::put_price_with(alloc, words.1, told),
+        "ladder" => ladders::put_ladder(alloc, words.1, told),
+        "value" => ladders::put_value(alloc, words.1, told),
+        "segment" => ladders::put_segment(alloc, words.1, told),
+        _ => return false,
+    }
+    told.put("\n");
+    true
+}
+
 // Prints the result of a call.
 fn put_case(alloc: Global, words: (&str, &str), bytes: &[u8], told: &mut Told) {
     match words.0 {
@@ -108,7 +158,11 @@ fn put_case(alloc: Global, words: (&str, &str), bytes: &[u8], told: &mut Told) {
         "lines" => texts::put_lines(alloc, Version::One, words.1, bytes, told),
         "lines_2" => texts::put_lines(alloc, Version::Two, words.1, bytes, told),
         "lines_3" => texts::put_lines(alloc, Version::Three, words.1, bytes, told),
-        _ => put_row(alloc, words, bytes, told),
+        _ => {
+            if !put_value(alloc, words, bytes, told) {
+                put_row(alloc, words, bytes, told)
+            }
+        }
     }
 }
 

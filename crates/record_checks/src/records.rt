@@ -3,11 +3,11 @@ ghost use Rattle.std.specs.Prelude.{IsTrue};
 ghost use Rattle.wire_records.specs.CommandRecords.{HasShortRow};
 ghost use Rattle.wire_records.specs.Views.{command_in};
 
+use crate::rows::put_row_fault;
 use crate::telling::{put, put_bytes, put_command, put_item};
 use check_lines::Told;
 use journal_records::{MOST_REPLY_BODY, journal_version};
 use std::alloc::Global;
-use weight_rows::RowFault;
 use wire_records::{
     BodyFault, Command, CommandView, Framed, MOST_ROW, MOST_ROW_UNTIL, RecordView, Refusal,
     RowView, Version, command_version, next_record, put_head, write_command,
@@ -49,13 +49,7 @@ fn put_row(row: &RowView<'_>, told: &mut Told) {
             None => told.put(" -"),
         }
     }
-    match row.fault() {
-        None => put("lawful", &[], told),
-        Some(RowFault::Empty) => put("empty", &[], told),
-        Some(RowFault::TooMany) => put("too_many", &[], told),
-        Some(RowFault::Unordered(place)) => put("unordered", &[place.into()], told),
-        Some(RowFault::BadWeight(place)) => put("bad_weight", &[place.into()], told),
-    }
+    put_row_fault(row.fault(), told);
 }
 
 // Returns the command in memory of its own.
