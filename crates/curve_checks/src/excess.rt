@@ -18,11 +18,12 @@ fn put_excess(excess: Excess, told: &mut Told) {
     put(excess.high.into(), told);
 }
 
-// Sets the price of an asset, and prints its excess then, and whether it is settled.
+// Sets the price of an asset, and prints its excess at that price, before and after it is set, and whether it is settled then.
 fn put_change(work: &mut Workspace<'_>, asset: u16, price: i64, told: &mut Told) {
     if usize::from(asset) >= work.prices().len() || price.unsigned_abs() > FAR {
         return told.give_up();
     }
+    put_excess(work.excess_at(1, asset, price), told);
     work.set_price(asset, price);
     put_excess(work.excess(asset), told);
     put_answer(work.is_settled(asset), told);
@@ -43,6 +44,34 @@ fn put_all_changes(work: &mut Workspace<'_>, list: &str, told: &mut Told) {
 pub(crate) fn put_changes(alloc: Global, list: &str, book: &Book<'_>, told: &mut Told) {
     match Workspace::new(alloc, book.orders, book.prices) {
         Ok(mut work) => put_all_changes(&mut work, list, told),
+        Err(_) => told.give_up(),
+    }
+}
+
+// Prints the excess of an asset at a price, in parts of a unit.
+fn put_excess_at(work: &Workspace<'_>, parts: u16, asset: u16, price: i64, told: &mut Told) {
+    if parts == 0
+        || parts > 256
+        || usize::from(asset) >= work.prices().len()
+        || price.unsigned_abs() > FAR
+    {
+        return told.give_up();
+    }
+    put_excess(work.excess_at(parts, asset, price), told)
+}
+
+fn put_told(work: &Workspace<'_>, words: &str, told: &mut Told) {
+    let (parts, item) = words.split_once(' ').unwrap_or((words, ""));
+    match (parts.parse(), pair_of(item)) {
+        (Ok(parts), Some((asset, price))) => put_excess_at(work, parts, asset, price, told),
+        _ => told.give_up(),
+    }
+}
+
+// Prints the excess of an asset at another price, in parts of a unit.
+pub(crate) fn put_excess_in(alloc: Global, words: &str, book: &Book<'_>, told: &mut Told) {
+    match Workspace::new(alloc, book.orders, book.prices) {
+        Ok(work) => put_told(&work, words, told),
         Err(_) => told.give_up(),
     }
 }

@@ -16,7 +16,8 @@
 //! | `certify PRICES RATES: BOOK` | `certify` | the clearing, or `no roundings` |
 //! | `verdict PRICES ASSETS FILLS GAP: BOOK` | `check_cleared` | `right`, `count`, `price PLACE`, `rate PLACE`, `residual PLACE` or `gap` |
 //! | `asset PRICES ASSET: BOOK` | `spread`, `steepness`, `column` | both bounds, and the column |
-//! | `changes PRICES CHANGES: BOOK` | `set_price`, `excess`, `is_settled` for each change | the prices; then a row for each change: both bounds after it, and whether the asset is settled |
+//! | `changes PRICES CHANGES: BOOK` | `excess_at`, `set_price`, `excess`, `is_settled` for each change | the prices; then a row for each change: both bounds before it and after it, and whether the asset is settled |
+//! | `excess PRICES PARTS ASSET/PRICE: BOOK` | `excess_at` | both bounds |
 //! | `amount PRICES PARTS/ASSET WAY REACH: BOOK` | `move_amount`, of a rise if WAY is `rise`, of a fall if it is `fall` | the grains |
 //! | `settle PRICES PARTS: BOOK` | `settle_single` | `at` and the prices |
 //! | `step PRICES PARTS REACH: BOOK` | `step` of asset 0 | `at` and the prices |
@@ -64,6 +65,7 @@ fn put_over_book(alloc: Global, words: (&str, &str), book: &Book<'_>, told: &mut
         "verdict" => verdicts::put_judged(alloc, with, book, told),
         "asset" => excess::put_asset(alloc, with, book, told),
         "changes" => excess::put_changes(alloc, with, book, told),
+        "excess" => excess::put_excess_in(alloc, with, book, told),
         "amount" => excess::put_move(alloc, with, book, told),
         "settle" | "step" | "search" | "retrace" => moves::put_moved(alloc, call, with, book, told),
         _ => told.give_up(),
