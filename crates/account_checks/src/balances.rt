@@ -8,7 +8,7 @@ use check_lines::Told;
 use flow_accounts::{AccountFault, Accounts, MOST_ASSETS, grains_of};
 use std::alloc::Global;
 
-// What a call says: where the balance stands, the amount, and what is reserved.
+// What a call says: where the balance is, the amount, and what is reserved.
 #[derive(Clone, Copy)]
 struct Asked {
     place: Place,

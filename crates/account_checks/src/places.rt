@@ -1,4 +1,4 @@
-//! Where a balance stands.
+//! Where a balance is.
 
 // An account, and an asset unless it is the account's money.
 #[derive(Clone, Copy)]

@@ -19,7 +19,7 @@
 //! is one, the records or the lines in the output, and what the disk holds. With `fails` and `stops` it is printed how often each number came with each
 //! output.
 //!
-//! Two kinds of cases call what the exchange stands on:
+//! Two kinds of cases call what is below the exchange:
 //!
 //! | case | what is done, and what is printed |
 //! |---|---|

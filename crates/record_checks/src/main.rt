@@ -29,7 +29,7 @@
 //! | `tickers COUNT: TICKERS` | `TickerTable::add`, with so many tickers in the table | `asset NUMBER`, `bad`, `taken NUMBER` or `full`; then `of` how many |
 //! | `found COUNT NUMBER: TICKER` | `TickerTable::find`, `ticker`, with so many tickers in the table | `found NUMBER` or `none`; the ticker of the number or `none` |
 //! | `legs LEGS:` | `row_fault`, `EntryList::into_vec` | `lawful`, or why these are no weight vector; then the legs |
-//! | `leg PLACE ASSET LEG:` | `place_fault`, behind a leg of this asset, or `-` | the same of one place |
+//! | `leg PLACE ASSET LEG:` | `place_fault`, after a leg of this asset, or `-` | the same of one place |
 //! | `price LEGS PRICES:` | `WeightRow::price`, `is_single`, `weight_of` | `price PRICE`, `single` or `several`, the weights of the assets from 0 on, and of one without a price |
 //! | `price_with ASSET/PRICE LEGS PRICES:` | `WeightRow::price_with` | `price PRICE` |
 //! | `ladder TURNS POINTS:` | `ladder_fault` | `ladder`, or `points`, `price PLACE`, `rate PLACE` or `turns` |

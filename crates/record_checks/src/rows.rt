@@ -56,7 +56,7 @@ pub(crate) fn put_legs(alloc: Global, list: &str, told: &mut Told) {
     }
 }
 
-// Returns the fault of a leg at a place, behind one of this asset, or of none if it is `-`.
+// Returns the fault of a leg at a place, after one of this asset, or of none if it is `-`.
 fn fault_at(words: &str) -> Option<Option<RowFault>> {
     let (place, words) = words.split_once(' ')?;
     let (before, leg) = words.split_once(' ')?;
