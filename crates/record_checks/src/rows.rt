@@ -114,10 +114,11 @@ fn put_price_of(row: &WeightRow, prices: &[i64], told: &mut Told) {
         &[],
         told,
     );
-    for asset in 0..prices.len() as u16 {
+    let past = prices.len().min(65_535) as u16;
+    for asset in 0..past {
         told.put_number(" ", row.weight_of(asset).into());
     }
-    told.put_number(" ", row.weight_of(prices.len() as u16).into());
+    told.put_number(" ", row.weight_of(past).into());
 }
 
 fn put_changed(row: &WeightRow, prices: &[i64], asset: u16, price: i64, told: &mut Told) {
