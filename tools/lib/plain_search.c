@@ -1,4 +1,4 @@
-/* A plain program that searches prices by the rule of the market: it draws the book of crates/search_benchmark, visits the assets in turn,
+/* A plain program that searches prices by the rule of the market: it draws the book of crates/batch_benchmark, visits the assets in turn,
    and finds the end of each move by halving, with no bounds, no slopes and no orders left out. It prints what that program prints, which
    has to be the same, and is what its time is compared with. The words are assets, orders, moves at most, and parts of a unit. */
 #include <stdint.h>

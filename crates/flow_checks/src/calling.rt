@@ -3,7 +3,7 @@ use crate::asked::Asked;
 use crate::telling::{put_end, put_out, put_prefix};
 use flow_exchange::{Status, flow, flow_limited};
 use flow_io::read_all;
-use memory_streams::{MemorySink, MemorySource};
+use memory_io::{MemorySink, MemorySource};
 use std::alloc::Global;
 
 // More bytes than a case writes to the output.

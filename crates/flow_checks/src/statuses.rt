@@ -1,7 +1,7 @@
 //! The ways in which the program can end.
 use crate::telling::put_line;
 use flow_exchange::Status;
-use memory_streams::SteadySink;
+use memory_io::SteadySink;
 use std::alloc::Global;
 
 const STATUSES: [Status; 15] = [

@@ -4,8 +4,7 @@ use crate::counting::Counts;
 use check_lines::Told;
 use exit_status::Status;
 use kept_exchange::{flow_disk, flow_disk_limited, flow_lines, flow_lines_limited};
-use memory_disk::MemoryDisk;
-use memory_streams::{MemorySink, MemorySource};
+use memory_io::{MemoryDisk, MemorySink, MemorySource};
 use std::alloc::Global;
 
 // More bytes than a case writes to the output.

@@ -2,7 +2,7 @@
 use crate::calling::{disk_from, put_digits};
 use check_lines::Told;
 use disk_edge::{Disk, DiskFailed};
-use memory_disk::MemoryDisk;
+use memory_io::MemoryDisk;
 use std::alloc::Global;
 
 // The most bytes of a read.

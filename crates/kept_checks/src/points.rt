@@ -6,7 +6,7 @@ use crate::calling::{disk_from, put_digits};
 use check_lines::Told;
 use disk_edge::Disk;
 use journal_disk::{Ahead, Appender, DiskFault, DiskJournal, recover, stored_first};
-use memory_disk::MemoryDisk;
+use memory_io::MemoryDisk;
 use std::alloc::Global;
 use wire_records::Version;
 

@@ -2,8 +2,8 @@
 use Rattle.std.proofs.Common.{◌≡◌, ℕ, ℤ, List, refl}
 use Rattle.market_rules.specs.Market.{Market, IsConsistent}
 use Rattle.market_parts.specs.Parts.{Parts, AreConsistent, HasParts, market_of}
-use Rattle.consistent_parts.specs.declared.made.ConsistentParts.{ConsistentParts}
-use Rattle.consistent_parts.specs.Made.{AreMadeOf}
+use Rattle.market_parts.specs.declared.made.ConsistentParts.{ConsistentParts}
+use Rattle.market_parts.specs.Made.{AreMadeOf}
 
 -- the market of the parts that were made, and of the numbers and prices that are read beside them
 abbrev pub made_market : ConsistentParts → ℕ → ℕ → List ℤ → Market

@@ -3,7 +3,7 @@ ghost use Rattle.std.specs.Prelude.{◌≡◌, ◌<◌, ◌≤◌, [], ◌∷◌
 ghost use Rattle.flow_accounts.specs.Balances.{asset_count};
 ghost use Rattle.flow_accounts.specs.Parts.{ArePlacesOf};
 ghost use Rattle.flow_accounts.specs.Places.{HasSpare};
-ghost use Rattle.consistent_parts.specs.Tests.{IsInShape};
+ghost use Rattle.market_parts.specs.Tests.{IsInShape};
 
 use flow_accounts::PLACES;
 use market_parts::MarketParts;

@@ -4,8 +4,7 @@ ghost use Rattle.market_parts.specs.Parts.{AreConsistent, HasParts};
 
 use crate::Market;
 use crate::prices::LastPrices;
-use consistent_parts::read_consistent;
-use market_parts::{MarketParts, RestoreFault};
+use market_parts::{MarketParts, RestoreFault, read_consistent};
 use std::alloc::Global;
 
 impl Market {

@@ -6,7 +6,7 @@ use crate::streams::{put_input, put_part};
 use crate::telling::{put, put_bytes};
 use check_lines::Told;
 use flow_io::{Filled, ReadFailed, Sink, Source, StdSink, StdSource, Window, read_all};
-use memory_streams::SteadySource;
+use memory_io::SteadySource;
 use std::alloc::Global;
 use std::io;
 use std::io::{ErrorKind, Read, Write};

@@ -2,7 +2,7 @@
 use crate::telling::{put, put_bytes};
 use check_lines::Told;
 use flow_io::{ReadAllFault, ReadFailed, Sink, Source, WholeInput, read_all};
-use memory_streams::{MemorySink, MemorySource, SteadySink, SteadySource};
+use memory_io::{MemorySink, MemorySource, SteadySink, SteadySource};
 use std::alloc::Global;
 
 // The most bytes of a read.

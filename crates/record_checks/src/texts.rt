@@ -3,7 +3,7 @@ use crate::telling::{put, put_command};
 use check_lines::Told;
 use curve_ladder::CommandList;
 use line_records::{EncodeFault, encode_lines};
-use memory_streams::SteadySink;
+use memory_io::SteadySink;
 use order_text::{LineFault, LineRead, read_line};
 use std::alloc::Global;
 use ticker_table::TickerTable;

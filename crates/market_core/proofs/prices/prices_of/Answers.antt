@@ -3,7 +3,7 @@ use Rattle.std.specs.Int.{w64}
 use Rattle.std.proofs.lemmas.Int.{to_z-of_z}
 use Rattle.std.proofs.lemmas.Option.{get_or_from_slice_get, slice_get-get_or}
 use Rattle.flow_accounts.proofs.Restoring.{place_filled}
-use Rattle.consistent_parts.proofs.Making.{some_of}
+use Rattle.market_parts.proofs.Making.{some_of}
 use Rattle.market_core.proofs.prices.prices_of.Goals as goal
 
 pub unwrap-requires : goal.unwrap-requires

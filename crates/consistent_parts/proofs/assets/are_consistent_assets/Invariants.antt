@@ -1,6 +1,0 @@
-use Rattle.std.proofs.Common.{ℕ, ◌<◌}
-use Rattle.consistent_parts.specs.Tests.{IsConsistentAsset}
-use Rattle.consistent_parts.proofs.assets.are_consistent_assets.Given as goal
-
-abbrev pub invariant-loop-asset : goal.invariant-loop-asset
-invariant-loop-asset g l = (k : ℕ) → k < l.asset → IsConsistentAsset (g.P.AccountParts.balances l.parts) (g.P.MarketParts.parts l.parts) k
