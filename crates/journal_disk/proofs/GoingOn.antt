@@ -68,4 +68,4 @@ module _ (head : Head) (pairs : List RecordPair) (place : ℕ) (rest : List ℕ)
   pub step_ends : (found : List ℕ) → IfSome disk.content (IsStep (Ok step.Closed) place place found) → EndsAt head pairs place disk
   step_ends found is =
       let found_step = told (IsStep (Ok step.Closed) place place found) is in
-      (found_step.0, found_step.1, found_step.2, subst (λ (l : List ℕ). Holds head pairs place l disk) (sym at_place ∙ found_step.3) holds)
+      (found_step.0, found_step.1, found_step.2, found_step.4, subst (λ (l : List ℕ). Holds head pairs place l disk) (sym at_place ∙ found_step.3) holds)

@@ -8,8 +8,8 @@ pub enum DiskFault {
     Failed,
     /// The disk holds something else than a journal.
     NotDisk,
-    /// There is no commit byte at this place, or one that is set and isn't followed by the length and bytes of a
-    /// complete entry.
+    /// There is no commit byte at this place; or one that is set and isn't followed by the length and bytes of a
+    /// complete entry; or one that isn't set and is followed by more bytes than a crash can leave, which are 2^21.
     Damaged(u64),
     /// Out of memory.
     Memory,
@@ -42,6 +42,6 @@ impl From<AllocError> for DiskFault {
 pub enum Step {
     /// A set one, with an entry, which was read.
     Pair,
-    /// One that isn't set.
+    /// One that isn't set, after the last entry.
     Closed,
 }

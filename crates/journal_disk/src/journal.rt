@@ -24,6 +24,10 @@ use wire_records::Version;
 // The most bytes that a journal has.
 pub(crate) const MOST_BYTES: u64 = 1 << 60;
 
+// The most bytes that may follow the commit byte after the last entry. A crash leaves there no more than was being
+// written: an entry with its length and a commit byte, which are at most 263,183 bytes.
+const MOST_UNKEPT: u64 = 1 << 21;
+
 /// Opens a disk that a crash may have left, after a sync, and returns its version; `None` exactly if it is new, which
 /// is a disk of at most 9 bytes, whatever it holds, or one whose first commit byte isn't set. Returns `NotDisk` exactly
 /// if it has more than 2^60 bytes, or more than 9 that begin with none of the magics, and `Failed` only if the disk's
@@ -79,11 +83,11 @@ impl DiskJournal {
     }
 
     /// Reads the next commit byte, and reads ahead what follows it if it is set: then it returns the stated length of
-    /// the entry, in bytes, and [`take`](DiskJournal::take) is next. `None` says that there is a commit byte and it
-    /// isn't set. `Damaged` has the place of the commit byte, and is returned if no byte is there, if the byte is set
-    /// and the length or as many bytes as it states don't follow in the first 2^60 bytes, or if it states more than an
-    /// entry may have. Returns `Failed` only if the disk's count rose, and may return `Memory` at any time. Changes
-    /// nothing of the disk.
+    /// the entry, in bytes, and [`take`](DiskJournal::take) is next. `None` says that there is a commit byte, it isn't
+    /// set, and at most 2^21 bytes follow it. `Damaged` has the place of the commit byte, and is returned if no byte is
+    /// there, if the byte isn't set and more than 2^21 bytes follow it, if it is set and the length or as many bytes as
+    /// it states don't follow in the first 2^60 bytes, or if it states more than an entry may have. Returns `Failed`
+    /// only if the disk's count rose, and may return `Memory` at any time. Changes nothing of the disk.
     pub fn find<D: Disk>(&self, disk: &mut D, ahead: &mut Ahead) -> Result<Option<usize>, DiskFault>
         requires piece { IfSome (D.state disk.old).content (IsPiece ahead.old) }
         ensures piece { IfSome (D.state disk.new).content (IsPiece ahead.new) }
@@ -101,6 +105,9 @@ impl DiskJournal {
             return Err(DiskFault::Damaged(place));
         }
         if byte_at(disk, ahead, place)? != OPEN {
+            if length - (place + 1) > MOST_UNKEPT {
+                return Err(DiskFault::Damaged(place));
+            }
             return Ok(None);
         }
         match stated_at(disk, ahead, place + 1, length.min(MOST_BYTES))? {
@@ -136,11 +143,11 @@ impl DiskJournal {
     }
 
     /// Reads the next entry into `pair`, which is emptied first, and moves on to the commit byte after it. `Closed`
-    /// says that there is a commit byte and it isn't set. `Damaged` has the place of the commit byte, and is returned
-    /// exactly if no byte is there, or if the byte is set and isn't followed by the length and bytes of one complete
-    /// entry in the first 2^60 bytes. Returns `Failed` only if the disk's count rose, and may return `Memory` at any
-    /// time. After `Closed` or an error `pair` is empty and the place as before. Changes nothing of the disk, which is
-    /// read ahead in pieces.
+    /// says that there is a commit byte, it isn't set, and at most 2^21 bytes follow it. `Damaged` has the place of the
+    /// commit byte, and is returned exactly if no byte is there, if the byte isn't set and more than 2^21 bytes follow
+    /// it, or if it is set and isn't followed by the length and bytes of one complete entry in the first 2^60 bytes.
+    /// Returns `Failed` only if the disk's count rose, and may return `Memory` at any time. After `Closed` or an error
+    /// `pair` is empty and the place as before. Changes nothing of the disk, which is read ahead in pieces.
     pub fn next<D: Disk>(
         &mut self,
         disk: &mut D,

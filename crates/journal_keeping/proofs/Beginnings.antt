@@ -85,4 +85,12 @@ bare_place begin p (version, is, none) =
 -- bytes without a checkpoint and without an entry are those of a new disk
 pub bare_new : (begin : Start) (p : List RecordPair) (bytes : List ℕ) → IsBare begin p → HasEntries (head_of begin) p bytes → IsNewDisk bytes
 bare_new begin p bytes (version, is, none) has =
-    inr (version, subst (λ (b : Start). HasEntries (head_of b) [] bytes) is (subst (λ (l : List RecordPair). HasEntries (head_of begin) l bytes) none has))
+    let bare : HasEntries (head_of (Empty version)) [] bytes =
+    subst (λ (b : Start). HasEntries (head_of b) [] bytes) is (subst (λ (l : List RecordPair). HasEntries (head_of begin) l bytes) none has) in
+    inr (record {
+      version = version;
+      commit = bare.commit;
+      shut = bare.shut;
+      rest = bare.rest;
+      encoded = bare.encoded ∙ ap (λ (l : List ℕ). l ++ bare.commit ∷ bare.rest) (magic_alone version);
+    })

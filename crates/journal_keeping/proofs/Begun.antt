@@ -49,8 +49,8 @@ fault_of_disk disk.Memory = tt
 
 ends_have : (head : Head) (pairs : List RecordPair) (place : ℕ) (disk : DiskState) (bytes : List ℕ) → EndsAt head pairs place disk → disk.content ≡ Some bytes → HasEntries head pairs bytes
 ends_have head pairs place disk bytes ends told =
-    let both : Some bytes ≡ Some (entries head pairs ++ ends.0 ∷ ends.2) = sym told ∙ ends.3.content in
-    record { lawful = ends.3.lawful; each = ends.3.each; commit = ends.0; shut = ends.1; rest = ends.2; encoded = cc }
+    let both : Some bytes ≡ Some (entries head pairs ++ ends.0 ∷ ends.2) = sym told ∙ ends.4.content in
+    record { lawful = ends.4.lawful; each = ends.4.each; commit = ends.0; shut = ends.1; rest = ends.2; few = ends.3; encoded = cc }
 
 -- ---- what is refused
 

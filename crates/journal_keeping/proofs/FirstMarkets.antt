@@ -1,5 +1,5 @@
 -- A first entry that holds a checkpoint, or doesn't.
-use Rattle.std.proofs.Common.{◌≡◌, ◌⊎◌, ⊎_elim, inr, ℕ, ◌+◌, ◌≤◌, List, [], ◌∷◌, ◌++◌, Option, Some, None, IfSome, length, take, drop, refl, sym, ap, subst, ◌∙◌, arith, append-nil, append_assoc, length-drop, take-append-drop}
+use Rattle.std.proofs.Common.{◌≡◌, ◌⊎◌, ⊎_elim, inl, inr, ℕ, ◌+◌, ◌≤◌, List, [], ◌∷◌, ◌++◌, Option, Some, None, IfSome, length, take, drop, refl, sym, ap, subst, ◌∙◌, arith, append-nil, append_assoc, length-drop, take-append-drop}
 use Rattle.std.proofs.lemmas.List.{drop_at}
 use Rattle.wire_records.specs.declared.version.Version.{Version}
 use Rattle.wire_records.proofs.RecordCode.{one_magic}
@@ -87,13 +87,13 @@ module _ (version : Version) (rest bytes : List ℕ) (disk later : DiskState) (t
         ⊎_elim
         (λ (is : fault ≡ Damaged 8). subst (λ (f : KeepFault). StopsFirst f bytes) (sym is) (
           refl,
-          inr (
+          inr (inl (
             framed held ++ frame.rest,
             frame.encoded,
             λ pair following has.
                 let found = frame_unique held _ frame.rest following frame.short (omega (arith, pair_short pair has.is_pair)) (tails 1 1 _ _ (sym frame.encoded ∙ has.encoded)) in
                 no_pair held magic (pair, has.is_pair, found.0),
-          ),
+          )),
           λ m first.
               let other = frame_of m first in
               let same = frame_unique held (checkpoint_bytes m) frame.rest other.rest frame.short other.short (tails 1 1 _ _ (sym frame.encoded ∙ other.encoded)) in

@@ -53,14 +53,14 @@ module _ (begin : Start) where
   -- a disk that keeps entries leaves an image that represents them
   kept_stands : (pairs : List RecordPair) (place : ℕ) (disk : DiskState) (image : List ℕ) → Keeps (head_of begin) pairs place disk → disk.images image → StandsFor (head_of begin) pairs image
   kept_stands pairs place disk image keeps left =
-      inr (record { lawful = keeps.2.lawful; each = keeps.2.each; commit = keeps.0; shut = keeps.1; rest = []; encoded = keeps.2.durable image left })
+      inr (record { lawful = keeps.2.lawful; each = keeps.2.each; commit = keeps.0; shut = keeps.1; rest = []; few = omega arith; encoded = keeps.2.durable image left })
 
   -- while a new disk stays new, it represents the old entries if the call began with them: there are none
   new_stands : (old : Pairs) (place : ℕ) (disk : DiskState) (image : List ℕ) → Keeps (head_of begin) (map records_of old) place disk → IsStillNew disk image → StandsForJournal begin old image
   new_stands old place disk image keeps still =
       let pairs = map records_of old in
       let few = new_none (head_of begin) pairs (entries (head_of begin) pairs ++ keeps.0 ∷ []) (subst (λ (o : Option (List ℕ)). IfSome o IsNewDisk) keeps.2.content still.0)
-      (record { lawful = keeps.2.lawful; each = keeps.2.each; commit = keeps.0; shut = keeps.1; rest = []; encoded = refl }) in
+      (record { lawful = keeps.2.lawful; each = keeps.2.each; commit = keeps.0; shut = keeps.1; rest = []; few = omega arith; encoded = refl }) in
       inl (still.1, few_first (head_of begin) pairs few, few_none (head_of begin) pairs few)
 
   -- the old entries, and none of the new ones

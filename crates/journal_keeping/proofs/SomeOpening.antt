@@ -1,5 +1,5 @@
 -- A disk's bytes are opened in some way.
-use Rattle.std.proofs.Common.{◌≡◌, ◌⊎◌, ⊎_elim, inl, inr, ℕ, zero, suc, ◌+◌, ◌≤◌, ◌<◌, ◌^◌, List, [], ◌∷◌, ◌++◌, length, drop, get_or, map, refl, sym, ap, ◌∙◌, arith, length-append}
+use Rattle.std.proofs.Common.{◌≡◌, ◌≢◌, ◌⊎◌, ⊎_elim, inl, inr, ℕ, zero, suc, ◌+◌, ◌≤◌, ◌<◌, ◌^◌, List, [], ◌∷◌, ◌++◌, length, drop, get_or, map, refl, sym, ap, ◌∙◌, arith, length-append}
 use Rattle.std.proofs.lemmas.Bool.{cases_eq}
 use Rattle.std.proofs.lemmas.List.{append-nil, drop_at}
 use Rattle.std.specs.List.{flat_map}
@@ -17,10 +17,10 @@ use Rattle.market_snapshot.specs.Checkpoints.{checkpoint_bytes}
 use Rattle.market_history.specs.Histories.{Start, Empty, Kept}
 use Rattle.batch_audit.specs.Legal.{IsLegalPair}
 use Rattle.journal_disk.specs.Pairs.{RecordPair, pair_bytes}
-use Rattle.journal_disk.specs.Entries.{IsHead, framed, entry, entries, disk_magic_of, IsNewDisk}
+use Rattle.journal_disk.specs.Entries.{IsHead, framed, entry, entries, disk_magic_of, most_unkept, IsNewDisk}
 use Rattle.journal_disk.specs.Recovering.{IsForeign}
 use Rattle.journal_disk.specs.Stepping.{HasEntryAt, IsDamagedAt}
-use Rattle.journal_disk.proofs.Entries.{empty_disk, magic_alone, magic_first, length-framed, disk_magics_told, eight}
+use Rattle.journal_disk.proofs.Entries.{magic_alone, magic_first, length-framed, disk_magics_told, eight}
 use Rattle.journal_disk.proofs.OneList.{unset_commit}
 use Rattle.journal_disk.proofs.OpenedEntries.{new_not_foreign}
 use Rattle.journal_disk.proofs.Excluding.{one_after}
@@ -59,7 +59,28 @@ module _ (begin : Start) (bytes : List ℕ) (long : ¬ IsNewDisk bytes) (known :
   -- a commit byte that is set, without an entry
   damaged : (legal : List (Pair Record Outcome)) (market : Market) (place : ℕ) (begins : At legal market place) (rest : List ℕ) → begins.rest ≡ 1 ∷ rest → (((p : RecordPair) × (following : List ℕ) × HasEntryAt place p following bytes) → ⊥) → Opens
   damaged legal market place begins rest is none =
-      damaged_at legal market place begins (inr (rest, at_commit legal market place begins ∙ is, λ p following has. none (p, following, has)))
+      damaged_at legal market place begins (inr (inl (rest, at_commit legal market place begins ∙ is, λ p following has. none (p, following, has))))
+
+  -- a commit byte that isn't set: the entries end there, or more bytes follow it than a crash leaves
+  shut_at : (legal : List (Pair Record Outcome)) (market : Market) (place : ℕ) (begins : At legal market place) (commit : ℕ) (rest : List ℕ) → begins.rest ≡ commit ∷ rest → commit ≢ 1 → (length rest ≤ most_unkept) ⊎ (most_unkept < length rest) → Opens
+  shut_at legal market place begins commit rest is shut (inl few) = (
+    Legal begin legal market,
+    (
+      long,
+      known,
+      begins.journal,
+      record {
+        lawful = lawful;
+        each = kept_each legal begins.journal.each;
+        commit = commit;
+        shut = shut;
+        rest = rest;
+        few = few;
+        encoded = begins.encoded ∙ ap (λ (l : List ℕ). entries (head_of begin) (map records_of legal) ++ l) is;
+      },
+    ),
+  )
+  shut_at legal market place begins commit rest is shut (inr many) = damaged_at legal market place begins (inr (inr (commit, shut, rest, at_commit legal market place begins ∙ is, many)))
 
   -- one more valid entry
   one_more : (legal : List (Pair Record Outcome)) (market : Market) (place : ℕ) (begins : At legal market place) (p : RecordPair) (following : List ℕ) → HasEntryAt place p following bytes → (new : Market) → IsLegalPair market p new
@@ -99,22 +120,7 @@ module _ (begin : Start) (bytes : List ℕ) (long : ¬ IsNewDisk bytes) (known :
   go_on (suc fuel) legal market place begins (commit ∷ rest) is few =
       ⊎_elim
       (λ (is_open : commit ≡ 1). follows (at_entry fuel (go_on fuel) legal market place begins commit rest is (omega (arith, few)) (is ∙ ap (λ (g : ℕ). g ∷ rest) is_open)) (one_of (Found place)))
-      (λ shut. not_denied (
-        Legal begin legal market,
-        (
-          long,
-          known,
-          begins.journal,
-          record {
-            lawful = lawful;
-            each = kept_each legal begins.journal.each;
-            commit = commit;
-            shut = shut;
-            rest = rest;
-            encoded = begins.encoded ∙ ap (λ (l : List ℕ). entries (head_of begin) (map records_of legal) ++ l) is;
-          },
-        ),
-      ))
+      (λ shut. not_denied (shut_at legal market place begins commit rest is shut (le_or_more (length rest) most_unkept)))
       (cases_eq commit 1)
 
 -- a disk that isn't new begins with a checkpoint, or without one
@@ -166,9 +172,9 @@ module _ (bytes : List ℕ) (long : 9 < length bytes) (small : length bytes ≤ 
       let known : ¬ IsForeign bytes = λ foreign. elim foreign [ inl large ↦ omega (arith, small, large) | inr none ↦ none.1 v (commit ∷ rest) tt is ] in
       ⊎_elim
       (λ (is_open : commit ≡ 1). follows
-      (by_first bytes (λ new. elim new [ inl short ↦ omega (arith, short, long) | inr closed ↦ closed.1.shut (sym (unset_commit closed.0 bytes closed.1) ∙ commit_of v commit rest is ∙ is_open) ]) known v (commit ∷ rest) is)
+      (by_first bytes (λ new. elim new [ inl short ↦ omega (arith, short, long) | inr closed ↦ closed.shut (sym (unset_commit bytes closed) ∙ commit_of v commit rest is ∙ is_open) ]) known v (commit ∷ rest) is)
       (one_of ((m : Market) × HasFirst m bytes)))
-      (λ shut. not_denied (New, (inr (v, empty_disk v commit rest bytes shut is), known)))
+      (λ shut. not_denied (New, (inr (record { version = v; commit = commit; shut = shut; rest = rest; encoded = is }), known)))
       (cases_eq commit 1)
     where
       commit_of : (v : Version) (commit : ℕ) (rest : List ℕ) → bytes ≡ disk_magic_of v ++ commit ∷ rest → get_or bytes 8 0 ≡ commit

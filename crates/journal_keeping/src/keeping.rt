@@ -31,12 +31,13 @@ use std::alloc::Global;
 /// looked at, which has to be a command file of the disk's version. A new disk begins as its source does, which is a command file, or a
 /// checkpoint and a command file of its version: the checkpoint becomes the first entry. So `NotDisk`, `Damaged` and `Rejected` come before
 /// the source is asked and before anything is written, and leave what the disk holds. `Damaged` has the place of the first commit byte
-/// that is missing, or is set without a complete entry after it; `Rejected` has the number of the first kept entry that isn't valid,
-/// counted from 1. A disk that isn't new and keeps no valid journal is never changed, whatever the result; a new one isn't changed before
-/// the whole beginning of a source was taken. `NotFlow` leaves the entries that are kept. `BadCheckpoint` comes on a new disk alone. At
-/// `Ok`, `Torn` and `TooLong` all complete records of the first `limit` bytes of the source are served, kept and written. `Disk`, `Read`
-/// and `Write` come only if the count of faults of the disk, the source or `out` rose, which stays as it was in every other case. `Memory`
-/// comes before anything is read from the source, for its checkpoint, or at a record that may allocate.
+/// that is missing, is set without a complete entry after it, or isn't set and has more than 2^21 bytes after it; `Rejected` has the number
+/// of the first kept entry that isn't valid, counted from 1. A disk that isn't new and keeps no valid journal is never changed, whatever
+/// the result; a new one isn't changed before the whole beginning of a source was taken. `NotFlow` leaves the entries that are kept.
+/// `BadCheckpoint` comes on a new disk alone. At `Ok`, `Torn` and `TooLong` all complete records of the first `limit` bytes of the source
+/// are served, kept and written. `Disk`, `Read` and `Write` come only if the count of faults of the disk, the source or `out` rose, which
+/// stays as it was in every other case. `Memory` comes before anything is read from the source, for its checkpoint, or at a record that
+/// may allocate.
 ///
 /// The source is read no further than 1,030 bytes past the last record whose entry was written, or past its beginning; if a read of it
 /// fails, all complete records that were taken are answered. In all at most one byte past the limit is taken.

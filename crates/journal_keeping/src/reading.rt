@@ -37,13 +37,13 @@ fn judge(audit: &mut Audit, pair: &PairView<'_>, number: u64) -> Result<(), Keep
 }
 
 /// Reads the entries that a disk keeps and audits one after the other, up to the first commit byte that isn't set, and returns how many
-/// there are. At `Ok` all of them are a valid journal, whose market the audit has. The audit has to be at the market in which the disk begins, and the journal after
-/// its magic, or after its first entry if that holds a checkpoint.
+/// there are. At `Ok` all of them are a valid journal, whose market the audit has, and at most 2^21 bytes follow that commit byte. The audit
+/// has to be at the market in which the disk begins, and the journal after its magic, or after its first entry if that holds a checkpoint.
 ///
-/// `Damaged` has the place of the first commit byte that is missing, or is set without a complete entry after it; `Rejected` has the
-/// number of the first entry that isn't valid, counted from 1. `Disk` comes only if the disk's count of faults rose; `Memory` may come at
-/// any time. The disk isn't changed. It is read in pieces of 65,536 bytes, and each entry is audited in place. Costs the audit of the
-/// entries, and memory for a piece, which grows to the longest of them.
+/// `Damaged` has the place of the first commit byte that is missing, is set without a complete entry after it, or isn't set and has more
+/// than 2^21 bytes after it; `Rejected` has the number of the first entry that isn't valid, counted from 1. `Disk` comes only if the disk's
+/// count of faults rose; `Memory` may come at any time. The disk isn't changed. It is read in pieces of 65,536 bytes, and each entry is
+/// audited in place. Costs the audit of the entries, and memory for a piece, which grows to the longest of them.
 pub fn audit_kept<D: Disk>(
     journal: &mut DiskJournal,
     disk: &mut D,

@@ -57,12 +57,12 @@ pub fn flow_disk_limited<S: Source, D: Disk, K: Sink, N: Sink>(
 /// it is new, and the source begins with the magic of a checkpoint but with no checkpoint of a consistent market; nothing is written then.
 ///
 /// `NotDisk` says that the disk holds something else: more than 9 bytes that begin with none of its magics, or more than 2^60. `Damaged`
-/// has the place, in bytes from 0, of the first commit byte that is missing, or is set without a complete entry after it; `Rejected` has
-/// the number of the first kept entry that isn't valid, counted from 1. None of these comes of a crash. A disk that isn't new and keeps no
-/// valid journal is never changed, whatever the status. `DiskFault` comes only if a call of the disk failed; the disk has to be opened
-/// again then. The other statuses are those of `run`, but a source of another version than the disk is `NotFlow` too, and so is one that
-/// begins with a checkpoint, if the disk isn't new. With every status but `Done` one line is written to `notes`; a fault of `notes` changes
-/// nothing.
+/// has the place, in bytes from 0, of the first commit byte that is missing, is set without a complete entry after it, or isn't set and has
+/// more than 2^21 bytes after it; `Rejected` has the number of the first kept entry that isn't valid, counted from 1. None of these comes
+/// of a crash. A disk that isn't new and keeps no valid journal is never changed, whatever the status. `DiskFault` comes only if a call of
+/// the disk failed; the disk has to be opened again then. The other statuses are those of `run`, but a source of another version than the
+/// disk is `NotFlow` too, and so is one that begins with a checkpoint, if the disk isn't new. With every status but `Done` one line is
+/// written to `notes`; a fault of `notes` changes nothing.
 ///
 /// The source is read no further than 1,030 bytes past the last record whose entry was written, or past its beginning, and at most one byte
 /// past the limit; if a read of it fails, all complete records that were taken are answered. `NoMemory` comes before it is read, while its

@@ -29,7 +29,7 @@ module _ (begin : Start) (start mid : DiskState) (old new : Pairs) (before m : M
   stands : (image : List ℕ) → mid.images image → StandsForJournal begin (old ++ new) image
   stands image left =
       let keeps = kept.keeps in
-      inr (record { lawful = keeps.2.lawful; each = keeps.2.each; commit = keeps.0; shut = keeps.1; rest = []; encoded = keeps.2.durable image left })
+      inr (record { lawful = keeps.2.lawful; each = keeps.2.each; commit = keeps.0; shut = keeps.1; rest = []; few = omega arith; encoded = keeps.2.durable image left })
 
   -- also if it is new
   still_stands : (image : List ℕ) → IsStillNew mid image → StandsForJournal begin (old ++ new) image
@@ -37,7 +37,7 @@ module _ (begin : Start) (start mid : DiskState) (old new : Pairs) (before m : M
       let keeps = kept.keeps in
       let pairs = map records_of (old ++ new) in
       let few = new_none (head_of begin) pairs (entries (head_of begin) pairs ++ keeps.0 ∷ []) (subst (λ (o : Option (List ℕ)). IfSome o IsNewDisk) keeps.2.content still.0)
-      (record { lawful = keeps.2.lawful; each = keeps.2.each; commit = keeps.0; shut = keeps.1; rest = []; encoded = refl }) in
+      (record { lawful = keeps.2.lawful; each = keeps.2.each; commit = keeps.0; shut = keeps.1; rest = []; few = omega arith; encoded = refl }) in
       inl (still.1, few_first (head_of begin) pairs few, few_none (head_of begin) pairs few)
 
   module _ (more : Pairs) where

@@ -36,4 +36,4 @@ returns-in-Closed-clause-ends g c = λ head pairs rest holds.
     let place = (e.stays (λ is. cc (is, c.in-Closed.is))).0 in
     let taken = subst (λ (s : Step). IfSome mid.content (IsStep (Ok s) c.pairs.journal c.next.new.self c.next.new.pair.items)) c.in-Closed.is e.step in
     let ends = step_ends head was.0 c.pairs.journal was.1 mid was.2 c.next.new.pair.items taken in
-    (was.0, (ends.0, ends.1, ends.2, subst (λ (n : ℕ). Holds head was.0 n (ends.0 ∷ ends.2) next) (sym place) (looks_hold head was.0 c.pairs.journal (ends.0 ∷ ends.2) mid next ends.3 e.looks)))
+    (was.0, (ends.0, ends.1, ends.2, ends.3, subst (λ (n : ℕ). Holds head was.0 n (ends.0 ∷ ends.2) next) (sym place) (looks_hold head was.0 c.pairs.journal (ends.0 ∷ ends.2) mid next ends.4 e.looks)))

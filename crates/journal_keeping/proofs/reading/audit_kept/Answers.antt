@@ -1,4 +1,4 @@
-use Rattle.std.proofs.Common.{Ok, Err, ◌≡◌, ◌+◌, ℕ, List, [], Option, map, refl, ap, subst, ◌∙◌, arith, IfSome}
+use Rattle.std.proofs.Common.{Ok, Err, ◌≡◌, ◌+◌, ℕ, List, [], Option, map, refl, sym, ap, subst, ◌∙◌, arith, IfSome}
 use Rattle.std.proofs.lemmas.Result.{err_from_is_err_and}
 use Rattle.journal_records.specs.Formats.{records_of}
 use Rattle.journal_disk.specs.Pairs.{RecordPair}
@@ -7,7 +7,9 @@ use Rattle.journal_disk.specs.Ahead.{IsPiece}
 use Rattle.journal_disk.specs.Stepping.{HasEntryAt, StatesAt, Finds}
 use Rattle.journal_disk.proofs.GoingOn.{looks_none, looks_more, looks_hold, entry_holds}
 use Rattle.journal_keeping.specs.Starts.{head_of}
-use Rattle.journal_keeping.proofs.Auditing.{by_both, none_read, one_read, stops_judged}
+use Rattle.journal_keeping.specs.Auditing.{StopsAs}
+use Rattle.journal_keeping.specs.declared.fault.KeepFault.{KeepFault}
+use Rattle.journal_keeping.proofs.Auditing.{by_both, none_read, one_read, stops_finding, stops_judged}
 use Rattle.journal_keeping.proofs.reading.audit_kept.Goals as goal
 
 pub pairs-init : goal.pairs-init
@@ -46,6 +48,13 @@ pairs-preserved g c =
       small = omega (arith, more, i.small, t.moves);
       quiet = e.cause.quiet (λ is. cc is) ∙ i.quiet;
     }
+
+pub returns-in-Err-clause-stops : goal.returns-in-Err-clause-stops
+returns-in-Err-clause-stops g c = λ begin rest bytes starts new holds told.
+    let i = c.pairs.invariant in
+    let was = i.reads begin rest starts new holds in
+    subst (λ (f : KeepFault). StopsAs begin f bytes) (sym c.from-in-Err.ensures)
+    (stops_finding begin was.0 c.pairs.audit c.pairs.journal was.1 bytes (g.D.Disk.state c.pairs.disk) was.2 was.4 (i.looks.content ∙ told) c.in-Err.fault c.in-Err.ensures.found)
 
 pub returns-in_err-judge-in-Ok-clause-stops : goal.returns-in_err-judge-in-Ok-clause-stops
 returns-in_err-judge-in-Ok-clause-stops g c =

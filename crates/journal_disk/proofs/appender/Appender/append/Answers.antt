@@ -21,7 +21,7 @@ write_synced-requires g c =
 pub returns-in_err-write_synced-clause-moments : goal.returns-in_err-write_synced-clause-moments
 returns-in_err-write_synced-clause-moments g c = λ head pairs last keeps is encoded.
     let filled = c.deref.ensures.value ∙ c.fill.ensures.filled in
-    cut_short head pairs last c.self.inside.place c.args.pair.now c.deref.result.now (g.D.Disk.state c.args.disk.now) (g.D.Disk.state c.write_synced.new.disk) (subst (λ (n : ℕ). Keeps head pairs n (g.D.Disk.state c.args.disk.now)) (sym c.self.view_is) keeps) is encoded filled (length c.deref.result.now) c.write_synced.ensures.moments
+    cut_short head pairs last c.self.inside.place c.args.pair.now c.deref.result.now (g.D.Disk.state c.args.disk.now) (g.D.Disk.state c.write_synced.new.disk) (subst (λ (n : ℕ). Keeps head pairs n (g.D.Disk.state c.args.disk.now)) (sym c.self.view_is) keeps) is encoded filled c.write_synced.ensures.moments
 
 pub returns-in_err-set_commit-clause-moments : goal.returns-in_err-set_commit-clause-moments
 returns-in_err-set_commit-clause-moments g c = λ head pairs last keeps is encoded.

@@ -11,7 +11,7 @@ write_synced-requires g c =
 
 pub returns-in_err-write_synced-clause-moments : goal.returns-in_err-write_synced-clause-moments
 returns-in_err-write_synced-clause-moments g c = λ version bytes keeps is filled.
-    first_cut_short version bytes c.self.inside.place c.args.stored.now (g.D.Disk.state c.args.disk.now) (g.D.Disk.state c.write_synced.new.disk) (subst (λ (n : ℕ). Keeps (record { version = version; first = None }) [] n (g.D.Disk.state c.args.disk.now)) (sym c.self.view_is) keeps) is filled (length c.args.stored.now) c.write_synced.ensures.moments
+    first_cut_short version bytes c.self.inside.place c.args.stored.now (g.D.Disk.state c.args.disk.now) (g.D.Disk.state c.write_synced.new.disk) (subst (λ (n : ℕ). Keeps (record { version = version; first = None }) [] n (g.D.Disk.state c.args.disk.now)) (sym c.self.view_is) keeps) is filled c.write_synced.ensures.moments
 
 pub returns-in_err-set_commit-clause-moments : goal.returns-in_err-set_commit-clause-moments
 returns-in_err-set_commit-clause-moments g c = λ version bytes keeps is filled.
