@@ -6,7 +6,7 @@ import shutil
 import subprocess
 import sys
 
-from kept_file import Damaged, Foreign, put_history
+from kept_file import Damaged, Foreign, NotCut, put_history
 
 TOP = os.path.realpath(f"{__file__}/../../..")
 
@@ -46,6 +46,8 @@ def history_of(place):
         sys.exit(f"{os.path.basename(sys.argv[0])}: {place} is not a flow disk")
     except Damaged as at:
         sys.exit(f"{os.path.basename(sys.argv[0])}: {place} is damaged at byte {at}")
+    except NotCut as at:
+        sys.exit(f"{os.path.basename(sys.argv[0])}: {place} is not cut: entries follow byte {at}")
     return kept.getvalue()
 
 

@@ -1,4 +1,5 @@
 """A reader of the files that `flow keep` writes, and files that it may write, by the formats alone."""
+import os
 import struct
 from collections import namedtuple
 
@@ -13,6 +14,9 @@ OPEN, CLOSED = b"\x01", b"\0"
 # A file of at most this many bytes is a new one, whatever it holds. A longer one is new if its first commit byte isn't set.
 MOST_NEW = 9
 
+# A file that isn't new has at most this many bytes after the commit byte that ends its entries.
+MOST_UNKEPT = 2 ** 21
+
 # The longest bodies of a command's record and of a reply's.
 MOST_ASKED, MOST_ANSWERED = 1_024, 262_144
 LONGEST = MOST_ASKED + MOST_ANSWERED + 2 * HEAD
@@ -26,7 +30,11 @@ class Foreign(Exception):
 
 
 class Damaged(Exception):
-    """The file has no complete entry where one should begin, at this byte."""
+    """The file has no complete entry where one should begin, at this byte, or too much follows a commit byte that isn't set."""
+
+
+class NotCut(Exception):
+    """Complete entries follow the commit byte at this place, which isn't set, so the next start cuts them off."""
 
 
 def is_pair(pair):
@@ -70,23 +78,39 @@ def begin(file):
     raise Foreign
 
 
+def next_pair(file):
+    """The entry whose length comes next in an open file, or no bytes if there is no complete one."""
+    length = int.from_bytes(file.read(4), "big")
+    pair = file.read(length) if length <= LONGEST else b""
+    return pair if len(pair) == length and is_pair(pair) else b""
+
+
 def kept_pairs(file):
-    """The entries that an open file keeps after its beginning, one after the other."""
+    """The entries that an open file keeps after its beginning, one after the other. Then the file is just after the commit byte that
+    isn't set."""
     if begin(file) is None:
+        file.seek(MOST_NEW)
         return
-    place = file.tell()
     while True:
-        commit = file.read(1)
-        if not commit:
-            raise Damaged(place)
-        if commit != OPEN:
+        place, commit = file.tell(), file.read(1)
+        if commit and commit != OPEN:
+            if file.seek(0, os.SEEK_END) - (place + 1) > MOST_UNKEPT:
+                raise Damaged(place)
+            file.seek(place + 1)
             return
-        length = int.from_bytes(file.read(4), "big")
-        pair = file.read(length) if length <= LONGEST else b""
-        if len(pair) < length or not is_pair(pair):
+        pair = next_pair(file) if commit else b""
+        if not pair:
             raise Damaged(place)
         yield pair
-        place += 1 + 4 + length
+
+
+def refuse_uncut(file):
+    """Refuses a file, open just after the commit byte that ends its entries, if what is stored there is followed by a set commit byte and a
+    complete entry. A stop leaves that nowhere; by a changed commit byte a start would cut off all that follows it."""
+    place = file.tell() - 1
+    file.seek(int.from_bytes(file.read(4), "big"), os.SEEK_CUR)
+    if file.read(1) == OPEN and next_pair(file):
+        raise NotCut(place)
 
 
 # Of a new file, which has no version yet.
@@ -94,13 +118,15 @@ NO_VERSION_YET = Head(2, b"")
 
 
 def put_history(file, out):
-    """Writes the history that an open file keeps: its checkpoint, or the magic of a journal, and its entries, and says how many these are."""
+    """Writes the history that an open file keeps: its checkpoint, or the magic of a journal, and its entries, and says how many these are.
+    Refuses a file with entries that a start would cut off, after it has written the others."""
     head, count = begin(file) or NO_VERSION_YET, 0
     out.write(head.checkpoint or b"FLOWJNL%d" % head.version)
     file.seek(0)
     for pair in kept_pairs(file):
         out.write(pair)
         count += 1
+    refuse_uncut(file)
     return count
 
 
