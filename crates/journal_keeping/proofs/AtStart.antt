@@ -18,8 +18,8 @@ use Rattle.market_history.specs.Histories.{Empty}
 use Rattle.market_history.specs.Kept.{FindsNone, FindsKept}
 use Rattle.market_history.specs.declared.start.StartFault.TheVariants.{Read, Memory, NoCheckpoint}
 use Rattle.market_history.proofs.Starting.{magic_on}
-use Rattle.journal_keeping.specs.declared.fault.KeepFault.{KeepFault}
-use Rattle.journal_keeping.specs.declared.fault.KeepFault.TheVariants as fault
+use Rattle.journal_keeping.specs.declared.fault.InputFault.{InputFault}
+use Rattle.journal_keeping.specs.declared.fault.InputFault.TheVariants as fault
 use Rattle.journal_keeping.specs.Starts.{BeginsUnsound, BeginsOtherwise}
 use Rattle.journal_keeping.specs.Beginning.{OpensStart, IsOfSource}
 use Rattle.journal_keeping.proofs.Magic.{at_most}
@@ -102,5 +102,5 @@ module _ (before x : Option (List ℕ)) (old : WindowState) (takes : Takes befor
         ((refl, unsound_first old.limit before y (old.held ++ more) all (magic_on old.held more magic) (omega (arith, some, few)) unsound), at_most before y (old.held ++ more) (old.limit + 1) all short)
 
 -- a window's limit stays as it was
-pub of_limit : (before after : Option (List ℕ)) (why : KeepFault) (now limit : ℕ) → now ≡ limit → IsOfSource None now before after why × TakesAtMost before after (now + 1) → IsOfSource None limit before after why × TakesAtMost before after (limit + 1)
+pub of_limit : (before after : Option (List ℕ)) (why : InputFault) (now limit : ℕ) → now ≡ limit → IsOfSource None now before after why × TakesAtMost before after (now + 1) → IsOfSource None limit before after why × TakesAtMost before after (limit + 1)
 of_limit before after why now limit same of = subst (λ (n : ℕ). IsOfSource None n before after why × TakesAtMost before after (n + 1)) same of

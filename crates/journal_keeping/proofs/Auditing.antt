@@ -19,10 +19,10 @@ use Rattle.journal_disk.specs.Stepping.{HasEntryAt, IsDamagedAt, FindsNone}
 use Rattle.journal_keeping.specs.Starts.{head_of}
 use Rattle.journal_keeping.specs.Keeping.{IsKeptJournal}
 use Rattle.journal_keeping.specs.Openings.{BeginsLegal}
-use Rattle.journal_keeping.specs.Faults.{kept_fault}
+use Rattle.journal_keeping.specs.Faults.{of_disk}
 use Rattle.journal_keeping.specs.Auditing.{StopsAs}
-use Rattle.journal_keeping.specs.declared.fault.KeepFault.TheVariants.{Damaged, Rejected, Memory}
-use Rattle.journal_keeping.specs.declared.fault.KeepFault.{KeepFault}
+use Rattle.journal_keeping.specs.declared.fault.OpenFault.TheVariants.{Damaged, Rejected, Memory}
+use Rattle.journal_keeping.specs.declared.fault.OpenFault.{OpenFault}
 use Rattle.journal_keeping.proofs.Serving.{right_more}
 
 abbrev Pairs : Type 0
@@ -70,7 +70,7 @@ module _ (begin : Start) where
     stops_damaged damage = (legal, market, begins, there (IsDamagedAt place) damage)
 
     -- a fault in finding the next entry
-    pub stops_finding : (fault : DiskFault) → IfSome now.content (FindsNone fault place) → StopsAs begin (kept_fault fault) bytes
+    pub stops_finding : (fault : DiskFault) → IfSome now.content (FindsNone fault place) → StopsAs begin (of_disk fault) bytes
     stops_finding disk.Failed finds = tt
     stops_finding disk.Memory finds = tt
     stops_finding disk.NotDisk finds = there (FindsNone disk.NotDisk place) finds
@@ -79,11 +79,11 @@ module _ (begin : Start) where
         (legal, market, subst (λ (n : ℕ). BeginsLegal begin bytes legal market n) (sym damage.0) begins, rw damage.0 damage.1)
 
     -- an entry that isn't valid, or whose audit ran out of memory
-    pub stops_judged : (fault : KeepFault) (number : ℕ) (pair : RecordPair) → number ≡ length legal + 1 → IfSome now.content (λ l. (rest : List ℕ) × HasEntryAt place pair rest l)
+    pub stops_judged : (fault : OpenFault) (number : ℕ) (pair : RecordPair) → number ≡ length legal + 1 → IfSome now.content (λ l. (rest : List ℕ) × HasEntryAt place pair rest l)
         → (fault ≡ Rejected number) ⊎ (fault ≡ Memory) → (fault ≡ Rejected number → IsIllegalPair market pair) → StopsAs begin fault bytes
     stops_judged fault number pair counted stands refused illegal =
         let one = there (λ l. (rest : List ℕ) × HasEntryAt place pair rest l) stands in
         ⊎_elim
-        (λ (is_rejected : fault ≡ Rejected number). subst (λ (f : KeepFault). StopsAs begin f bytes) (sym is_rejected) (legal, market, place, begins, pair, one.0, one.1, illegal is_rejected, counted))
-        (λ (wanted : fault ≡ Memory). subst (λ (f : KeepFault). StopsAs begin f bytes) (sym wanted) tt)
+        (λ (is_rejected : fault ≡ Rejected number). subst (λ (f : OpenFault). StopsAs begin f bytes) (sym is_rejected) (legal, market, place, begins, pair, one.0, one.1, illegal is_rejected, counted))
+        (λ (wanted : fault ≡ Memory). subst (λ (f : OpenFault). StopsAs begin f bytes) (sym wanted) tt)
         refused

@@ -20,15 +20,16 @@ use Rattle.journal_disk.specs.Recovering.{IsForeign, IsFound}
 use Rattle.journal_disk.specs.Stepping.{IsDamagedAt}
 use Rattle.journal_disk.proofs.Entries.{length-entries, least}
 use Rattle.journal_disk.proofs.OneList.{new_none, few_none}
-use Rattle.journal_disk.proofs.GoingOn.{looks_hold}
-use Rattle.journal_keeping.specs.declared.fault.KeepFault.{KeepFault}
-use Rattle.journal_keeping.specs.declared.fault.KeepFault.TheVariants.{Read, Write, Disk, Memory, NotDisk, Damaged, Rejected, NotFlow, BadCheckpoint, Torn, TooLong}
-use Rattle.journal_keeping.specs.Faults.{kept_fault}
+use Rattle.journal_disk.proofs.GoingOn.{looks_hold, looks_more}
+use Rattle.journal_keeping.proofs.Counts.{if_some}
+use Rattle.journal_keeping.specs.declared.fault.OpenFault.{OpenFault}
+use Rattle.journal_keeping.specs.declared.fault.OpenFault.TheVariants.{Disk, Memory, NotDisk, Damaged, Rejected}
+use Rattle.journal_keeping.specs.Faults.{of_disk}
 use Rattle.journal_keeping.specs.Starts.{version_of, head_of}
 use Rattle.journal_keeping.specs.Keeping.{IsKeptJournal, StandsForJournal, HoldsLegal, GoesOnIn}
 use Rattle.journal_keeping.specs.Openings.{Legal, IsOpening, OpensAs, KeepNone}
 use Rattle.journal_keeping.specs.Auditing.{StopsAs}
-use Rattle.journal_keeping.specs.Beginning.{IsReadUp, IsOpened, IsCounted, IsBegun, IsKeptOn, BeginsAt, StopsFirst, OpensNot, IsOfDisk, WhileOpening, OpensSafely, HasFirst}
+use Rattle.journal_keeping.specs.Beginning.{IsReadUp, IsOpened, IsCounted, IsBegun, IsKeptOn, BeginsAt, StopsFirst, OpensNot, WhileOpening, OpensSafely, HasFirst}
 use Rattle.journal_keeping.proofs.Auditing.{none_read}
 use Rattle.journal_keeping.proofs.Making.{SourceBegins}
 use Rattle.journal_keeping.proofs.Opened.{has_them, same_journal}
@@ -37,13 +38,6 @@ use Rattle.journal_keeping.proofs.OneOpening.{one_opening}
 
 abbrev Pairs : Type 0
 Pairs = List (Pair Record Outcome)
-
--- each fault of the journal on the disk is a fault of opening
-pub fault_of_disk : (fault : DiskFault) → IsOfDisk (kept_fault fault)
-fault_of_disk disk.Failed = tt
-fault_of_disk disk.NotDisk = tt
-fault_of_disk (disk.Damaged place) = tt
-fault_of_disk disk.Memory = tt
 
 -- ---- what the bytes represent
 
@@ -55,7 +49,7 @@ ends_have head pairs place disk bytes ends told =
 -- ---- what is refused
 
 -- the first entry isn't an entry, and holds no checkpoint of the version
-pub first_opened : (version : Version) (rest held : List ℕ) (next : DiskState) (fault : KeepFault) → (¬ IsNewDisk held) → (¬ IsForeign held) → next.content ≡ Some held → held ≡ entries (head_of (Empty version)) [] ++ rest → StopsFirst fault held → OpensNot held next fault
+pub first_opened : (version : Version) (rest held : List ℕ) (next : DiskState) (fault : OpenFault) → (¬ IsNewDisk held) → (¬ IsForeign held) → next.content ≡ Some held → held ≡ entries (head_of (Empty version)) [] ++ rest → StopsFirst fault held → OpensNot held next fault
 first_opened version rest held next Disk long known same is stops = tt
 first_opened version rest held next Memory long known same is stops = tt
 first_opened version rest held next (Damaged place) long known same is stops = (
@@ -81,18 +75,12 @@ first_opened version rest held next (Damaged place) long known same is stops = (
 )
 first_opened version rest held next NotDisk long known same is stops = absurd stops
 first_opened version rest held next (Rejected number) long known same is stops = absurd stops
-first_opened version rest held next Read long known same is stops = absurd stops
-first_opened version rest held next Write long known same is stops = absurd stops
-first_opened version rest held next NotFlow long known same is stops = absurd stops
-first_opened version rest held next BadCheckpoint long known same is stops = absurd stops
-first_opened version rest held next (Torn place) long known same is stops = absurd stops
-first_opened version rest held next TooLong long known same is stops = absurd stops
 
 -- a later place
 first_place : (begin : Start) (pairs : List RecordPair) → length (entries (head_of begin) pairs) ≡ 8 → length (entries (head_of begin) []) ≡ 8
 first_place begin pairs at = omega (arith, at, length-entries (head_of begin) pairs, length-entries (head_of begin) [], least (head_of begin) [])
 
-pub stops_opened : (begin : Start) (held : List ℕ) (next : DiskState) (fault : KeepFault) → (¬ IsNewDisk held) → (¬ IsForeign held) → next.content ≡ Some held
+pub stops_opened : (begin : Start) (held : List ℕ) (next : DiskState) (fault : OpenFault) → (¬ IsNewDisk held) → (¬ IsForeign held) → next.content ≡ Some held
     → (length (entries (head_of begin) []) ≡ 8 → (first : Market) → ¬ HasFirst first held) → StopsAs begin fault held → OpensNot held next fault
 stops_opened begin held next Disk long known same unfit stops = tt
 stops_opened begin held next Memory long known same unfit stops = tt
@@ -106,32 +94,26 @@ stops_opened begin held next (Damaged place) long known same unfit stops = (
 )
 stops_opened begin held next (Rejected number) long known same unfit stops = ((long, known, begin, stops.0, stops.1, stops.2, stops.3, stops.4, stops.5, stops.6, stops.7, stops.8), same)
 stops_opened begin held next NotDisk long known same unfit stops = absurd stops
-stops_opened begin held next Read long known same unfit stops = absurd stops
-stops_opened begin held next Write long known same unfit stops = absurd stops
-stops_opened begin held next NotFlow long known same unfit stops = absurd stops
-stops_opened begin held next BadCheckpoint long known same unfit stops = absurd stops
-stops_opened begin held next (Torn place) long known same unfit stops = absurd stops
-stops_opened begin held next TooLong long known same unfit stops = absurd stops
 
 -- after a failed call, or out of memory, nothing is said of the bytes
-not_begun : (held : List ℕ) (next : DiskState) (fault : DiskFault) → (fault ≡ disk.Failed) ⊎ (fault ≡ disk.Memory) → OpensNot held next (kept_fault fault)
+not_begun : (held : List ℕ) (next : DiskState) (fault : DiskFault) → (fault ≡ disk.Failed) ⊎ (fault ≡ disk.Memory) → OpensNot held next (of_disk fault)
 not_begun held next fault refused = ⊎_elim
-    (λ (is : fault ≡ disk.Failed). subst (λ (f : DiskFault). OpensNot held next (kept_fault f)) (sym is) tt)
-    (λ (is : fault ≡ disk.Memory). subst (λ (f : DiskFault). OpensNot held next (kept_fault f)) (sym is) tt)
+    (λ (is : fault ≡ disk.Failed). subst (λ (f : DiskFault). OpensNot held next (of_disk f)) (sym is) tt)
+    (λ (is : fault ≡ disk.Memory). subst (λ (f : DiskFault). OpensNot held next (of_disk f)) (sym is) tt)
     refused
 
-pub not_begun_known : (content : Option (List ℕ)) (next : DiskState) (fault : DiskFault) (kept : KeepFault) → kept ≡ kept_fault fault → (fault ≡ disk.Failed) ⊎ (fault ≡ disk.Memory) → IfSome content (λ held. OpensNot held next kept)
+pub not_begun_known : (content : Option (List ℕ)) (next : DiskState) (fault : DiskFault) (kept : OpenFault) → kept ≡ of_disk fault → (fault ≡ disk.Failed) ⊎ (fault ≡ disk.Memory) → IfSome content (λ held. OpensNot held next kept)
 not_begun_known None next fault kept is refused = tt
 not_begun_known (Some held) next fault kept is refused = subst (OpensNot held next) (sym is) (not_begun held next fault refused)
 
 pub err_fault : {T : Type 0} (a b : DiskFault) → ◌≡◌ {A = Result T DiskFault} (Err a) (Err b) → a ≡ b
 err_fault a b e = cc
 
-pub same_fault : {T : Type 0} (a b : KeepFault) → ◌≡◌ {A = Result T KeepFault} (Err a) (Err b) → a ≡ b
+pub same_fault : {T : Type 0} (a b : OpenFault) → ◌≡◌ {A = Result T OpenFault} (Err a) (Err b) → a ≡ b
 same_fault a b e = cc
 
 -- a failed call of the disk, and no other, is a fault of the disk
-pub is_failed : (fault : DiskFault) → kept_fault fault ≡ Disk → fault ≡ disk.Failed
+pub is_failed : (fault : DiskFault) → of_disk fault ≡ Disk → fault ≡ disk.Failed
 is_failed disk.Failed e = refl
 is_failed disk.NotDisk e = absurd cc
 is_failed (disk.Damaged place) e = absurd cc
@@ -331,7 +313,7 @@ count_known version (Some held) start mid next first market from place count sam
     all.1 ∙ legal_count at.begin begin all.0 old market m one
 
 -- no beginning was found
-pub first_known : (version : Version) (content : Option (List ℕ)) (start next : DiskState) (fault : KeepFault) → content ≡ start.content → next.content ≡ start.content → IfSome content (λ held. IsFound (Some version) held start)
+pub first_known : (version : Version) (content : Option (List ℕ)) (start next : DiskState) (fault : OpenFault) → content ≡ start.content → next.content ≡ start.content → IfSome content (λ held. IsFound (Some version) held start)
     → ((rest bytes : List ℕ) → start.content ≡ Some bytes → Holds (record { version = version; first = None }) [] 8 rest start → StopsFirst fault bytes) → IfSome content (λ held. OpensNot held next fault)
 first_known version None start next fault told same is stops = tt
 first_known version (Some held) start next fault told same is stops =
@@ -340,7 +322,7 @@ first_known version (Some held) start next fault told same is stops =
     first_opened version (drop 8 held) held next fault is.0 is.1 (same ∙ sym told) encoded (stops (drop 8 held) held (sym told) is.2)
 
 -- what was opened was read up to where it is refused
-pub stops_known : (version : Version) (content : Option (List ℕ)) (start mid next : DiskState) (first : Market) (from : ℕ) (fault : KeepFault) → content ≡ start.content → mid.content ≡ start.content → next.content ≡ mid.content → IfSome content (λ held. IsFound (Some version) held start)
+pub stops_known : (version : Version) (content : Option (List ℕ)) (start mid next : DiskState) (first : Market) (from : ℕ) (fault : OpenFault) → content ≡ start.content → mid.content ≡ start.content → next.content ≡ mid.content → IfSome content (λ held. IsFound (Some version) held start)
     → ((rest bytes : List ℕ) → start.content ≡ Some bytes → Holds (record { version = version; first = None }) [] 8 rest start → BeginsAt version bytes first from mid)
     → ((begin : Start) (rest bytes : List ℕ) → CanStart begin → first ≡ market_of begin → Holds (head_of begin) [] from rest mid → mid.content ≡ Some bytes → StopsAs begin fault bytes) → IfSome content (λ held. OpensNot held next fault)
 stops_known version None start mid next first from fault told same again is begins stops = tt
@@ -374,3 +356,9 @@ none_kept_on (Some held) version m place mid P begun = λ none. absurd (not_begu
 pub none_new : (content : Option (List ℕ)) (start : DiskState) (P : Type 0) → IfSome content (λ held. IsFound None held start) → IfSome content (λ held. KeepNone held → P)
 none_new None start P found = tt
 none_new (Some held) start P found = λ none. absurd (none.0 (found.0, found.1))
+
+-- the disk was only looked at before
+pub untouched_first : (a b c : DiskState) (P Q : Type 0) → OnlyLooks a b → IfSome b.content (λ held. KeepNone held → P × OnlyLooks b c × Q) → IfSome a.content (λ held. KeepNone held → P × OnlyLooks a c × Q)
+untouched_first a b c P Q looks is =
+    subst (λ (o : Option (List ℕ)). IfSome o (λ held. KeepNone held → P × OnlyLooks a c × Q)) looks.content
+    (if_some b.content _ _ (λ (held : List ℕ) so none. let it = so none in (it.0, looks_more a b c looks it.1, it.2)) is)

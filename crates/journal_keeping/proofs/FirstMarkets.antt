@@ -15,8 +15,8 @@ use Rattle.journal_disk.proofs.Entries.{first_after, magic_first, pair_short, di
 use Rattle.journal_disk.proofs.OneList.{frame_unique}
 use Rattle.journal_disk.proofs.FirstEntry.{first_holds}
 use Rattle.journal_disk.proofs.GoingOn.{looks_hold}
-use Rattle.journal_keeping.specs.declared.fault.KeepFault.{KeepFault}
-use Rattle.journal_keeping.specs.declared.fault.KeepFault.TheVariants.{Damaged, Memory}
+use Rattle.journal_keeping.specs.declared.fault.OpenFault.{OpenFault}
+use Rattle.journal_keeping.specs.declared.fault.OpenFault.TheVariants.{Damaged, Memory}
 use Rattle.journal_keeping.specs.Starts.{head_of}
 use Rattle.journal_keeping.specs.Beginning.{BeginsAt, StopsFirst, HasFirst}
 use Rattle.journal_keeping.proofs.Starts.{magic_first as checkpoint_first, no_pair}
@@ -82,10 +82,10 @@ module _ (version : Version) (rest bytes : List ℕ) (disk later : DiskState) (t
           unfit = λ eight_at. absurd (omega (arith, eight_at, at));
         }
 
-    pub stops_unfit : (fault : KeepFault) → (fault ≡ Damaged 8) ⊎ (fault ≡ Memory) → (fault ≡ Damaged 8 → (market : Market) → IsCheckpoint market held → market.version ≡ version → ⊥) → StopsFirst fault bytes
+    pub stops_unfit : (fault : OpenFault) → (fault ≡ Damaged 8) ⊎ (fault ≡ Memory) → (fault ≡ Damaged 8 → (market : Market) → IsCheckpoint market held → market.version ≡ version → ⊥) → StopsFirst fault bytes
     stops_unfit fault why none =
         ⊎_elim
-        (λ (is : fault ≡ Damaged 8). subst (λ (f : KeepFault). StopsFirst f bytes) (sym is) (
+        (λ (is : fault ≡ Damaged 8). subst (λ (f : OpenFault). StopsFirst f bytes) (sym is) (
           refl,
           inr (inl (
             framed held ++ frame.rest,
@@ -99,7 +99,7 @@ module _ (version : Version) (rest bytes : List ℕ) (disk later : DiskState) (t
               let same = frame_unique held (checkpoint_bytes m) frame.rest other.rest frame.short other.short (tails 1 1 _ _ (sym frame.encoded ∙ other.encoded)) in
               none is m (subst (λ (l : List ℕ). IsCheckpoint m l) (sym same.0) first.is_one) (of_version m first),
         ))
-        (λ (is : fault ≡ Memory). subst (λ (f : KeepFault). StopsFirst f bytes) (sym is) tt)
+        (λ (is : fault ≡ Memory). subst (λ (f : OpenFault). StopsFirst f bytes) (sym is) tt)
         why
 
 -- what is found, if the content is known

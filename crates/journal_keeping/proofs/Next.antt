@@ -18,8 +18,8 @@ use Rattle.journal_disk.specs.Entries.{Head, WithOrWithout, Keeps}
 use Rattle.journal_disk.specs.Lengths.{ReachesAtMost}
 use Rattle.journal_disk.proofs.Entries.{pair_short}
 use Rattle.journal_disk.proofs.Lengths.{reach_wider}
-use Rattle.journal_keeping.specs.declared.fault.KeepFault.{KeepFault}
-use Rattle.journal_keeping.specs.declared.fault.KeepFault.TheVariants.{Disk, Write}
+use Rattle.journal_keeping.specs.declared.fault.ServeFault.{ServeFault}
+use Rattle.journal_keeping.specs.declared.fault.ServeFault.TheVariants.{Disk, Write}
 use Rattle.journal_keeping.specs.Private.{KeepsOneMore, IsServed, TakesNext, BreaksNext, HasAllocating}
 use Rattle.journal_keeping.proofs.Turns.{is_record_pair, same_bytes, is_whole}
 
@@ -79,14 +79,14 @@ module _ (n : ℕ) (bytes : List ℕ) (old new : Market) (text : List ℕ) (one 
       (omega (arith, ap length their_bytes, pair_short (records_of pair_of) two_records, within.0, within.1, fits))
 
   -- the entry wasn't kept, or not written completely
-  pub breaks : (from to : ℕ) (disk later : DiskState) (before after : Option (List ℕ)) (SameDisk SameOut : Type 0) (fault : KeepFault) → (fault ≡ Disk) ⊎ (fault ≡ Write) → (fault ≡ Disk → SameOut)
+  pub breaks : (from to : ℕ) (disk later : DiskState) (before after : Option (List ℕ)) (SameDisk SameOut : Type 0) (fault : ServeFault) → (fault ≡ Disk) ⊎ (fault ≡ Write) → (fault ≡ Disk → SameOut)
       → ((head : Head) (pairs : List RecordPair) → Keeps head pairs from disk → AtEachMoment disk later (WithOrWithout head pairs (records_of pair_of)))
       → (fault ≡ Write → (head : Head) (pairs : List RecordPair) → Keeps head pairs from disk → Keeps head (pairs ++ records_of pair_of ∷ []) to later) → (fault ≡ Write → GrowsByPrefix before after text)
       → BreaksNext bytes old from to disk later before after SameDisk SameOut fault
   breaks from to disk later before after SameDisk SameOut fault refused silent moments keeps cut =
       let there : IsServed bytes old pair_of new = record { lawful = one.lawful; rest = drop n bytes; prefix = one.prefix; step = one.step.step; fits = fits } in
       ⊎_elim
-      (λ (is : fault ≡ Disk). subst (λ (f : KeepFault). BreaksNext bytes old from to disk later before after SameDisk SameOut f) (sym is) (silent is, pair_of, new, there, moments))
-      (λ (is : fault ≡ Write). subst (λ (f : KeepFault). BreaksNext bytes old from to disk later before after SameDisk SameOut f) (sym is)
+      (λ (is : fault ≡ Disk). subst (λ (f : ServeFault). BreaksNext bytes old from to disk later before after SameDisk SameOut f) (sym is) (silent is, pair_of, new, there, moments))
+      (λ (is : fault ≡ Write). subst (λ (f : ServeFault). BreaksNext bytes old from to disk later before after SameDisk SameOut f) (sym is)
       (pair_of, new, there, record { keeps = keeps is; moments = moments }, subst (λ (l : List ℕ). GrowsByPrefix before after l) one.step.encoded (cut is)))
       refused

@@ -1,5 +1,5 @@
 -- What was read and written when keeping a journal ended.
-use Rattle.std.proofs.Common.{◌≡◌, inl, inr, ℕ, ◌+◌, ◌-◌, ◌≤◌, List, [], ◌∷◌, ◌++◌, Option, Some, None, IfSome, Result, Ok, Err, length, take, flat_map, refl, sym, ap, subst, ◌∙◌, arith, append_assoc, length-append}
+use Rattle.std.proofs.Common.{◌≡◌, ⊎_elim, inl, inr, ℕ, ◌+◌, ◌-◌, ◌≤◌, List, [], ◌∷◌, ◌++◌, Option, Some, None, IfSome, Result, Ok, Err, length, take, flat_map, refl, sym, ap, subst, ◌∙◌, arith, append_assoc, length-append}
 use Rattle.std.proofs.lemmas.List.Elements.{All-nil}
 use Rattle.std.proofs.Math.Seq.{take-append-add}
 use Rattle.flow_io.specs.Streams.{Takes, TakesAtMost, Grows}
@@ -17,9 +17,19 @@ use Rattle.market_history.specs.Histories.{Start}
 use Rattle.file_units.specs.Units.{GoesToBreak}
 use Rattle.file_units.specs.Inputs.{known}
 use Rattle.disk_edge.specs.Disks.{DiskState}
-use Rattle.journal_keeping.specs.declared.fault.KeepFault.{KeepFault}
-use Rattle.journal_keeping.specs.declared.fault.KeepFault.TheVariants.{Read, Write, Disk, Memory, NotDisk, Damaged, Rejected, NotFlow, BadCheckpoint, Torn, TooLong}
-use Rattle.journal_keeping.specs.Starts.{source_start, sources}
+use Rattle.file_units.specs.declared.units.Ending.{Ending}
+use Rattle.file_units.specs.declared.units.Ending.TheVariants.{End, Torn, TooLong}
+use Rattle.file_units.specs.declared.input.TakeFault.{TakeFault}
+use Rattle.file_units.specs.declared.input.TakeFault.TheVariants.{Read, Broken}
+use Rattle.journal_keeping.specs.declared.fault.OpenFault.TheVariants as unopened
+use Rattle.journal_keeping.specs.declared.fault.InputFault.TheVariants as input
+use Rattle.journal_keeping.specs.declared.fault.BeginFault.{BeginFault}
+use Rattle.journal_keeping.specs.declared.fault.BeginFault.TheVariants.{Open, Input, Make}
+use Rattle.journal_keeping.specs.declared.fault.ServeFault.{ServeFault}
+use Rattle.journal_keeping.specs.declared.fault.ServeFault.TheVariants.{Disk, Write, Memory}
+use Rattle.journal_keeping.specs.declared.fault.KeepFault.TheVariants as kept
+use Rattle.journal_keeping.specs.Faults.{of_begin, kept_result}
+use Rattle.journal_keeping.specs.Starts.{version_of, source_start, sources}
 use Rattle.journal_keeping.specs.Pacing.{asked_of, AnswersAll, IsNear, KeepsPace, RunsOut}
 use Rattle.journal_keeping.specs.Private.{Adds, Names, ServesOn}
 use Rattle.journal_keeping.specs.Beginning.{IsBegun, IsAfterStart, BreaksOffEarly, NotBegun, IsNearStart, Unread}
@@ -27,7 +37,8 @@ use Rattle.journal_keeping.proofs.Turns.{Pairs}
 use Rattle.journal_keeping.proofs.Magic.{at_most}
 use Rattle.journal_keeping.proofs.Sources.{BeginsWithAll, asked_are_units, all_before_break, all_to_wanting, starts_with}
 use Rattle.journal_keeping.proofs.Begun.{opens_journal}
-use Rattle.journal_keeping.proofs.Whole.{all_written}
+use Rattle.journal_keeping.proofs.Faults.{begin_memory}
+use Rattle.journal_keeping.proofs.Whole.{all_written, wanted_one}
 
 -- ---- before a record was served
 
@@ -35,7 +46,7 @@ near_none : (limit : ℕ) (content held : Option (List ℕ)) → IsNear limit co
 near_none limit None held = tt
 near_none limit (Some bytes) held = (0, omega arith, inl (omega arith))
 
-read_early : (limit : ℕ) (content left held : Option (List ℕ)) → IfSome content (BreaksOffEarly limit left) → KeepsPace limit content left held held (Err Read)
+read_early : (limit : ℕ) (content left held : Option (List ℕ)) → IfSome content (BreaksOffEarly limit left) → KeepsPace limit content left held held (Err kept.Read)
 read_early limit None left held few = tt
 read_early limit (Some bytes) left held few = (few.0, few.1, inl (few.2, Grows-nothing held))
 
@@ -55,26 +66,34 @@ near_start limit (Some bytes) left held (n, taken, inr (input, body, magic, few)
   }),
 )
 
-pub paced_unread : (limit : ℕ) (content left held : Option (List ℕ)) (fault : KeepFault) → Unread limit content left fault → KeepsPace limit content left held held (Err fault)
-paced_unread limit content left held NotFlow why = tt
-paced_unread limit content left held BadCheckpoint why = tt
-paced_unread limit content left held NotDisk why = tt
-paced_unread limit content left held (Damaged n) why = tt
-paced_unread limit content left held (Rejected n) why = tt
-paced_unread limit content left held Read why = read_early limit content left held why
-paced_unread limit content left held Memory (inl same) = inl (subst (λ (o : Option (List ℕ)). IsNear limit content o held held) (sym same) (near_none limit content held))
-paced_unread limit content left held Memory (inr checkpoint) = inr (checkpoint, refl)
-paced_unread limit content left held Disk why = near_start limit content left held why
-paced_unread limit content left held Write why = absurd why
-paced_unread limit content left held (Torn n) why = absurd why
-paced_unread limit content left held TooLong why = absurd why
+pub paced_unread : (limit : ℕ) (content left held : Option (List ℕ)) (fault : BeginFault) → Unread limit content left fault → KeepsPace limit content left held held (Err (of_begin fault))
+paced_unread limit content left held (Open unopened.Disk) same = subst (λ (o : Option (List ℕ)). IsNear limit content o held held) (sym same) (near_none limit content held)
+paced_unread limit content left held (Open unopened.Memory) same = inl (subst (λ (o : Option (List ℕ)). IsNear limit content o held held) (sym same) (near_none limit content held))
+paced_unread limit content left held (Open unopened.NotDisk) same = tt
+paced_unread limit content left held (Open (unopened.Damaged n)) same = tt
+paced_unread limit content left held (Open (unopened.Rejected n)) same = tt
+paced_unread limit content left held (Input input.NotFlow) why = tt
+paced_unread limit content left held (Input input.BadCheckpoint) why = tt
+paced_unread limit content left held (Input input.Read) why = read_early limit content left held why.1
+paced_unread limit content left held (Input input.Memory) (wanted, inl same) = inl (subst (λ (o : Option (List ℕ)). IsNear limit content o held held) (sym same) (near_none limit content held))
+paced_unread limit content left held (Input input.Memory) (wanted, inr new) = inr (new.1, refl)
+paced_unread limit content left held Make near = near_start limit content left held near
 
-pub unread_out : (limit : ℕ) (held : List ℕ) (content left : Option (List ℕ)) (end : DiskState) (before : Option (List ℕ)) (fault : KeepFault) → NotBegun limit held content left end fault → fault ≡ Memory → RunsOut limit held content left end before before
-unread_out limit held content left end before fault why is = either_of (subst (NotBegun limit held content left end) is why)
+-- memory ran out before anything was served
+pub unread_out : (limit : ℕ) (held : List ℕ) (content left : Option (List ℕ)) (end : DiskState) (before : Option (List ℕ)) (fault : BeginFault) → NotBegun limit held content left end fault → of_begin fault ≡ kept.Memory → RunsOut limit held content left end before before
+unread_out limit held content left end before fault why is = ⊎_elim
+    (λ (e : fault ≡ Open unopened.Memory). opening (subst (NotBegun limit held content left end) e why))
+    (λ (e : fault ≡ Input input.Memory). reading (subst (NotBegun limit held content left end) e why))
+    (begin_memory fault is)
   where
-    either_of : NotBegun limit held content left end Memory → RunsOut limit held content left end before before
-    either_of (inl same) = inl (same, refl)
-    either_of (inr early) = inr (inl (early.0, early.1, refl, early.2))
+    opening : NotBegun limit held content left end (Open unopened.Memory) → RunsOut limit held content left end before before
+    opening at = inl (at.1, refl)
+
+    reading : NotBegun limit held content left end (Input input.Memory) → RunsOut limit held content left end before before
+    reading (inl (begin, old, market, opens, inl same, place, keeps)) = inl (same, refl)
+    reading (inl (begin, old, market, opens, inr new, place, keeps)) = absurd (wanted_one (version_of begin) new.0)
+    reading (inr (new, same, images, inl unread)) = inl (unread, refl)
+    reading (inr (new, same, images, inr early)) = inr (inl (new, same, refl, early.1))
 
 -- ---- records were served
 
@@ -98,13 +117,13 @@ module _ (limit : ℕ) (content mid left : Option (List ℕ)) (w : WindowState) 
   far : w.limit - w.place ≡ limit - length start
   far = omega (arith, following.limited, following.place)
 
-  abbrev Served : Result (Unit {0}) KeepFault → Type 0
+  abbrev Served : Result Ending (TakeFault ServeFault) → Type 0
   Served result = ServesOn w mid left result market place begun end before after
 
   all_taken : (taken : List ℕ) → Takes mid left taken → Takes content left (following.first ++ taken)
   all_taken taken takes = Takes-more content mid left following.first taken following.takes takes
 
-  pub taken_at_most : (result : Result (Unit {0}) KeepFault) → Served result → TakesAtMost content left (limit + 1)
+  pub taken_at_most : (result : Result Ending (TakeFault ServeFault)) → Served result → TakesAtMost content left (limit + 1)
   taken_at_most result on =
       at_most content left (following.first ++ on.goes.taken) (limit + 1) (all_taken on.goes.taken on.goes.takes)
       (omega (arith, length-append following.first on.goes.taken, first_long, following.few, on.goes.few, following.limited, following.place))
@@ -129,7 +148,7 @@ module _ (limit : ℕ) (content mid left : Option (List ℕ)) (w : WindowState) 
     }),
   )
 
-  broken_near : (fault : KeepFault) (result : Result (Unit {0}) KeepFault) (on : Served result) (goes : GoesToBreak commands Adds (Names on.market on.new on.more) (take (w.limit - w.place) (w.held ++ known on.goes.taken left)) fault [] tt tt) → length (w.held ++ on.goes.taken) ≤ length (encode_all commands.units goes.units) + (w.room + 1) → IsNear limit content left before after
+  broken_near : (fault : ServeFault) (result : Result Ending (TakeFault ServeFault)) (on : Served result) (goes : GoesToBreak commands Adds (Names on.market on.new on.more) (take (w.limit - w.place) (w.held ++ known on.goes.taken left)) fault [] tt tt) → length (w.held ++ on.goes.taken) ≤ length (encode_all commands.units goes.units) + (w.room + 1) → IsNear limit content left before after
   broken_near fault result on goes few =
       let first = all_before_break on.market (take (w.limit - w.place) (w.held ++ known on.goes.taken left)) fault on.new on.more goes in
       near_told content mid left on.goes.taken on.new on.whole.0 following.takes on.goes.takes
@@ -165,33 +184,28 @@ module _ (limit : ℕ) (content mid left : Option (List ℕ)) (w : WindowState) 
         },
       )
 
-  either : (o l : Option (List ℕ)) → IfSome o (λ bytes. (n : ℕ) × IsTaken bytes l n × AnswersAll (take n (take limit bytes)) before after) → KeepsPace limit o l before after (Err Read)
+  either : (o l : Option (List ℕ)) → IfSome o (λ bytes. (n : ℕ) × IsTaken bytes l n × AnswersAll (take n (take limit bytes)) before after) → KeepsPace limit o l before after (Err kept.Read)
   either None l all = tt
   either (Some bytes) l all = (all.0, all.1, inr all.2)
 
-  read_uncut : ¬ (◌≡◌ {A = Result (Unit {0}) KeepFault} (Err Read) (Err Write))
+  read_uncut : ¬ (◌≡◌ {A = Result Ending (TakeFault ServeFault)} (Err Read) (Err (Broken Write)))
   read_uncut e = absurd cc
 
-  memory_uncut : ¬ (◌≡◌ {A = Result (Unit {0}) KeepFault} (Err Memory) (Err Write))
+  memory_uncut : ¬ (◌≡◌ {A = Result Ending (TakeFault ServeFault)} (Err (Broken Memory)) (Err (Broken Write)))
   memory_uncut e = absurd cc
 
-  pub paced_served : (result : Result (Unit {0}) KeepFault) → Served result → KeepsPace limit content left before after result
-  paced_served (Ok done) on = all_left content left (following.first ++ on.goes.taken) (all_taken on.goes.taken on.goes.takes) (on.goes.goes.1 refl)
+  pub paced_served : (result : Result Ending (TakeFault ServeFault)) → Served result → KeepsPace limit content left before after (kept_result result)
+  paced_served (Ok End) on = all_left content left (following.first ++ on.goes.taken) (all_taken on.goes.taken on.goes.takes) (on.goes.goes.1 refl)
+  paced_served (Ok (Torn n)) on = tt
+  paced_served (Ok TooLong) on = tt
   paced_served (Err Read) on =
       let goes = on.goes.goes in
       either content left (read_all content mid left on.goes.taken on.new goes.units goes.reads.rest following.takes on.goes.takes (asked_are_units [] goes.units on.new tt tt goes.leads)
       (subst (λ (n : ℕ). take (length (w.held ++ on.goes.taken)) (take n (w.held ++ known on.goes.taken left)) ≡ encode_all commands.units goes.units ++ goes.reads.rest) far goes.reads.whole) goes.reads.none
-      (all_written (◌≡◌ {A = Result (Unit {0}) KeepFault} (Err Read) (Err Write)) before after on.new on.more on.acknowledged read_uncut on.ended.0 on.ended.1 on.written))
-  paced_served (Err Write) on = broken_near Write (Err Write) on on.goes.goes.0 on.goes.goes.1
-  paced_served (Err Disk) on = broken_near Disk (Err Disk) on on.goes.goes.0 on.goes.goes.1
-  paced_served (Err Memory) on = inl (broken_near Memory (Err Memory) on on.goes.goes.0 on.goes.goes.1)
-  paced_served (Err NotDisk) on = tt
-  paced_served (Err (Damaged n)) on = tt
-  paced_served (Err (Rejected n)) on = tt
-  paced_served (Err NotFlow) on = tt
-  paced_served (Err BadCheckpoint) on = tt
-  paced_served (Err (Torn n)) on = tt
-  paced_served (Err TooLong) on = tt
+      (all_written (◌≡◌ {A = Result Ending (TakeFault ServeFault)} (Err Read) (Err (Broken Write))) before after on.new on.more on.acknowledged read_uncut on.ended.0 on.ended.1 on.written))
+  paced_served (Err (Broken Write)) on = broken_near Write (Err (Broken Write)) on on.goes.goes.0 on.goes.goes.1
+  paced_served (Err (Broken Disk)) on = broken_near Disk (Err (Broken Disk)) on on.goes.goes.0 on.goes.goes.1
+  paced_served (Err (Broken Memory)) on = inl (broken_near Memory (Err (Broken Memory)) on on.goes.goes.0 on.goes.goes.1)
 
   -- a record that may allocate
   starts_where : (o : Option (List ℕ)) (taken : List ℕ) (records : List Record) → Takes o mid following.first → Takes mid left taken → BeginsWithAll (take (limit - length start) (w.held ++ known taken left)) records
@@ -199,7 +213,7 @@ module _ (limit : ℕ) (content mid left : Option (List ℕ)) (w : WindowState) 
   starts_where None taken records opens takes all = tt
   starts_where (Some bytes) taken records opens takes all = starts_with input limit bytes following.first w.held taken mid left records opens following.magic following.few takes all
 
-  pub wants_next : (held : List ℕ) (begin : Start) → IsBegun held begin input market place begun → (result : Result (Unit {0}) KeepFault) → Served result → ◌≡◌ {A = Result (Unit {0}) KeepFault} result (Err Memory) → RunsOut limit held content left end before after
+  pub wants_next : (held : List ℕ) (begin : Start) → IsBegun held begin input market place begun → (result : Result Ending (TakeFault ServeFault)) → Served result → result ≡ Err (Broken Memory) → RunsOut limit held content left end before after
   wants_next held begin is result on0 lacks =
       let on = subst Served lacks on0 in
       let wanting = all_to_wanting on.market (take (w.limit - w.place) (w.held ++ known on.goes.taken left)) on.new on.more on.goes.goes.0 in
@@ -219,5 +233,5 @@ module _ (limit : ℕ) (content mid left : Option (List ℕ)) (w : WindowState) 
         allocates = wanting.2;
         place = kept.0;
         keeps = kept.1;
-        written = all_written (◌≡◌ {A = Result (Unit {0}) KeepFault} (Err Memory) (Err Write)) before after on.new on.more on.acknowledged memory_uncut on.ended.0 on.ended.1 on.written;
+        written = all_written (◌≡◌ {A = Result Ending (TakeFault ServeFault)} (Err (Broken Memory)) (Err (Broken Write))) before after on.new on.more on.acknowledged memory_uncut on.ended.0 on.ended.1 on.written;
       }))

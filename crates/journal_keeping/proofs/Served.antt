@@ -10,8 +10,10 @@ use Rattle.market_rules.specs.Market.{Market}
 use Rattle.market_history.specs.Histories.{Start}
 use Rattle.file_units.specs.Inputs.{known}
 use Rattle.disk_edge.specs.Disks.{DiskState}
-use Rattle.journal_keeping.specs.declared.fault.KeepFault.{KeepFault}
-use Rattle.journal_keeping.specs.declared.fault.KeepFault.TheVariants.{Read, Write, Disk, Memory, NotDisk, Damaged, Rejected, NotFlow, BadCheckpoint, Torn, TooLong}
+use Rattle.file_units.specs.declared.units.Ending.{Ending}
+use Rattle.file_units.specs.declared.input.TakeFault.{TakeFault}
+use Rattle.file_units.specs.declared.input.TakeFault.TheVariants.{Read, Broken}
+use Rattle.journal_keeping.specs.declared.fault.ServeFault.{ServeFault}
 use Rattle.journal_keeping.specs.Starts.{source_start, sources}
 use Rattle.journal_keeping.specs.Private.{ServesOn}
 use Rattle.journal_keeping.specs.Pacing.{asked_of}
@@ -23,21 +25,12 @@ none_more : (bytes : List ℕ) (new more : Pairs) → more ≡ [] → BeginsWith
 none_more bytes new more none all = subst (λ (l : Pairs). BeginsWithAll bytes (asked_of l)) (sym (ap (λ (m : Pairs). new ++ m) none ∙ append-nil new)) all
 
 -- the known bytes, from those that the window held on, begin with the served records
-pub served_first : (window : WindowState) (mid left : Option (List ℕ)) (result : Result (Unit {0}) KeepFault) (before : Market) (from : ℕ) (start end : DiskState) (held holds : Option (List ℕ)) (on : ServesOn window mid left result before from start end held holds)
+pub served_first : (window : WindowState) (mid left : Option (List ℕ)) (result : Result Ending (TakeFault ServeFault)) (before : Market) (from : ℕ) (start end : DiskState) (held holds : Option (List ℕ)) (on : ServesOn window mid left result before from start end held holds)
     → BeginsWithAll (take (window.limit - window.place) (window.held ++ known on.goes.taken left)) (asked_of (on.new ++ on.more))
-served_first window mid left (Ok done) before from start end held holds on = none_more _ on.new on.more on.ended.0 (all_to_end _ _ _ _ on.new on.goes.goes.0)
-served_first window mid left (Err (Torn n)) before from start end held holds on = none_more _ on.new on.more on.ended.0 (all_to_end _ _ _ _ on.new on.goes.goes.0)
-served_first window mid left (Err TooLong) before from start end held holds on = none_more _ on.new on.more on.ended.0 (all_to_end _ _ _ _ on.new on.goes.goes.0)
+served_first window mid left (Ok ending) before from start end held holds on = none_more _ on.new on.more on.ended.0 (all_to_end _ _ _ _ on.new on.goes.goes.0)
 served_first window mid left (Err Read) before from start end held holds on =
     longer (length (window.held ++ on.goes.taken)) _ _ (none_more _ on.new on.more on.ended.0 (all_to_end _ _ _ _ on.new on.goes.goes))
-served_first window mid left (Err Write) before from start end held holds on = all_to_break on.market _ Write on.new on.more on.goes.goes.0
-served_first window mid left (Err Disk) before from start end held holds on = all_to_break on.market _ Disk on.new on.more on.goes.goes.0
-served_first window mid left (Err Memory) before from start end held holds on = all_to_break on.market _ Memory on.new on.more on.goes.goes.0
-served_first window mid left (Err NotDisk) before from start end held holds on = absurd on.ended
-served_first window mid left (Err (Damaged n)) before from start end held holds on = absurd on.ended
-served_first window mid left (Err (Rejected n)) before from start end held holds on = absurd on.ended
-served_first window mid left (Err NotFlow) before from start end held holds on = absurd on.ended
-served_first window mid left (Err BadCheckpoint) before from start end held holds on = absurd on.ended
+served_first window mid left (Err (Broken fault)) before from start end held holds on = all_to_break on.market _ fault on.new on.more on.goes.goes.0
 
 -- the bytes of the source begin so, and with the served records
 pub are_served : (input : Start) (limit : ℕ) (content mid left : Option (List ℕ)) (first held taken : List ℕ) (records : List Record) → Takes content mid first → BeginsWith sources.magics first input held → length first ≤ limit → Takes mid left taken

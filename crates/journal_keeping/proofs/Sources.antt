@@ -1,6 +1,6 @@
 -- The records that were served are the first ones of what was read.
 use Rattle.std.proofs.Common.{◌≡◌, ⊎_elim, ℕ, ◌-◌, ◌+◌, List, [], ◌∷◌, ◌++◌, Option, Some, None, ◌≤◌, length, take, drop, refl, sym, ap, subst, ◌∙◌, arith, append_assoc, length-append, take-append-drop}
-use Rattle.std.specs.Prelude.{All}
+use Rattle.std.specs.Prelude.{All, ⊤}
 use Rattle.std.proofs.lemmas.List.{append-nil, map-append}
 use Rattle.std.proofs.lemmas.List.Elements.{All-append, All-cons, All-nil}
 use Rattle.std.proofs.lemmas.Grind.{flat_map-append}
@@ -17,8 +17,8 @@ use Rattle.market_rules.specs.Allocating.{RecordMayAllocate}
 use Rattle.market_history.specs.Histories.{Start}
 use Rattle.file_units.specs.Units.{Leads, GoesToEnd, GoesToBreak}
 use Rattle.file_units.specs.Inputs.{known}
-use Rattle.journal_keeping.specs.declared.fault.KeepFault.{KeepFault}
-use Rattle.journal_keeping.specs.declared.fault.KeepFault.TheVariants.{Memory}
+use Rattle.journal_keeping.specs.declared.fault.ServeFault.{ServeFault}
+use Rattle.journal_keeping.specs.declared.fault.ServeFault.TheVariants.{Memory}
 use Rattle.journal_keeping.specs.Starts.{source_start, sources}
 use Rattle.journal_keeping.specs.Private.{Adds, Names}
 use Rattle.journal_keeping.specs.Pacing.{asked_of}
@@ -30,7 +30,7 @@ pub record BeginsWithAll (bytes : List ℕ) (records : List Record) : Type 0 whe
   pub whole : bytes ≡ encode_all commands.units records ++ rest
   pub each : All commands.units.IsLawful records
 
-pub asked_are_units : (old : Pairs) (units : List Record) (new : Pairs) (x y : Unit {0}) → Leads commands Adds old x units new y → asked_of new ≡ asked_of old ++ units
+pub asked_are_units : (old : Pairs) (units : List Record) (new : Pairs) (x y : ⊤) → Leads commands Adds old x units new y → asked_of new ≡ asked_of old ++ units
 asked_are_units old [] new x y leads = ap asked_of leads.0 ∙ sym (append-nil (asked_of old))
 asked_are_units old (unit ∷ units) new x y leads =
     let next = leads.0 in
@@ -49,7 +49,7 @@ all_to_end place More bytes ending new goes =
     subst (λ (l : List Record). BeginsWithAll bytes l) (sym is) (record { rest = goes.reads.rest; whole = goes.reads.whole; each = goes.reads.each })
 
 -- all records that were taken, and the one at which it broke off
-pub all_to_break : (market : Market) (bytes : List ℕ) (fault : KeepFault) (new more : Pairs) → GoesToBreak commands Adds (Names market new more) bytes fault [] tt tt → BeginsWithAll bytes (asked_of (new ++ more))
+pub all_to_break : (market : Market) (bytes : List ℕ) (fault : ServeFault) (new more : Pairs) → GoesToBreak commands Adds (Names market new more) bytes fault [] tt tt → BeginsWithAll bytes (asked_of (new ++ more))
 all_to_break market bytes fault new more goes =
     let off = goes.breaks in
     let named = off.broken in
@@ -67,7 +67,7 @@ all_to_break market bytes fault new more goes =
     named.1
 
 -- all records before the one at which it broke off
-pub all_before_break : (market : Market) (bytes : List ℕ) (fault : KeepFault) (new more : Pairs) (goes : GoesToBreak commands Adds (Names market new more) bytes fault [] tt tt)
+pub all_before_break : (market : Market) (bytes : List ℕ) (fault : ServeFault) (new more : Pairs) (goes : GoesToBreak commands Adds (Names market new more) bytes fault [] tt tt)
     → BeginsWithAll bytes (asked_of new) × (asked_of new ≡ goes.units)
 all_before_break market bytes fault new more goes =
     let is : asked_of new ≡ goes.units = ap asked_of (sym goes.breaks.broken.0) ∙ asked_are_units [] goes.units goes.middle tt goes.between goes.leads in

@@ -23,16 +23,25 @@ use Rattle.file_units.proofs.Endings.{reads_alike}
 use Rattle.disk_edge.specs.Disks.{DiskState, IsDisk}
 use Rattle.journal_disk.specs.Recovering.{IsFound}
 use Rattle.journal_disk.specs.Entries.{Keeps}
-use Rattle.journal_keeping.specs.declared.fault.KeepFault.{KeepFault}
-use Rattle.journal_keeping.specs.declared.fault.KeepFault.TheVariants.{Read, Write, Disk, Memory, NotDisk, Damaged, Rejected, NotFlow, BadCheckpoint, Torn, TooLong}
-use Rattle.journal_keeping.specs.Starts.{head_of, source_start, sources}
+use Rattle.file_units.specs.declared.input.TakeFault.{TakeFault}
+use Rattle.file_units.specs.declared.input.TakeFault.TheVariants.{Read, Broken}
+use Rattle.journal_keeping.specs.declared.fault.OpenFault.{OpenFault}
+use Rattle.journal_keeping.specs.declared.fault.OpenFault.TheVariants as unopened
+use Rattle.journal_keeping.specs.declared.fault.InputFault.{InputFault}
+use Rattle.journal_keeping.specs.declared.fault.InputFault.TheVariants as input
+use Rattle.journal_keeping.specs.declared.fault.BeginFault.{BeginFault}
+use Rattle.journal_keeping.specs.declared.fault.BeginFault.TheVariants.{Open, Input, Make}
+use Rattle.journal_keeping.specs.declared.fault.ServeFault.{ServeFault}
+use Rattle.journal_keeping.specs.declared.fault.ServeFault.TheVariants.{Disk, Write, Memory}
+use Rattle.journal_keeping.specs.Faults.{of_begin, kept_result}
+use Rattle.journal_keeping.specs.Starts.{version_of, head_of, source_start, sources}
 use Rattle.journal_keeping.specs.Keeping.{IsKeptJournal, StandsForJournal, IsLegalImage, HoldsLegal, GoesOn, GoesOnIn, StandIn, Runs, KeepsIn}
 use Rattle.journal_keeping.specs.Openings.{Opening, New, Legal}
 use Rattle.journal_keeping.specs.Openings as opening
 use Rattle.journal_keeping.specs.Ended.{IsRefused, HasKeptAll, ComesTo, IsRefusal, MayBeginAgain}
-use Rattle.journal_keeping.specs.Private.{Adds, IfEnded, ServesOn}
+use Rattle.journal_keeping.specs.Private.{Adds, ServesOn}
 use Rattle.journal_keeping.specs.Pacing.{asked_of}
-use Rattle.journal_keeping.specs.Beginning.{IsBegun, IsKeptOn, OpensNot, IsOfDisk, IsAfterStart, IsOfSource, NotBegun, Unread, Asked, OpensSafely}
+use Rattle.journal_keeping.specs.Beginning.{IsBegun, IsKeptOn, OpensNot, IsAfterStart, IsOfSource, NotBegun, Unread, OpensSafely}
 use Rattle.journal_keeping.proofs.Serving.{unbegun, opened_first, stand_whole}
 use Rattle.journal_keeping.proofs.Ends.{take_every}
 use Rattle.journal_keeping.proofs.Again.{can_begin_again}
@@ -42,6 +51,8 @@ use Rattle.journal_keeping.proofs.Sources.{BeginsWithAll, asked_are_units}
 use Rattle.journal_keeping.proofs.Served.{served_first, are_served}
 use Rattle.journal_keeping.proofs.Begun.{Opens, opens_journal}
 use Rattle.journal_keeping.proofs.Starts.{of_source}
+use Rattle.journal_keeping.proofs.Counts.{if_some}
+use Rattle.journal_keeping.proofs.Faults.{begin_refusal, no_refusal_disk, no_refusal_memory}
 
 -- ---- what a run does to the disk and to the output
 
@@ -60,6 +71,31 @@ keeps_none limit content Cut begin start next old market held is_disk safe = (
     served = inl refl;
     runs = unbegun safe.of start next old safe.from safe.journal is_disk safe.moments;
     written = stand_whole Cut held held [] (Grows-nothing held);
+  },
+)
+
+-- a write may be cut short in more cases
+pub cut_wider : (limit : ℕ) (content : Option (List ℕ)) (Less Cut : Type 0) → (Less → Cut) → (begin : Start) (start end : DiskState) (old : Pairs) (market : Market) (before after : Option (List ℕ))
+    → KeepsIn limit content Less begin start end old market before after → KeepsIn limit content Cut begin start end old market before after
+cut_wider limit content Less Cut wider begin start end old market before after (of, from, input, goes, keeps) = (
+  of,
+  from,
+  input,
+  goes,
+  record {
+    records = keeps.records;
+    new = keeps.new;
+    acknowledged = keeps.acknowledged;
+    served = keeps.served;
+    runs = keeps.runs;
+    written = record {
+      whole = keeps.written.whole;
+      last = keeps.written.last;
+      parts = keeps.written.parts;
+      one = keeps.written.one;
+      none = λ not. keeps.written.none (λ less. not (wider less));
+      written = keeps.written.written;
+    };
   },
 )
 
@@ -133,111 +169,40 @@ all_written Cut held holds new more acknowledged not none all stands =
 
 -- ---- by the result
 
--- nothing was served
-pub comes_not_begun : (limit : ℕ) (held : List ℕ) (content left : Option (List ℕ)) (end : DiskState) (before : Option (List ℕ)) (fault : KeepFault) → NotBegun limit held content left end fault → ComesTo limit held content end before before (Err fault)
-comes_not_begun limit held content left end before NotDisk is = is
-comes_not_begun limit held content left end before (Damaged place) is = is
-comes_not_begun limit held content left end before (Rejected number) is = is
-comes_not_begun limit held content left end before NotFlow is = is before
-comes_not_begun limit held content left end before BadCheckpoint is = (Grows-nothing before, is)
-comes_not_begun limit held content left end before Disk is = tt
-comes_not_begun limit held content left end before Memory is = tt
-comes_not_begun limit held content left end before Read is = tt
-comes_not_begun limit held content left end before Write is = absurd is
-comes_not_begun limit held content left end before (Torn place) is = absurd is
-comes_not_begun limit held content left end before TooLong is = absurd is
+-- a version that is wanted is one
+pub wanted_one : (version : Version) → ¬ (◌≡◌ {A = Option Version} (Some version) None)
+wanted_one version e = absurd cc
 
--- a fault at the opening of the disk
-pub not_begun_disk : (limit : ℕ) (held : List ℕ) (content : Option (List ℕ)) (end : DiskState) (fault : KeepFault) → OpensNot held end fault → NotBegun limit held content content end fault
-not_begun_disk limit held content end NotDisk is = is
-not_begun_disk limit held content end (Damaged place) is = is
-not_begun_disk limit held content end (Rejected number) is = is
-not_begun_disk limit held content end Disk is = tt
-not_begun_disk limit held content end Memory is = inl refl
-not_begun_disk limit held content end Read is = absurd is
-not_begun_disk limit held content end Write is = absurd is
-not_begun_disk limit held content end NotFlow is = absurd is
-not_begun_disk limit held content end BadCheckpoint is = absurd is
-not_begun_disk limit held content end (Torn place) is = absurd is
-not_begun_disk limit held content end TooLong is = absurd is
+-- nothing was served
+pub comes_not_begun : (limit : ℕ) (held : List ℕ) (content left : Option (List ℕ)) (end : DiskState) (before : Option (List ℕ)) (fault : BeginFault) → NotBegun limit held content left end fault → ComesTo limit held content end before before (Err (of_begin fault))
+comes_not_begun limit held content left end before (Open unopened.NotDisk) is = is.0
+comes_not_begun limit held content left end before (Open (unopened.Damaged place)) is = is.0
+comes_not_begun limit held content left end before (Open (unopened.Rejected number)) is = is.0
+comes_not_begun limit held content left end before (Open unopened.Disk) is = tt
+comes_not_begun limit held content left end before (Open unopened.Memory) is = tt
+comes_not_begun limit held content left end before (Input input.NotFlow) (inl kept) = (Grows-nothing before, inl kept)
+comes_not_begun limit held content left end before (Input input.NotFlow) (inr (new, same, images, why)) = (Grows-nothing before, inr (new, why, same, images))
+comes_not_begun limit held content left end before (Input input.BadCheckpoint) (inl (begin, old, market, opens, why, place, keeps)) = absurd (wanted_one (version_of begin) why.0)
+comes_not_begun limit held content left end before (Input input.BadCheckpoint) (inr (new, same, images, why)) = (Grows-nothing before, (new, why.1, same, images))
+comes_not_begun limit held content left end before (Input input.Read) is = tt
+comes_not_begun limit held content left end before (Input input.Memory) is = tt
+comes_not_begun limit held content left end before Make is = tt
 
 -- a fault at the opening of the source, with a disk that keeps entries
-pub not_begun_kept : (version : Version) (limit : ℕ) (start : Option (List ℕ)) (content left : Option (List ℕ)) (at next : DiskState) (m : Market) (place : ℕ) (fault : KeepFault) → IfSome start (λ held. IsFound (Some version) held at) → IfSome start (λ held. IsKeptOn version held m place next)
-    → IsOfSource (Some version) limit content left fault → IfSome start (λ held. NotBegun limit held content left next fault)
+pub not_begun_kept : (version : Version) (limit : ℕ) (start : Option (List ℕ)) (content left : Option (List ℕ)) (at next : DiskState) (m : Market) (place : ℕ) (fault : InputFault) → IfSome start (λ held. IsFound (Some version) held at) → IfSome start (λ held. IsKeptOn version held m place next)
+    → IsOfSource (Some version) limit content left fault → IfSome start (λ held. NotBegun limit held content left next (Input fault))
 not_begun_kept version limit None content left at next m place fault found begun why = tt
 not_begun_kept version limit (Some held) content left at next m place fault found (begin, of, (old, inr new, keeps)) why = absurd (found.0 new.0.0)
-not_begun_kept version limit (Some held) content left at next m place NotFlow found (begin, of, (old, inl legal, keeps)) why = λ before. (
-  Grows-nothing before,
-  inl (begin, old, m, legal.0, subst (λ (v : Version). IfSome content (λ bytes. (body : List ℕ) → ¬ BeginsWith commands.magics (take limit bytes) v body)) (sym of) why, place, keeps),
-)
-not_begun_kept version limit (Some held) content left at next m place BadCheckpoint found (begin, of, (old, inl legal, keeps)) why = absurd (not_none version why.0)
-  where
-    not_none : (v : Version) → ◌≡◌ {A = Option Version} (Some v) None → ⊥
-    not_none v e = absurd cc
-not_begun_kept version limit (Some held) content left at next m place Memory found (begin, of, (old, inl legal, keeps)) (inl same) = inl same
-not_begun_kept version limit (Some held) content left at next m place Memory found (begin, of, (old, inl legal, keeps)) (inr other) = absurd (not_none version other.0)
-  where
-    not_none : (v : Version) → ◌≡◌ {A = Option Version} (Some v) None → ⊥
-    not_none v e = absurd cc
-not_begun_kept version limit (Some held) content left at next m place Read found (begin, of, (old, inl legal, keeps)) why = tt
-not_begun_kept version limit (Some held) content left at next m place NotDisk found (begin, of, (old, inl legal, keeps)) why = absurd why
-not_begun_kept version limit (Some held) content left at next m place (Damaged n) found (begin, of, (old, inl legal, keeps)) why = absurd why
-not_begun_kept version limit (Some held) content left at next m place (Rejected n) found (begin, of, (old, inl legal, keeps)) why = absurd why
-not_begun_kept version limit (Some held) content left at next m place Disk found (begin, of, (old, inl legal, keeps)) why = absurd why
-not_begun_kept version limit (Some held) content left at next m place Write found (begin, of, (old, inl legal, keeps)) why = absurd why
-not_begun_kept version limit (Some held) content left at next m place (Torn n) found (begin, of, (old, inl legal, keeps)) why = absurd why
-not_begun_kept version limit (Some held) content left at next m place TooLong found (begin, of, (old, inl legal, keeps)) why = absurd why
+not_begun_kept version limit (Some held) content left at next m place fault found (begin, of, (old, inl legal, keeps)) why =
+    inl (begin, old, m, legal.0, subst (λ (v : Version). IsOfSource (Some v) limit content left fault) (sym of) why, place, keeps)
 
 -- with a new disk
-new_not_begun : (limit : ℕ) (held : List ℕ) (content left : Option (List ℕ)) (at : DiskState) (fault : KeepFault) → IsFound None held at → IsOfSource None limit content left fault → NotBegun limit held content left at fault
-new_not_begun limit held content left at NotFlow found why = λ before. (Grows-nothing before, inr ((found.0, found.1), why, found.2, found.3))
-new_not_begun limit held content left at BadCheckpoint found why = ((found.0, found.1), why.1, found.2, found.3)
-new_not_begun limit held content left at Memory found (inl same) = inl same
-new_not_begun limit held content left at Memory found (inr other) = inr ((found.0, found.1), found.2, other.1)
-new_not_begun limit held content left at Read found why = tt
-new_not_begun limit held content left at NotDisk found why = absurd why
-new_not_begun limit held content left at (Damaged n) found why = absurd why
-new_not_begun limit held content left at (Rejected n) found why = absurd why
-new_not_begun limit held content left at Disk found why = absurd why
-new_not_begun limit held content left at Write found why = absurd why
-new_not_begun limit held content left at (Torn n) found why = absurd why
-new_not_begun limit held content left at TooLong found why = absurd why
-
-pub not_begun_new : (limit : ℕ) (start : Option (List ℕ)) (content left : Option (List ℕ)) (at : DiskState) (fault : KeepFault) → IfSome start (λ held. IsFound None held at) → IsOfSource None limit content left fault → IfSome start (λ held. NotBegun limit held content left at fault)
+pub not_begun_new : (limit : ℕ) (start : Option (List ℕ)) (content left : Option (List ℕ)) (at : DiskState) (fault : InputFault) → IfSome start (λ held. IsFound None held at) → IsOfSource None limit content left fault → IfSome start (λ held. NotBegun limit held content left at (Input fault))
 not_begun_new limit None content left at fault found why = tt
-not_begun_new limit (Some held) content left at fault found why = new_not_begun limit held content left at fault found why
-
--- what was taken of the source after a fault at its opening
-pub unread_source : (wanted : Option Version) (limit : ℕ) (content left : Option (List ℕ)) (fault : KeepFault) → IsOfSource wanted limit content left fault → Unread limit content left fault
-unread_source wanted limit content left NotFlow why = tt
-unread_source wanted limit content left BadCheckpoint why = tt
-unread_source wanted limit content left Read why = why
-unread_source wanted limit content left Memory (inl same) = inl same
-unread_source wanted limit content left Memory (inr other) = inr other.1
-unread_source wanted limit content left NotDisk why = absurd why
-unread_source wanted limit content left (Damaged n) why = absurd why
-unread_source wanted limit content left (Rejected n) why = absurd why
-unread_source wanted limit content left Disk why = absurd why
-unread_source wanted limit content left Write why = absurd why
-unread_source wanted limit content left (Torn n) why = absurd why
-unread_source wanted limit content left TooLong why = absurd why
-
-pub unread_disk : (limit : ℕ) (content : Option (List ℕ)) (fault : KeepFault) → IsOfDisk fault → Unread limit content content fault
-unread_disk limit content NotDisk is = tt
-unread_disk limit content (Damaged place) is = tt
-unread_disk limit content (Rejected number) is = tt
-unread_disk limit content Memory is = inl refl
-unread_disk limit None Disk is = tt
-unread_disk limit (Some bytes) Disk is = (0, omega arith, inl (omega arith))
-unread_disk limit content Read is = absurd is
-unread_disk limit content Write is = absurd is
-unread_disk limit content NotFlow is = absurd is
-unread_disk limit content BadCheckpoint is = absurd is
-unread_disk limit content (Torn place) is = absurd is
-unread_disk limit content TooLong is = absurd is
+not_begun_new limit (Some held) content left at fault found why = inr ((found.0, found.1), found.2, found.3, why)
 
 -- the beginning of the source was taken
-pub unread_made : (limit : ℕ) (input : Start) (w : WindowState) (content left : Option (List ℕ)) → IsAfterStart limit input w content left → Unread limit content left Disk
+pub unread_made : (limit : ℕ) (input : Start) (w : WindowState) (content left : Option (List ℕ)) → IsAfterStart limit input w content left → Unread limit content left Make
 unread_made limit input w None left following = tt
 unread_made limit input w (Some bytes) None following = absurd following.takes
 unread_made limit input w (Some bytes) (Some m) following = (
@@ -262,46 +227,6 @@ unread_made limit input w (Some bytes) (Some m) following = (
     parts : limit ≡ length (source_start input) + (limit - length (source_start input))
     parts = omega (arith, following.few, long)
 
--- a fault of the source is no refusal of the disk
-pub asked_of_source : (wanted : Option Version) (limit : ℕ) (content left : Option (List ℕ)) (Same : Type 0) (fault : KeepFault) → IsOfSource wanted limit content left fault → Asked fault Same
-asked_of_source wanted limit content left Same NotFlow why = tt
-asked_of_source wanted limit content left Same BadCheckpoint why = tt
-asked_of_source wanted limit content left Same Read why = tt
-asked_of_source wanted limit content left Same Memory why = tt
-asked_of_source wanted limit content left Same Disk why = tt
-asked_of_source wanted limit content left Same Write why = tt
-asked_of_source wanted limit content left Same (Torn n) why = tt
-asked_of_source wanted limit content left Same TooLong why = tt
-asked_of_source wanted limit content left Same NotDisk why = absurd why
-asked_of_source wanted limit content left Same (Damaged n) why = absurd why
-asked_of_source wanted limit content left Same (Rejected n) why = absurd why
-
-pub asked_same : (Same : Type 0) (fault : KeepFault) → Same → Asked fault Same
-asked_same Same NotDisk same = same
-asked_same Same (Damaged place) same = same
-asked_same Same (Rejected number) same = same
-asked_same Same NotFlow same = tt
-asked_same Same BadCheckpoint same = tt
-asked_same Same Read same = tt
-asked_same Same Memory same = tt
-asked_same Same Disk same = tt
-asked_same Same Write same = tt
-asked_same Same (Torn place) same = tt
-asked_same Same TooLong same = tt
-
-pub asked_refused : (Same : Type 0) (fault : KeepFault) → Asked fault Same → IsRefusal (Err fault) → Same
-asked_refused Same NotDisk asked refusal = asked
-asked_refused Same (Damaged place) asked refusal = asked
-asked_refused Same (Rejected number) asked refusal = asked
-asked_refused Same NotFlow asked refusal = absurd refusal
-asked_refused Same BadCheckpoint asked refusal = absurd refusal
-asked_refused Same Read asked refusal = absurd refusal
-asked_refused Same Memory asked refusal = absurd refusal
-asked_refused Same Disk asked refusal = absurd refusal
-asked_refused Same Write asked refusal = absurd refusal
-asked_refused Same (Torn place) asked refusal = absurd refusal
-asked_refused Same TooLong asked refusal = absurd refusal
-
 module _ (limit : ℕ) (held : List ℕ) (content : Option (List ℕ)) (begun : DiskState) (begin input : Start) (market : Market) (place : ℕ) (is : IsBegun held begin input market place begun) where
   module _ (mid left : Option (List ℕ)) (w : WindowState) (following : IsAfterStart limit input w content mid) (end : DiskState) (before after : Option (List ℕ)) where
     journal : IsKeptJournal begin is.0 market
@@ -314,7 +239,7 @@ module _ (limit : ℕ) (held : List ℕ) (content : Option (List ℕ)) (begun : 
     bytes taken = w.held ++ known taken left
 
     -- all records were served
-    all_kept : (result : Result (Unit {0}) KeepFault) (ends : Ending) (on : ServesOn w mid left result market place begun end before after) → (¬ (result ≡ Err Write))
+    all_kept : (result : Result Ending (TakeFault ServeFault)) (ends : Ending) (on : ServesOn w mid left result market place begun end before after) → (¬ (result ≡ Err (Broken Write)))
         → GoesToEnd commands Adds w.place (w.limit - w.place < length (bytes on.goes.taken)) (take (w.limit - w.place) (bytes on.goes.taken)) (ending_of ends) [] on.new tt tt
         → (on.more ≡ []) × (on.acknowledged ≡ length on.new) × ((v : Start) (old : Pairs) → IsKeptJournal v old market → Keeps (head_of v) (map records_of old) place begun → (later : ℕ) × Keeps (head_of v) (map records_of (old ++ on.new)) later end)
         → (records : List Record) × HasKeptAll limit held content end before after records (ending_of ends)
@@ -340,38 +265,27 @@ module _ (limit : ℕ) (held : List ℕ) (content : Option (List ℕ)) (begun : 
             goes_on = subst (λ (r : List Record). GoesOn begin is.0 market r new runs.now) units (subst (λ (l : Pairs). GoesOn begin is.0 market (asked_of l) l runs.now) every runs.goes_on);
             place = kept.0;
             keeps = kept.1;
-            written = all_written (result ≡ Err Write) before after new on.more on.acknowledged uncut ended.0 ended.1 on.written;
+            written = all_written (result ≡ Err (Broken Write)) before after new on.more on.acknowledged uncut ended.0 ended.1 on.written;
           },
         )
 
-    done_uncut : (done : Unit {0}) → ¬ (◌≡◌ {A = Result (Unit {0}) KeepFault} (Ok done) (Err Write))
-    done_uncut done e = absurd cc
-
-    torn_uncut : (n : ℕ) → ¬ (◌≡◌ {A = Result (Unit {0}) KeepFault} (Err (Torn n)) (Err Write))
-    torn_uncut n e = absurd cc
-
-    long_uncut : ¬ (◌≡◌ {A = Result (Unit {0}) KeepFault} (Err TooLong) (Err Write))
-    long_uncut e = absurd cc
+    uncut : (ends : Ending) → ¬ (◌≡◌ {A = Result Ending (TakeFault ServeFault)} (Ok ends) (Err (Broken Write)))
+    uncut ends e = absurd cc
 
     -- records were served
-    pub comes_served : (result : Result (Unit {0}) KeepFault) → ServesOn w mid left result market place begun end before after → ComesTo limit held content end before after result
-    comes_served (Ok done) on = all_kept (Ok done) ending.End on (done_uncut done) on.goes.goes.0 on.ended
-    comes_served (Err (Torn n)) on = all_kept (Err (Torn n)) (ending.Torn n) on (torn_uncut n) on.goes.goes.0 on.ended
-    comes_served (Err TooLong) on = all_kept (Err TooLong) ending.TooLong on long_uncut on.goes.goes.0 on.ended
+    pub comes_served : (result : Result Ending (TakeFault ServeFault)) → ServesOn w mid left result market place begun end before after → ComesTo limit held content end before after (kept_result result)
+    comes_served (Ok ending.End) on = all_kept (Ok ending.End) ending.End on (uncut ending.End) on.goes.goes.0 on.ended
+    comes_served (Ok (ending.Torn n)) on = all_kept (Ok (ending.Torn n)) (ending.Torn n) on (uncut (ending.Torn n)) on.goes.goes.0 on.ended
+    comes_served (Ok ending.TooLong) on = all_kept (Ok ending.TooLong) ending.TooLong on (uncut ending.TooLong) on.goes.goes.0 on.ended
     comes_served (Err Read) on = tt
-    comes_served (Err Write) on = tt
-    comes_served (Err Disk) on = tt
-    comes_served (Err Memory) on = tt
-    comes_served (Err NotDisk) on = absurd on.ended
-    comes_served (Err (Damaged n)) on = absurd on.ended
-    comes_served (Err (Rejected n)) on = absurd on.ended
-    comes_served (Err NotFlow) on = absurd on.ended
-    comes_served (Err BadCheckpoint) on = absurd on.ended
+    comes_served (Err (Broken Write)) on = tt
+    comes_served (Err (Broken Disk)) on = tt
+    comes_served (Err (Broken Memory)) on = tt
 
 -- the records that were served are the source's first, and what happened to the disk and the output
-pub keeps_served : (limit : ℕ) (content mid left : Option (List ℕ)) (w : WindowState) (of input : Start) (following : IsAfterStart limit input w content mid) (result : Result (Unit {0}) KeepFault) (begin : Start) (start begun end : DiskState) (old : Pairs) (market session : Market) (place : ℕ) (before after : Option (List ℕ))
+pub keeps_served : (limit : ℕ) (content mid left : Option (List ℕ)) (w : WindowState) (of input : Start) (following : IsAfterStart limit input w content mid) (result : Result Ending (TakeFault ServeFault)) (begin : Start) (start begun end : DiskState) (old : Pairs) (market session : Market) (place : ℕ) (before after : Option (List ℕ))
     → GoesOnIn limit content start begin market of session input × IsKeptJournal of old session × Keeps (head_of of) (map records_of old) place begun → Opens of start begun old
-    → ServesOn w mid left result session place begun end before after → KeepsIn limit content (result ≡ Err Write) begin start end old market before after
+    → ServesOn w mid left result session place begun end before after → KeepsIn limit content (result ≡ Err (Broken Write)) begin start end old market before after
 keeps_served limit content mid left w of input following result begin start begun end old market session place before after is opens on =
     let all = on.new ++ on.more in
     let served = on.runs of old is.1 is.2 in
@@ -393,20 +307,6 @@ keeps_served limit content mid left w of input following result begin start begu
 
 -- ---- no refusal
 
-pub not_of_serving : (result : Result (Unit {0}) KeepFault) (P : Type 0) → IfEnded result P → ¬ IsRefusal result
-not_of_serving (Ok done) P ended refusal = refusal
-not_of_serving (Err Read) P ended refusal = refusal
-not_of_serving (Err Write) P ended refusal = refusal
-not_of_serving (Err Disk) P ended refusal = refusal
-not_of_serving (Err Memory) P ended refusal = refusal
-not_of_serving (Err NotDisk) P ended refusal = ended
-not_of_serving (Err (Damaged n)) P ended refusal = ended
-not_of_serving (Err (Rejected n)) P ended refusal = ended
-not_of_serving (Err NotFlow) P ended refusal = refusal
-not_of_serving (Err BadCheckpoint) P ended refusal = refusal
-not_of_serving (Err (Torn n)) P ended refusal = refusal
-not_of_serving (Err TooLong) P ended refusal = refusal
-
 -- a disk that keeps a valid journal is not refused
 module _ (begin : Start) (held : List ℕ) (old : Pairs) (market : Market) (legal : IsKeptJournal begin old market) (keeps : StandsForJournal begin old held) (small : length held ≤ 2 ^ 60) (end : DiskState) where
   opened : (opens : Opening) → IsRefused held opens end → (opens ≡ New) ⊎ (opens ≡ Legal begin old market)
@@ -424,30 +324,24 @@ module _ (begin : Start) (held : List ℕ) (old : Pairs) (market : Market) (lega
   not_rejected_one n (inl e) = absurd cc
   not_rejected_one n (inr e) = absurd cc
 
-  pub legal_not_refused : (limit : ℕ) (content left : Option (List ℕ)) (fault : KeepFault) → NotBegun limit held content left end fault → ¬ IsRefusal (Err fault)
-  legal_not_refused limit content left NotDisk is refusal = not_foreign_one (opened opening.Foreign is)
-  legal_not_refused limit content left (Damaged n) is refusal = not_damaged_one n (opened (opening.Damaged n) is)
-  legal_not_refused limit content left (Rejected n) is refusal = not_rejected_one n (opened (opening.Rejected n) is)
-  legal_not_refused limit content left Disk is refusal = refusal
-  legal_not_refused limit content left Memory is refusal = refusal
-  legal_not_refused limit content left Read is refusal = refusal
-  legal_not_refused limit content left Write is refusal = refusal
-  legal_not_refused limit content left NotFlow is refusal = refusal
-  legal_not_refused limit content left BadCheckpoint is refusal = refusal
-  legal_not_refused limit content left (Torn n) is refusal = refusal
-  legal_not_refused limit content left TooLong is refusal = refusal
+  opened_legal : (fault : OpenFault) → OpensNot held end fault → IsRefusal (Err (of_begin (Open fault))) → ⊥
+  opened_legal unopened.NotDisk is refusal = not_foreign_one (opened opening.Foreign is)
+  opened_legal (unopened.Damaged n) is refusal = not_damaged_one n (opened (opening.Damaged n) is)
+  opened_legal (unopened.Rejected n) is refusal = not_rejected_one n (opened (opening.Rejected n) is)
+  opened_legal unopened.Disk is refusal = no_refusal_disk refusal
+  opened_legal unopened.Memory is refusal = no_refusal_memory refusal
 
-pub refused_not_legal : (begin : Start) (limit : ℕ) (content left : Option (List ℕ)) (start end : DiskState) (old : Pairs) (market : Market) (fault : KeepFault) → HoldsLegal start begin old market → IfSome start.content (λ held. length held ≤ 2 ^ 60)
-    → IfSome start.content (λ held. NotBegun limit held content left end fault) → ¬ IsRefusal (Err fault)
-refused_not_legal begin limit content left start end old market fault holds small is =
-    legal_not_refused begin holds.bytes old market holds.journal holds.stands
-    (subst (λ (o : Option (List ℕ)). IfSome o (λ (held : List ℕ). length held ≤ 2 ^ 60)) holds.told small) end limit content left fault
-    (subst (λ (o : Option (List ℕ)). IfSome o (λ (held : List ℕ). NotBegun limit held content left end fault)) holds.told is)
+pub not_refused_legal : (begin : Start) (start end : DiskState) (old : Pairs) (market : Market) (fault : OpenFault) → HoldsLegal start begin old market → IfSome start.content (λ held. length held ≤ 2 ^ 60)
+    → IfSome start.content (λ held. OpensNot held end fault) → ¬ IsRefusal (Err (of_begin (Open fault)))
+not_refused_legal begin start end old market fault holds small is =
+    opened_legal begin holds.bytes old market holds.journal holds.stands
+    (subst (λ (o : Option (List ℕ)). IfSome o (λ (held : List ℕ). length held ≤ 2 ^ 60)) holds.told small) end fault
+    (subst (λ (o : Option (List ℕ)). IfSome o (λ (held : List ℕ). OpensNot held end fault)) holds.told is)
 
--- ---- which faults are whose
-
-not_of_disk : (fault : KeepFault) → IsOfDisk fault → (¬ (◌≡◌ {A = Result (Unit {0}) KeepFault} (Err fault) (Err Read))) × (¬ (◌≡◌ {A = Result (Unit {0}) KeepFault} (Err fault) (Err Write)))
-not_of_disk fault is = (λ e. subst IsOfDisk (same fault Read e) is, λ e. subst IsOfDisk (same fault Write e) is)
-  where
-    same : (a b : KeepFault) → ◌≡◌ {A = Result (Unit {0}) KeepFault} (Err a) (Err b) → a ≡ b
-    same a b e = cc
+pub refused_not_legal : (begin : Start) (limit : ℕ) (content left : Option (List ℕ)) (start end : DiskState) (old : Pairs) (market : Market) (fault : BeginFault) → HoldsLegal start begin old market → IfSome start.content (λ held. length held ≤ 2 ^ 60)
+    → IfSome start.content (λ held. NotBegun limit held content left end fault) → ¬ IsRefusal (Err (of_begin fault))
+refused_not_legal begin limit content left start end old market fault holds small is refusal =
+    let of = begin_refusal fault refusal in
+    not_refused_legal begin start end old market of.0 holds small
+    (if_some start.content _ _ (λ (held : List ℕ) not. (subst (NotBegun limit held content left end) of.1 not).0) is)
+    (subst (λ (f : BeginFault). IsRefusal (Err (of_begin f))) of.1 refusal)

@@ -14,7 +14,7 @@ use Rattle.market_rules.specs.Market.{Market}
 use Rattle.market_snapshot.specs.Checkpoints.{checkpoint_bytes, IsCheckpoint}
 use Rattle.market_history.specs.Histories.{Start, Empty, Kept, market_of, CanStart}
 use Rattle.disk_edge.specs.Disks.{DiskState, AtEachMoment}
-use Rattle.disk_edge.specs.Images.{Images}
+use Rattle.disk_edge.specs.Images.{Images, LeavesOnly}
 use Rattle.journal_disk.specs.Entries.{framed, Holds, EndsAt, Keeps, IsHead, entries}
 use Rattle.journal_disk.specs.Lengths.{HasAtMost, LeavesAtMost}
 use Rattle.journal_disk.specs.Stepping.{IsDamagedAt}
@@ -23,9 +23,13 @@ use Rattle.journal_keeping.specs.Keeping.{IsKeptJournal, StandsForJournal, Holds
 use Rattle.journal_keeping.specs.Openings.{Legal, IsOpening, OpensAs}
 use Rattle.journal_keeping.specs.Openings as opening
 use Rattle.journal_keeping.specs.Pacing.{IsInCheckpoint, IsUnbegun}
-use Rattle.journal_keeping.specs.Ended.{IsRefused, StaysNew, HasLeftAll}
-use Rattle.journal_keeping.specs.declared.fault.KeepFault.{KeepFault}
-use Rattle.journal_keeping.specs.declared.fault.KeepFault.TheVariants.{Read, Write, Disk, Memory, NotDisk, Damaged, Rejected, NotFlow, BadCheckpoint, Torn, TooLong}
+use Rattle.journal_keeping.specs.Ended.{IsRefused}
+use Rattle.journal_keeping.specs.declared.fault.OpenFault.{OpenFault}
+use Rattle.journal_keeping.specs.declared.fault.OpenFault.TheVariants as unopened
+use Rattle.journal_keeping.specs.declared.fault.InputFault.{InputFault}
+use Rattle.journal_keeping.specs.declared.fault.InputFault.TheVariants as input
+use Rattle.journal_keeping.specs.declared.fault.BeginFault.{BeginFault}
+use Rattle.journal_keeping.specs.declared.fault.BeginFault.TheVariants.{Open, Input, Make}
 
 -- the disk's bytes were opened as a valid journal that begins so, with this market, and the commit byte at the place, after its entries, isn't set
 abbrev pub IsReadUp : List ℕ → Start → Market → ℕ → DiskState → Type 0
@@ -80,18 +84,12 @@ abbrev pub IsCounted : ℕ → List ℕ → Type 0
 IsCounted count held = (begin : Start) (old : List (Pair Record Outcome)) (market : Market) → IsOpening held (Legal begin old market) → count ≡ length old
 
 -- why no beginning was found: the first entry isn't an entry, and holds no checkpoint of the disk's version
-abbrev pub StopsFirst : KeepFault → List ℕ → Type 0
-StopsFirst (Damaged place) bytes = (place ≡ 8) × IsDamagedAt 8 bytes × ((first : Market) → ¬ HasFirst first bytes)
-StopsFirst Disk bytes = ⊤
-StopsFirst Memory bytes = ⊤
-StopsFirst NotDisk bytes = ⊥
-StopsFirst (Rejected number) bytes = ⊥
-StopsFirst Read bytes = ⊥
-StopsFirst Write bytes = ⊥
-StopsFirst NotFlow bytes = ⊥
-StopsFirst BadCheckpoint bytes = ⊥
-StopsFirst (Torn place) bytes = ⊥
-StopsFirst TooLong bytes = ⊥
+abbrev pub StopsFirst : OpenFault → List ℕ → Type 0
+StopsFirst (unopened.Damaged place) bytes = (place ≡ 8) × IsDamagedAt 8 bytes × ((first : Market) → ¬ HasFirst first bytes)
+StopsFirst unopened.Disk bytes = ⊤
+StopsFirst unopened.Memory bytes = ⊤
+StopsFirst unopened.NotDisk bytes = ⊥
+StopsFirst (unopened.Rejected number) bytes = ⊥
 
 -- a first entry as it is stored, with an unset commit byte after it, or nothing if a journal begins without a checkpoint
 abbrev pub IsStored : Start → List ℕ → Type 0
@@ -106,32 +104,12 @@ pub record OpensStart (limit : ℕ) (market : Market) (stored : List ℕ) (windo
   pub stored_is : IsStored begin stored
 
 -- what a fault at the opening of a disk says of its bytes
-abbrev pub OpensNot : List ℕ → DiskState → KeepFault → Type 0
-OpensNot held end NotDisk = IsRefused held opening.Foreign end
-OpensNot held end (Damaged place) = IsRefused held (opening.Damaged place) end
-OpensNot held end (Rejected number) = IsRefused held (opening.Rejected number) end
-OpensNot held end Disk = ⊤
-OpensNot held end Memory = ⊤
-OpensNot held end Read = ⊥
-OpensNot held end Write = ⊥
-OpensNot held end NotFlow = ⊥
-OpensNot held end BadCheckpoint = ⊥
-OpensNot held end (Torn place) = ⊥
-OpensNot held end TooLong = ⊥
-
--- a fault that the opening of a disk may have, whether the disk's content is known or not
-abbrev pub IsOfDisk : KeepFault → Type 0
-IsOfDisk NotDisk = ⊤
-IsOfDisk (Damaged place) = ⊤
-IsOfDisk (Rejected number) = ⊤
-IsOfDisk Disk = ⊤
-IsOfDisk Memory = ⊤
-IsOfDisk Read = ⊥
-IsOfDisk Write = ⊥
-IsOfDisk NotFlow = ⊥
-IsOfDisk BadCheckpoint = ⊥
-IsOfDisk (Torn place) = ⊥
-IsOfDisk TooLong = ⊥
+abbrev pub OpensNot : List ℕ → DiskState → OpenFault → Type 0
+OpensNot held end unopened.NotDisk = IsRefused held opening.Foreign end
+OpensNot held end (unopened.Damaged place) = IsRefused held (opening.Damaged place) end
+OpensNot held end (unopened.Rejected number) = IsRefused held (opening.Rejected number) end
+OpensNot held end unopened.Disk = ⊤
+OpensNot held end unopened.Memory = ⊤
 
 -- the version is the one asked for, if one is
 abbrev pub IsWanted : Option Version → Version → Type 0
@@ -147,33 +125,26 @@ IsNoneOf (Some own) bytes = (body : List ℕ) → ¬ BeginsWith commands.magics 
 abbrev pub BreaksOffEarly : ℕ → Option (List ℕ) → List ℕ → Type 0
 BreaksOffEarly limit left bytes = (n : ℕ) × IsTaken bytes left n × IsUnbegun n (take n (take limit bytes))
 
--- a fault that the opening of a source may have, and what was taken of the source then
-abbrev pub IsOfSource : Option Version → ℕ → Option (List ℕ) → Option (List ℕ) → KeepFault → Type 0
-IsOfSource wanted limit content left NotFlow = IfSome content (λ bytes. IsNoneOf wanted (take limit bytes))
-IsOfSource wanted limit content left BadCheckpoint = (wanted ≡ None) × IfSome content (λ bytes. BeginsUnsound (take limit bytes))
-IsOfSource wanted limit content left Read = IfSome content (BreaksOffEarly limit left)
-IsOfSource wanted limit content left Memory = (left ≡ content) ⊎ ((wanted ≡ None) × IsInCheckpoint limit content left)
-IsOfSource wanted limit content left NotDisk = ⊥
-IsOfSource wanted limit content left (Damaged place) = ⊥
-IsOfSource wanted limit content left (Rejected number) = ⊥
-IsOfSource wanted limit content left Disk = ⊥
-IsOfSource wanted limit content left Write = ⊥
-IsOfSource wanted limit content left (Torn place) = ⊥
-IsOfSource wanted limit content left TooLong = ⊥
+-- Why the beginning of a source wasn't taken, and what was taken of the source then; of a command file of a version, if one is wanted.
+abbrev pub IsOfSource : Option Version → ℕ → Option (List ℕ) → Option (List ℕ) → InputFault → Type 0
+IsOfSource wanted limit content left input.NotFlow = IfSome content (λ bytes. IsNoneOf wanted (take limit bytes))
+IsOfSource wanted limit content left input.BadCheckpoint = (wanted ≡ None) × IfSome content (λ bytes. BeginsUnsound (take limit bytes))
+IsOfSource wanted limit content left input.Read = IfSome content (BreaksOffEarly limit left)
+IsOfSource wanted limit content left input.Memory = (left ≡ content) ⊎ ((wanted ≡ None) × IsInCheckpoint limit content left)
+
+-- the disk held the bytes of a valid journal, whose version is so, and keeps its entries
+abbrev pub StaysKept : List ℕ → DiskState → (Version → Type 0) → Type 0
+StaysKept held end Are =
+    (begin : Start) × (old : List (Pair Record Outcome)) × (market : Market) × IsOpening held (Legal begin old market) × Are (version_of begin)
+    × (place : ℕ) × Keeps (head_of begin) (map records_of old) place end
 
 -- why nothing was served, if the disk held these bytes: the disk is refused, or the source doesn't begin as it should
-abbrev pub NotBegun : ℕ → List ℕ → Option (List ℕ) → Option (List ℕ) → DiskState → KeepFault → Type 0
-NotBegun limit held content left end NotDisk = IsRefused held opening.Foreign end
-NotBegun limit held content left end (Damaged place) = IsRefused held (opening.Damaged place) end
-NotBegun limit held content left end (Rejected number) = IsRefused held (opening.Rejected number) end
-NotBegun limit held content left end NotFlow = (before : Option (List ℕ)) → HasLeftAll limit held content end before before
-NotBegun limit held content left end BadCheckpoint = StaysNew BeginsUnsound limit held content end
-NotBegun limit held content left end Read = ⊤
-NotBegun limit held content left end Memory = (left ≡ content) ⊎ (IsOpening held opening.New × (end.content ≡ Some held) × IsInCheckpoint limit content left)
-NotBegun limit held content left end Disk = ⊤
-NotBegun limit held content left end Write = ⊥
-NotBegun limit held content left end (Torn place) = ⊥
-NotBegun limit held content left end TooLong = ⊥
+abbrev pub NotBegun : ℕ → List ℕ → Option (List ℕ) → Option (List ℕ) → DiskState → BeginFault → Type 0
+NotBegun limit held content left end (Open fault) = OpensNot held end fault × (left ≡ content)
+NotBegun limit held content left end (Input fault) =
+    StaysKept held end (λ version. IsOfSource (Some version) limit content left fault)
+    ⊎ (IsOpening held opening.New × (end.content ≡ Some held) × LeavesOnly end.images held × IsOfSource None limit content left fault)
+NotBegun limit held content left end Make = ⊤
 
 -- the source was read no further than 1,030 bytes past its beginning, or past the first eight bytes
 abbrev pub IsNearStart : ℕ → Option (List ℕ) → List ℕ → Type 0
@@ -182,32 +153,10 @@ IsNearStart limit left bytes =
     × ((n ≤ 1038) ⊎ ((input : Start) × (body : List ℕ) × BeginsWith sources.magics (take limit bytes) input body × (n ≤ length (source_start input) + 1030)))
 
 -- how much of the source was taken if nothing was served
-abbrev pub Unread : ℕ → Option (List ℕ) → Option (List ℕ) → KeepFault → Type 0
-Unread limit content left Read = IfSome content (BreaksOffEarly limit left)
-Unread limit content left Memory = (left ≡ content) ⊎ IsInCheckpoint limit content left
-Unread limit content left Disk = IfSome content (IsNearStart limit left)
-Unread limit content left NotFlow = ⊤
-Unread limit content left BadCheckpoint = ⊤
-Unread limit content left NotDisk = ⊤
-Unread limit content left (Damaged place) = ⊤
-Unread limit content left (Rejected number) = ⊤
-Unread limit content left Write = ⊥
-Unread limit content left (Torn place) = ⊥
-Unread limit content left TooLong = ⊥
-
--- `Same` holds if the disk was refused: then nothing was asked of the source
-abbrev pub Asked : KeepFault → Type 0 → Type 0
-Asked NotDisk Same = Same
-Asked (Damaged place) Same = Same
-Asked (Rejected number) Same = Same
-Asked NotFlow Same = ⊤
-Asked BadCheckpoint Same = ⊤
-Asked Read Same = ⊤
-Asked Memory Same = ⊤
-Asked Disk Same = ⊤
-Asked Write Same = ⊤
-Asked (Torn place) Same = ⊤
-Asked TooLong Same = ⊤
+abbrev pub Unread : ℕ → Option (List ℕ) → Option (List ℕ) → BeginFault → Type 0
+Unread limit content left (Open fault) = left ≡ content
+Unread limit content left (Input fault) = (wanted : Option Version) × IsOfSource wanted limit content left fault
+Unread limit content left Make = IfSome content (IsNearStart limit left)
 
 -- what a crash leaves while a disk is opened: what it might have left before, or the old entries of the journal that the run continues; or a
 -- new disk, if it was new

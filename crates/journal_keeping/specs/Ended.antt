@@ -59,7 +59,7 @@ HasLeftAll limit held content end before after =
     ⊎ StaysNew BeginsOtherwise limit held content end)
 
 -- what keeping a journal results in, if the disk is known to have held these bytes
-abbrev pub ComesTo : (limit : ℕ) → List ℕ → Option (List ℕ) → DiskState → Option (List ℕ) → Option (List ℕ) → Result (Unit {0}) KeepFault → Type 0
+abbrev pub ComesTo : (limit : ℕ) → List ℕ → Option (List ℕ) → DiskState → Option (List ℕ) → Option (List ℕ) → Result ⊤ KeepFault → Type 0
 ComesTo limit held content end before after (Ok done) = (records : List Record) × HasKeptAll limit held content end before after records reading.End
 ComesTo limit held content end before after (Err (Torn place)) = (records : List Record) × HasKeptAll limit held content end before after records (reading.Torn place)
 ComesTo limit held content end before after (Err TooLong) = (records : List Record) × HasKeptAll limit held content end before after records reading.TooLong
@@ -74,19 +74,8 @@ ComesTo limit held content end before after (Err Disk) = ⊤
 ComesTo limit held content end before after (Err Memory) = ⊤
 
 -- the disk is refused
-abbrev pub IsRefusal : Result (Unit {0}) KeepFault → Type 0
-IsRefusal (Err NotDisk) = ⊤
-IsRefusal (Err (Damaged place)) = ⊤
-IsRefusal (Err (Rejected number)) = ⊤
-IsRefusal (Ok done) = ⊥
-IsRefusal (Err Read) = ⊥
-IsRefusal (Err Write) = ⊥
-IsRefusal (Err Disk) = ⊥
-IsRefusal (Err Memory) = ⊥
-IsRefusal (Err NotFlow) = ⊥
-IsRefusal (Err BadCheckpoint) = ⊥
-IsRefusal (Err (Torn place)) = ⊥
-IsRefusal (Err TooLong) = ⊥
+abbrev pub IsRefusal : Result ⊤ KeepFault → Type 0
+IsRefusal result = (result ≡ Err NotDisk) ⊎ ((place : ℕ) × (result ≡ Err (Damaged place))) ⊎ ((number : ℕ) × (result ≡ Err (Rejected number)))
 
 -- After a crash at any moment of a run, or after its return, the disk is one that a run may begin on.
 pub record MayBeginAgain (start end : DiskState) : Type 0 where

@@ -72,7 +72,7 @@ ReadsAll limit content left before after =
 -- What was read and written, by the result: after a fault of the source all complete records that were taken were answered, and no others;
 -- if the disk or the output failed or memory ran out, the source was read no further than near the last record that was answered, or memory
 -- ran out for its checkpoint; and if all was done, nothing is left of the source.
-abbrev pub KeepsPace : ℕ → Option (List ℕ) → Option (List ℕ) → Option (List ℕ) → Option (List ℕ) → Result (Unit {0}) KeepFault → Type 0
+abbrev pub KeepsPace : ℕ → Option (List ℕ) → Option (List ℕ) → Option (List ℕ) → Option (List ℕ) → Result ⊤ KeepFault → Type 0
 KeepsPace limit content left before after (Ok done) = IfSome content (λ bytes. left ≡ Some [])
 KeepsPace limit content left before after (Err Read) = ReadsAll limit content left before after
 KeepsPace limit content left before after (Err Write) = IsNear limit content left before after

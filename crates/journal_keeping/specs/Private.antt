@@ -19,9 +19,8 @@ use Rattle.market_rules.specs.Allocating.{RecordMayAllocate}
 use Rattle.file_units.specs.declared.units.Prefix.{Prefix}
 use Rattle.file_units.specs.declared.units.Prefix.TheVariants.{Taken, NoBytes, Overlong, Short}
 use Rattle.file_units.specs.declared.units.Ending.{Ending}
-use Rattle.file_units.specs.declared.units.Ending.TheVariants as ending
 use Rattle.file_units.specs.declared.input.TakeFault.{TakeFault}
-use Rattle.file_units.specs.declared.input.TakeFault.TheVariants as fault
+use Rattle.file_units.specs.declared.input.TakeFault.TheVariants.{Read, Broken}
 use Rattle.file_units.specs.Inputs.{GoesFrom}
 use Rattle.exchange_session.specs.Serving.{HasNumbers}
 use Rattle.disk_edge.specs.Disks.{DiskState, AtEachMoment}
@@ -31,8 +30,8 @@ use Rattle.journal_keeping.specs.Starts.{head_of}
 use Rattle.journal_keeping.specs.Keeping.{IsKeptJournal, GoesOn, Runs, StandIn}
 use Rattle.journal_keeping.specs.Serving.{HasKept}
 use Rattle.journal_keeping.specs.Pacing.{asked_of}
-use Rattle.journal_keeping.specs.declared.fault.KeepFault.{KeepFault}
-use Rattle.journal_keeping.specs.declared.fault.KeepFault.TheVariants.{Read, Write, Disk, Memory, NotDisk, Damaged, Rejected, NotFlow, BadCheckpoint, Torn, TooLong}
+use Rattle.journal_keeping.specs.declared.fault.ServeFault.{ServeFault}
+use Rattle.journal_keeping.specs.declared.fault.ServeFault.TheVariants.{Disk, Write, Memory}
 
 -- Up to `left` bytes of records can still be served and kept: there are numbers for their orders, and places on the disk for their entries.
 abbrev pub IsReady : Market → ℕ → ℕ → Type 0
@@ -82,23 +81,15 @@ HasAllocating market bytes = (asked : Record) × (rest : List ℕ) × BeginsWith
 
 -- why the first record wasn't served, kept and written, and whether the disk and the output are unchanged
 module _ (bytes : List ℕ) (old : Market) (from to : ℕ) (disk later : DiskState) (before after : Option (List ℕ)) (SameDisk SameOut : Type 0) where
-  abbrev pub BreaksNext : KeepFault → Type 0
+  abbrev pub BreaksNext : ServeFault → Type 0
   BreaksNext Memory = SameDisk × SameOut × HasAllocating old bytes
   BreaksNext Disk =
       SameOut × (pair : Pair Record Outcome) × (new : Market) × IsServed bytes old pair new
       × ((head : Head) (pairs : List RecordPair) → Keeps head pairs from disk → AtEachMoment disk later (WithOrWithout head pairs (records_of pair)))
   BreaksNext Write = (pair : Pair Record Outcome) × (new : Market) × IsServed bytes old pair new × KeepsOneMore pair from to disk later × GrowsByPrefix before after (pair_encoding pair)
-  BreaksNext Read = ⊥
-  BreaksNext NotDisk = ⊥
-  BreaksNext (Damaged place) = ⊥
-  BreaksNext (Rejected number) = ⊥
-  BreaksNext NotFlow = ⊥
-  BreaksNext BadCheckpoint = ⊥
-  BreaksNext (Torn place) = ⊥
-  BreaksNext TooLong = ⊥
 
 -- the entries so far, and one more for a record that was taken
-abbrev pub Adds : List (Pair Record Outcome) → Record → List (Pair Record Outcome) → Unit {0} → Unit {0} → Type 0
+abbrev pub Adds : List (Pair Record Outcome) → Record → List (Pair Record Outcome) → ⊤ → ⊤ → Type 0
 Adds old asked new before after = (pair : Pair Record Outcome) × (pair.asked ≡ asked) × (new ≡ old ++ pair ∷ [])
 
 -- What serving has done so far, from a market and a place: these entries were kept and written.
@@ -107,53 +98,31 @@ pub record SoFar (start now : DiskState) (before market : Market) (from place : 
   pub kept : (begin : Start) (old : List (Pair Record Outcome)) → IsKeptJournal begin old before → Keeps (head_of begin) (map records_of old) from start → HasKept begin start now old before place (asked_of new) new market
   pub told : IsSome now.content → IsSome start.content
 
--- the result of keeping as the result of going through units
-abbrev pub as_going : Result (Unit {0}) KeepFault → Result Ending (TakeFault KeepFault)
-as_going (Ok done) = Ok ending.End
-as_going (Err (Torn place)) = Ok (ending.Torn place)
-as_going (Err TooLong) = Ok ending.TooLong
-as_going (Err Read) = Err fault.Read
-as_going (Err Write) = Err (fault.Broken Write)
-as_going (Err Disk) = Err (fault.Broken Disk)
-as_going (Err Memory) = Err (fault.Broken Memory)
-as_going (Err NotDisk) = Err (fault.Broken NotDisk)
-as_going (Err (Damaged place)) = Err (fault.Broken (Damaged place))
-as_going (Err (Rejected number)) = Err (fault.Broken (Rejected number))
-as_going (Err NotFlow) = Err (fault.Broken NotFlow)
-as_going (Err BadCheckpoint) = Err (fault.Broken BadCheckpoint)
-
 -- It broke off after the entries that were written, at the record of the next entry, if there is one. If memory ran out, that record may
 -- allocate.
-abbrev pub Names : Market → (new more : List (Pair Record Outcome)) → List (Pair Record Outcome) → Record → KeepFault → Unit {0} → Unit {0} → Type 0
+abbrev pub Names : Market → (new more : List (Pair Record Outcome)) → List (Pair Record Outcome) → Record → ServeFault → ⊤ → ⊤ → Type 0
 Names market new more done asked why before after =
     (done ≡ new) × ((more ≡ []) ⊎ (asked_of more ≡ asked ∷ [])) × (why ≡ Memory → RecordMayAllocate market asked)
 
 -- `P` holds unless an entry was being kept or written when it ended
-abbrev pub IfEnded : Result (Unit {0}) KeepFault → Type 0 → Type 0
-IfEnded (Ok done) P = P
-IfEnded (Err (Torn place)) P = P
-IfEnded (Err TooLong) P = P
+abbrev pub IfEnded : Result Ending (TakeFault ServeFault) → Type 0 → Type 0
+IfEnded (Ok ending) P = P
 IfEnded (Err Read) P = P
-IfEnded (Err Write) P = ⊤
-IfEnded (Err Disk) P = ⊤
-IfEnded (Err Memory) P = P
-IfEnded (Err NotDisk) P = ⊥
-IfEnded (Err (Damaged place)) P = ⊥
-IfEnded (Err (Rejected number)) P = ⊥
-IfEnded (Err NotFlow) P = ⊥
-IfEnded (Err BadCheckpoint) P = ⊥
+IfEnded (Err (Broken Memory)) P = P
+IfEnded (Err (Broken Disk)) P = ⊤
+IfEnded (Err (Broken Write)) P = ⊤
 
 -- The records from those that a window held on were served: these entries were kept and written, and it broke off at the next one, if there
 -- is one.
-pub record ServesOn (window : WindowState) (rest left : Option (List ℕ)) (result : Result (Unit {0}) KeepFault) (before : Market) (from : ℕ) (start end : DiskState) (held holds : Option (List ℕ)) : Type 0 where
+pub record ServesOn (window : WindowState) (rest left : Option (List ℕ)) (result : Result Ending (TakeFault ServeFault)) (before : Market) (from : ℕ) (start end : DiskState) (held holds : Option (List ℕ)) : Type 0 where
   pub new : List (Pair Record Outcome)
   pub more : List (Pair Record Outcome)
   pub acknowledged : ℕ
   pub market : Market
   pub so_far : (begin : Start) (old : List (Pair Record Outcome)) → IsKeptJournal begin old before → Keeps (head_of begin) (map records_of old) from start → GoesOn begin old before (asked_of new) new market
-  pub goes : GoesFrom commands Adds (Names market new more) window rest left (as_going result) [] new tt tt
+  pub goes : GoesFrom commands Adds (Names market new more) window rest left result [] new tt tt
   pub runs : (begin : Start) (old : List (Pair Record Outcome)) → IsKeptJournal begin old before → Keeps (head_of begin) (map records_of old) from start → Runs begin start end old before (asked_of (new ++ more)) (new ++ more) acknowledged
-  pub written : StandIn (result ≡ Err Write) held holds (take acknowledged (new ++ more))
+  pub written : StandIn (result ≡ Err (Broken Write)) held holds (take acknowledged (new ++ more))
   pub whole : (text : List ℕ) × Grows held holds (flat_map pair_encoding new ++ text)
   pub ended : IfEnded result ((more ≡ []) × (acknowledged ≡ length new)
       × ((begin : Start) (old : List (Pair Record Outcome)) → IsKeptJournal begin old before → Keeps (head_of begin) (map records_of old) from start → (place : ℕ) × Keeps (head_of begin) (map records_of (old ++ new)) place end))

@@ -6,9 +6,9 @@ ghost use Rattle.market_snapshot.specs.Checkpoints.{IsCheckpoint};
 ghost use Rattle.journal_disk.specs.Entries.{Holds};
 ghost use Rattle.journal_disk.specs.Ahead.{IsPiece};
 ghost use Rattle.journal_disk.specs.Looking.{OnlyLooks};
-ghost use Rattle.journal_keeping.specs.Beginning.{BeginsAt, StopsFirst, IsOfDisk};
+ghost use Rattle.journal_keeping.specs.Beginning.{BeginsAt, StopsFirst};
 
-use crate::fault::KeepFault;
+use crate::fault::OpenFault;
 use crate::version::is_same;
 use disk_edge::Disk;
 use journal_disk::{Ahead, DiskJournal};
@@ -21,24 +21,24 @@ use wire_records::Version;
 const FIRST: u64 = 8;
 
 // Returns the market of a first entry that holds a checkpoint of a version.
-fn checkpoint_market(alloc: Global, bytes: &[u8], version: Version) -> Result<Market, KeepFault>
+fn checkpoint_market(alloc: Global, bytes: &[u8], version: Version) -> Result<Market, OpenFault>
     ensures one { IfOk result (λ market. IsCheckpoint market bytes.now × (market.version ≡ version)) }
-    ensures none { IfErr result (λ fault. fault ≡ KeepFault.Damaged 8 →
+    ensures none { IfErr result (λ fault. fault ≡ OpenFault.Damaged 8 →
         (market : market_value) → IsCheckpoint market bytes.now → market.version ≡ version → ⊥) }
-    ensures refused { IfErr result (λ fault. (fault ≡ KeepFault.Damaged 8) ⊎ (fault ≡ KeepFault.Memory)) }
+    ensures refused { IfErr result (λ fault. (fault ≡ OpenFault.Damaged 8) ⊎ (fault ≡ OpenFault.Memory)) }
 {
     match read_market(alloc, bytes) {
         Ok((market, taken)) => {
             if taken < bytes.len() {
-                return Err(KeepFault::Damaged(FIRST));
+                return Err(OpenFault::Damaged(FIRST));
             }
             if !is_same(market.version(), version) {
-                return Err(KeepFault::Damaged(FIRST));
+                return Err(OpenFault::Damaged(FIRST));
             }
             Ok(market)
         }
-        Err(SnapshotFault::NotSound) => Err(KeepFault::Damaged(FIRST)),
-        Err(SnapshotFault::Memory) => Err(KeepFault::Memory),
+        Err(SnapshotFault::NotSound) => Err(OpenFault::Damaged(FIRST)),
+        Err(SnapshotFault::Memory) => Err(OpenFault::Memory),
     }
 }
 
@@ -49,7 +49,7 @@ pub(crate) fn first_market<D: Disk>(
     disk: &mut D,
     ahead: &mut Ahead,
     version: Version,
-) -> Result<Market, KeepFault>
+) -> Result<Market, OpenFault>
     requires first { journal.old ≡ 8 }
     requires piece { IfSome (D.state disk.old).content (IsPiece ahead.old) }
     ensures begins { IfOk result (λ market. (rest bytes : List ℕ) → (D.state disk.old).content ≡ Some bytes →
@@ -57,10 +57,9 @@ pub(crate) fn first_market<D: Disk>(
     ensures stops { IfErr result (λ fault. (rest bytes : List ℕ) → (D.state disk.old).content ≡ Some bytes →
         Holds (record { version = version; first = None }) [] 8 rest (D.state disk.old) → StopsFirst fault bytes) }
     ensures piece { IfSome (D.state disk.new).content (IsPiece ahead.new) }
-    ensures of_disk { IfErr result IsOfDisk }
     ensures near { IfOk result (λ market. (market.next_order ≤ 2 ^ 63) × (journal.new ≤ 2 ^ 60)) }
     ensures looks { OnlyLooks (D.state disk.old) (D.state disk.new) }
-    ensures cause { Blames (result ≡ Err KeepFault.Disk) (D.state disk.old).faults (D.state disk.new).faults }
+    ensures cause { Blames (result ≡ Err OpenFault.Disk) (D.state disk.old).faults (D.state disk.new).faults }
 {
     match journal.find_first(disk, ahead, &CHECKPOINT_MAGIC) {
         Ok(Some(count)) => match checkpoint_market(alloc, journal.first(ahead, count), version) {
@@ -71,6 +70,6 @@ pub(crate) fn first_market<D: Disk>(
             Err(fault) => Err(fault),
         },
         Ok(None) => Ok(Market::new_in(alloc, version)),
-        Err(fault) => Err(KeepFault::from(fault)),
+        Err(fault) => Err(OpenFault::from(fault)),
     }
 }

@@ -15,7 +15,7 @@ ghost use Rattle.journal_keeping.specs.Lengths.{GrowsAtMost};
 ghost use Rattle.journal_keeping.specs.Pacing.{KeepsPace, RunsOut};
 ghost use Rattle.journal_keeping.specs.Ended.{ComesTo, IsRefusal, MayBeginAgain};
 
-use crate::fault::KeepFault;
+use crate::fault::{KeepFault, kept};
 use crate::opening::begin;
 use crate::taking::serve_on;
 use disk_edge::Disk;
@@ -77,7 +77,7 @@ pub fn keep<S: Source, D: Disk, K: Sink>(
     ensures out_cause { Blames (result ≡ Err KeepFault.Write) (K.faults out.old) (K.faults out.new) }
 {
     match begin(alloc, limit, source, disk) {
-        Ok(mut begun) => serve_on(&mut begun.window, source, &mut begun.writer, disk, out),
-        Err(fault) => Err(fault),
+        Ok(mut begun) => kept(serve_on(&mut begun.window, source, &mut begun.writer, disk, out)),
+        Err(fault) => Err(KeepFault::from(fault)),
     }
 }

@@ -19,10 +19,10 @@ ghost use Rattle.journal_keeping.specs.Keeping.{HoldsLegal};
 ghost use Rattle.journal_keeping.specs.Openings.{KeepNone};
 ghost use Rattle.journal_keeping.specs.Lengths.{GrowsAtMost};
 ghost use Rattle.journal_keeping.specs.Making.{HasTakenStart, IsMadeAfterStart};
-ghost use Rattle.journal_keeping.specs.Beginning.{IsOpened, IsKeptOn, IsStored, OpensNot, IsOfDisk, IsCounted, NotBegun, Unread, Asked, WhileOpening, OpensSafely, HasBegun};
+ghost use Rattle.journal_keeping.specs.Beginning.{IsOpened, IsKeptOn, IsStored, OpensNot, IsCounted, NotBegun, Unread, WhileOpening, OpensSafely, HasBegun};
 
 use crate::disk_start::first_market;
-use crate::fault::KeepFault;
+use crate::fault::{BeginFault, InputFault, OpenFault};
 use crate::reading::audit_kept;
 use crate::source_start::{OpenStart, open_source, open_start};
 use crate::taking::Writer;
@@ -55,21 +55,20 @@ fn read_up<D: Disk>(
     disk: &mut D,
     journal: &mut DiskJournal,
     version: Version,
-) -> Result<ReadUp, KeepFault>
+) -> Result<ReadUp, OpenFault>
     requires found { IfSome (D.state disk.old).content (λ held. IsFound (Some version) held (D.state disk.old)) }
     requires first { journal.old ≡ 8 }
     ensures read { IfOk result (λ read. IfSome (D.state disk.old).content (λ held. IsOpened version held read.audit journal.new (D.state disk.new))) }
     ensures counted { IfOk result (λ read. IfSome (D.state disk.old).content (IsCounted read.entries)) }
     ensures refused { IfErr result (λ fault. IfSome (D.state disk.old).content (λ held. OpensNot held (D.state disk.new) fault)) }
-    ensures of_disk { IfErr result IsOfDisk }
     ensures near { IfOk result (λ read. read.audit.next_order ≤ journal.new + 2 ^ 63) }
     ensures few { IfOk result (λ read. read.entries ≤ journal.new) }
     ensures looks { OnlyLooks (D.state disk.old) (D.state disk.new) }
-    ensures cause { Blames (result ≡ Err KeepFault.Disk) (D.state disk.old).faults (D.state disk.new).faults }
+    ensures cause { Blames (result ≡ Err OpenFault.Disk) (D.state disk.old).faults (D.state disk.new).faults }
 {
     let mut ahead = match Ahead::new(alloc, disk) {
         Ok(ahead) => ahead,
-        Err(fault) => return Err(KeepFault::from(fault)),
+        Err(fault) => return Err(OpenFault::from(fault)),
     };
     let market = match first_market(alloc, journal, disk, &mut ahead, version) {
         Ok(market) => market,
@@ -90,13 +89,12 @@ pub fn open_kept<D: Disk>(
     disk: &mut D,
     version: Version,
     pair: Vec<u8>,
-) -> Result<Writer, KeepFault>
+) -> Result<Writer, OpenFault>
     requires found { IfSome (D.state disk.old).content (λ held. IsFound (Some version) held (D.state disk.old)) }
     requires room { longest_plain_pair ≤ vec_capacity pair }
     ensures begun { IfOk result (λ writer. IfSome (D.state disk.old).content
         (λ held. IsKeptOn version held writer.session writer.appender (D.state disk.new))) }
     ensures refused { IfErr result (λ fault. IfSome (D.state disk.old).content (λ held. OpensNot held (D.state disk.new) fault)) }
-    ensures of_disk { IfErr result IsOfDisk }
     ensures untouched { IfSome (D.state disk.old).content (λ held. KeepNone held → OnlyLooks (D.state disk.old) (D.state disk.new)) }
     ensures moments { (was : Start) (old : List (Pair Record Outcome)) (market : market_value) → HoldsLegal (D.state disk.old) was old market →
         AtEachMoment (D.state disk.old) (D.state disk.new) (WhileOpening was (D.state disk.old) old) }
@@ -106,7 +104,7 @@ pub fn open_kept<D: Disk>(
     ensures near { IfOk result (λ writer. (writer.session.next_order ≤ writer.appender + 2 ^ 63) × (writer.appender ≤ 2 ^ 60)) }
     ensures counted { IfOk result (λ writer. IfSome (D.state disk.old).content (IsCounted writer.entries)) }
     ensures few { IfOk result (λ writer. writer.entries ≤ writer.appender) }
-    ensures cause { Blames (result ≡ Err KeepFault.Disk) (D.state disk.old).faults (D.state disk.new).faults }
+    ensures cause { Blames (result ≡ Err OpenFault.Disk) (D.state disk.old).faults (D.state disk.new).faults }
 {
     let mut journal = DiskJournal::after_magic();
     match read_up(alloc, disk, &mut journal, version) {
@@ -117,7 +115,7 @@ pub fn open_kept<D: Disk>(
                 entries: read.entries,
                 pair,
             }),
-            Err(fault) => Err(KeepFault::from(fault)),
+            Err(fault) => Err(OpenFault::from(fault)),
         },
         Err(fault) => Err(fault),
     }
@@ -130,7 +128,7 @@ pub fn make_disk<D: Disk>(
     disk: &mut D,
     version: Version,
     stored: &[u8],
-) -> Result<(), KeepFault>
+) -> Result<(), OpenFault>
     requires new { IfSome (D.state disk.old).content IsNewDisk }
     requires first { appender.old ≡ 8 }
     requires short { length stored.now ≤ 2 ^ 33 }
@@ -142,19 +140,19 @@ pub fn make_disk<D: Disk>(
     ensures lengths { ReachesAtMost (9 + length stored.now) (D.state disk.old) (D.state disk.new) }
     ensures told { OnOk result (IsSome (D.state disk.new).content → IsSome (D.state disk.old).content) }
     ensures place { OnOk result ((8 ≤ appender.new) × (appender.new ≤ 8 + length stored.now)) }
-    ensures refused { OnErr result (result ≡ Err KeepFault.Disk) }
-    ensures cause { Blames (result ≡ Err KeepFault.Disk) (D.state disk.old).faults (D.state disk.new).faults }
+    ensures refused { OnErr result (result ≡ Err OpenFault.Disk) }
+    ensures cause { Blames (result ≡ Err OpenFault.Disk) (D.state disk.old).faults (D.state disk.new).faults }
 {
     match appender.make(disk, version) {
         Ok(()) => {}
-        Err(_) => return Err(KeepFault::Disk),
+        Err(_) => return Err(OpenFault::Disk),
     }
     if stored.is_empty() {
         return Ok(());
     }
     match appender.append_first(disk, stored) {
         Ok(()) => Ok(()),
-        Err(_) => Err(KeepFault::Disk),
+        Err(_) => Err(OpenFault::Disk),
     }
 }
 
@@ -165,7 +163,7 @@ fn begin_kept<S: Source, D: Disk>(
     source: &mut S,
     disk: &mut D,
     version: Version,
-) -> Result<Begun, KeepFault>
+) -> Result<Begun, BeginFault>
     requires found { IfSome (D.state disk.old).content (λ held. IsFound (Some version) held (D.state disk.old)) }
     ensures begun { IfOk result (λ b. HasBegun limit (D.state disk.old) (D.state disk.new) b.window (S.rest source.old) (S.rest source.new)
         b.writer.session b.writer.appender) }
@@ -173,27 +171,27 @@ fn begin_kept<S: Source, D: Disk>(
     ensures refused { IfErr result (λ fault. IfSome (D.state disk.old).content (λ held. NotBegun limit held (S.rest source.old) (S.rest source.new) (D.state disk.new) fault)) }
     ensures unread { IfErr result (Unread limit (S.rest source.old) (S.rest source.new)) }
     ensures taken { IsErr result → TakesAtMost (S.rest source.old) (S.rest source.new) (limit + 1) }
-    ensures unasked { IfErr result (λ fault. Asked fault (source.new ≡ source.old)) }
+    ensures unasked { (fault : OpenFault) → result ≡ Err (BeginFault.Open fault) → source.new ≡ source.old }
     ensures untouched { IfSome (D.state disk.old).content
         (λ held. KeepNone held → IsErr result × OnlyLooks (D.state disk.old) (D.state disk.new) × (source.new ≡ source.old)) }
     ensures safe { IsErr result → (was : Start) (old : List (Pair Record Outcome)) (market : market_value) → HoldsLegal (D.state disk.old) was old market →
         OpensSafely limit (S.rest source.old) (D.state disk.old) (D.state disk.new) was old market }
     ensures lengths { IsErr result → GrowsAtMost limit (S.rest source.old) (D.state disk.old) (D.state disk.new) }
     ensures told { OnOk result (IsSome (D.state disk.new).content → IsSome (D.state disk.old).content) }
-    ensures disk_cause { Blames (result ≡ Err KeepFault.Disk) (D.state disk.old).faults (D.state disk.new).faults }
-    ensures source_cause { Blames (result ≡ Err KeepFault.Read) (S.faults source.old) (S.faults source.new) }
+    ensures disk_cause { Blames ((result ≡ Err (BeginFault.Open OpenFault.Disk)) ⊎ (result ≡ Err BeginFault.Make)) (D.state disk.old).faults (D.state disk.new).faults }
+    ensures source_cause { Blames (result ≡ Err (BeginFault.Input InputFault.Read)) (S.faults source.old) (S.faults source.new) }
 {
     let pair = match Vec::with_capacity(alloc, MOST_PLAIN_PAIR) {
         Ok(pair) => pair,
-        Err(_) => return Err(KeepFault::Memory),
+        Err(_) => return Err(BeginFault::Open(OpenFault::Memory)),
     };
     let writer = match open_kept(alloc, disk, version, pair) {
         Ok(writer) => writer,
-        Err(fault) => return Err(fault),
+        Err(fault) => return Err(BeginFault::Open(fault)),
     };
     match open_source(alloc, limit, source, version) {
         Ok(window) => Ok(Begun { window, writer }),
-        Err(fault) => Err(fault),
+        Err(fault) => Err(BeginFault::Input(fault)),
     }
 }
 
@@ -203,7 +201,7 @@ fn begin_new<S: Source, D: Disk>(
     limit: u64,
     source: &mut S,
     disk: &mut D,
-) -> Result<Begun, KeepFault>
+) -> Result<Begun, BeginFault>
     requires few { limit ≤ 2 ^ 32 }
     requires found { IfSome (D.state disk.old).content (λ held. IsFound None held (D.state disk.old)) }
     ensures begun { IfOk result (λ b. HasBegun limit (D.state disk.old) (D.state disk.new) b.window (S.rest source.old) (S.rest source.new)
@@ -212,7 +210,7 @@ fn begin_new<S: Source, D: Disk>(
     ensures refused { IfErr result (λ fault. IfSome (D.state disk.old).content (λ held. NotBegun limit held (S.rest source.old) (S.rest source.new) (D.state disk.new) fault)) }
     ensures unread { IfErr result (Unread limit (S.rest source.old) (S.rest source.new)) }
     ensures taken { IsErr result → TakesAtMost (S.rest source.old) (S.rest source.new) (limit + 1) }
-    ensures unasked { IfErr result (λ fault. Asked fault (source.new ≡ source.old)) }
+    ensures unasked { (fault : OpenFault) → result ≡ Err (BeginFault.Open fault) → source.new ≡ source.old }
     ensures untouched { IfSome (D.state disk.old).content
         (λ held. KeepNone held → IsErr result × OnlyLooks (D.state disk.old) (D.state disk.new) × (source.new ≡ source.old)) }
     ensures safe { IsErr result → (was : Start) (old : List (Pair Record Outcome)) (market : market_value) → HoldsLegal (D.state disk.old) was old market →
@@ -221,16 +219,16 @@ fn begin_new<S: Source, D: Disk>(
     ensures told { OnOk result (IsSome (D.state disk.new).content → IsSome (D.state disk.old).content) }
     ensures made { IfErr result (λ _. OnlyLooks (D.state disk.old) (D.state disk.new)
         ⊎ IfSome (S.rest source.old) (λ bytes. HasTakenStart limit bytes (S.rest source.new))) }
-    ensures disk_cause { Blames (result ≡ Err KeepFault.Disk) (D.state disk.old).faults (D.state disk.new).faults }
-    ensures source_cause { Blames (result ≡ Err KeepFault.Read) (S.faults source.old) (S.faults source.new) }
+    ensures disk_cause { Blames ((result ≡ Err (BeginFault.Open OpenFault.Disk)) ⊎ (result ≡ Err BeginFault.Make)) (D.state disk.old).faults (D.state disk.new).faults }
+    ensures source_cause { Blames (result ≡ Err (BeginFault.Input InputFault.Read)) (S.faults source.old) (S.faults source.new) }
 {
     let pair = match Vec::with_capacity(alloc, MOST_PLAIN_PAIR) {
         Ok(pair) => pair,
-        Err(_) => return Err(KeepFault::Memory),
+        Err(_) => return Err(BeginFault::Open(OpenFault::Memory)),
     };
     let mut appender = match Appender::for_new(alloc) {
         Ok(appender) => appender,
-        Err(_) => return Err(KeepFault::Memory),
+        Err(_) => return Err(BeginFault::Open(OpenFault::Memory)),
     };
     let OpenStart {
         window,
@@ -238,7 +236,7 @@ fn begin_new<S: Source, D: Disk>(
         stored,
     } = match open_start(alloc, limit, source) {
         Ok(opened) => opened,
-        Err(fault) => return Err(fault),
+        Err(fault) => return Err(BeginFault::Input(fault)),
     };
     match make_disk(&mut appender, disk, market.version(), &stored) {
         Ok(()) => Ok(Begun {
@@ -250,7 +248,7 @@ fn begin_new<S: Source, D: Disk>(
                 pair,
             },
         }),
-        Err(fault) => Err(fault),
+        Err(_) => Err(BeginFault::Make),
     }
 }
 
@@ -261,7 +259,7 @@ pub(crate) fn begin<S: Source, D: Disk>(
     limit: u64,
     source: &mut S,
     disk: &mut D,
-) -> Result<Begun, KeepFault>
+) -> Result<Begun, BeginFault>
     requires few { limit ≤ 2 ^ 32 }
     ensures begun { IfOk result (λ b. HasBegun limit (D.state disk.old) (D.state disk.new) b.window (S.rest source.old) (S.rest source.new)
         b.writer.session b.writer.appender) }
@@ -269,7 +267,7 @@ pub(crate) fn begin<S: Source, D: Disk>(
     ensures refused { IfErr result (λ fault. IfSome (D.state disk.old).content (λ held. NotBegun limit held (S.rest source.old) (S.rest source.new) (D.state disk.new) fault)) }
     ensures unread { IfErr result (Unread limit (S.rest source.old) (S.rest source.new)) }
     ensures taken { IsErr result → TakesAtMost (S.rest source.old) (S.rest source.new) (limit + 1) }
-    ensures unasked { IfErr result (λ fault. Asked fault (source.new ≡ source.old)) }
+    ensures unasked { (fault : OpenFault) → result ≡ Err (BeginFault.Open fault) → source.new ≡ source.old }
     ensures untouched { IfSome (D.state disk.old).content
         (λ held. KeepNone held → IsErr result × OnlyLooks (D.state disk.old) (D.state disk.new) × (source.new ≡ source.old)) }
     ensures safe { IsErr result → (was : Start) (old : List (Pair Record Outcome)) (market : market_value) → HoldsLegal (D.state disk.old) was old market →
@@ -278,12 +276,12 @@ pub(crate) fn begin<S: Source, D: Disk>(
     ensures told { OnOk result (IsSome (D.state disk.new).content → IsSome (D.state disk.old).content) }
     ensures made { IfErr result (λ _. IfSome (D.state disk.old).content
         (λ held. IsMadeAfterStart limit held (D.state disk.old) (D.state disk.new) (S.rest source.old) (S.rest source.new))) }
-    ensures disk_cause { Blames (result ≡ Err KeepFault.Disk) (D.state disk.old).faults (D.state disk.new).faults }
-    ensures source_cause { Blames (result ≡ Err KeepFault.Read) (S.faults source.old) (S.faults source.new) }
+    ensures disk_cause { Blames ((result ≡ Err (BeginFault.Open OpenFault.Disk)) ⊎ (result ≡ Err BeginFault.Make)) (D.state disk.old).faults (D.state disk.new).faults }
+    ensures source_cause { Blames (result ≡ Err (BeginFault.Input InputFault.Read)) (S.faults source.old) (S.faults source.new) }
 {
     match recover(disk) {
         Ok(Some(version)) => begin_kept(alloc, limit, source, disk, version),
         Ok(None) => begin_new(alloc, limit, source, disk),
-        Err(fault) => Err(KeepFault::from(fault)),
+        Err(fault) => Err(BeginFault::Open(OpenFault::from(fault))),
     }
 }

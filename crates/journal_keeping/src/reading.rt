@@ -13,26 +13,25 @@ ghost use Rattle.journal_disk.specs.Looking.{OnlyLooks};
 ghost use Rattle.journal_keeping.specs.Starts.{head_of};
 ghost use Rattle.journal_keeping.specs.Keeping.{IsKeptJournal};
 ghost use Rattle.journal_keeping.specs.Auditing.{StopsAs};
-ghost use Rattle.journal_keeping.specs.Beginning.{IsOfDisk};
 
-use crate::fault::KeepFault;
+use crate::fault::OpenFault;
 use batch_audit::{Audit, Legality};
 use disk_edge::Disk;
 use journal_disk::{Ahead, DiskJournal};
 use journal_records::PairView;
 
 // Audits a kept entry, which has this number.
-fn judge(audit: &mut Audit, pair: &PairView<'_>, number: u64) -> Result<(), KeepFault>
+fn judge(audit: &mut Audit, pair: &PairView<'_>, number: u64) -> Result<(), OpenFault>
     requires next { audit.old.next_order + 1 < 2 ^ 64 }
     ensures legal { OnOk result (IsLegalPair audit.old pair.now audit.new) }
     ensures next { OnOk result (audit.new.next_order ≤ audit.old.next_order + 1) }
-    ensures illegal { result ≡ Err (KeepFault.Rejected number) → IsIllegalPair audit.old pair.now }
-    ensures refused { IfErr result (λ fault. (fault ≡ KeepFault.Rejected number) ⊎ (fault ≡ KeepFault.Memory)) }
+    ensures illegal { result ≡ Err (OpenFault.Rejected number) → IsIllegalPair audit.old pair.now }
+    ensures refused { IfErr result (λ fault. (fault ≡ OpenFault.Rejected number) ⊎ (fault ≡ OpenFault.Memory)) }
 {
     match audit.pair(pair) {
         Ok(Legality::Legal) => Ok(()),
-        Ok(Legality::Illegal) => Err(KeepFault::Rejected(number)),
-        Err(_) => Err(KeepFault::Memory),
+        Ok(Legality::Illegal) => Err(OpenFault::Rejected(number)),
+        Err(_) => Err(OpenFault::Memory),
     }
 }
 
@@ -49,7 +48,7 @@ pub fn audit_kept<D: Disk>(
     disk: &mut D,
     ahead: &mut Ahead,
     audit: &mut Audit,
-) -> Result<u64, KeepFault>
+) -> Result<u64, OpenFault>
     requires next { audit.old.next_order ≤ journal.old + 2 ^ 63 }
     requires piece { IfSome (D.state disk.old).content (IsPiece ahead.old) }
     ensures ends { IfOk result (λ count. (begin : Start) (rest : List ℕ) → CanStart begin → audit.old ≡ market_of begin →
@@ -57,11 +56,10 @@ pub fn audit_kept<D: Disk>(
         (legal : List (Pair Record Outcome)) × (count ≡ length legal) × IsKeptJournal begin legal audit.new × EndsAt (head_of begin) (map records_of legal) journal.new (D.state disk.new)) }
     ensures stops { IfErr result (λ fault. (begin : Start) (rest bytes : List ℕ) → CanStart begin → audit.old ≡ market_of begin →
         Holds (head_of begin) [] journal.old rest (D.state disk.old) → (D.state disk.old).content ≡ Some bytes → StopsAs begin fault bytes) }
-    ensures of_disk { IfErr result IsOfDisk }
     ensures next { OnOk result (audit.new.next_order ≤ journal.new + 2 ^ 63) }
     ensures few { IfOk result (λ count. count ≤ journal.new) }
     ensures looks { OnlyLooks (D.state disk.old) (D.state disk.new) }
-    ensures cause { Blames (result ≡ Err KeepFault.Disk) (D.state disk.old).faults (D.state disk.new).faults }
+    ensures cause { Blames (result ≡ Err OpenFault.Disk) (D.state disk.old).faults (D.state disk.new).faults }
 {
     let mut number: u64 = 0;
     'pairs: loop {
@@ -72,9 +70,9 @@ pub fn audit_kept<D: Disk>(
                     number = number.saturating_add(1);
                     judge(audit, &pair, number)?;
                 }
-                Err(fault) => return Err(KeepFault::from(fault)),
+                Err(fault) => return Err(OpenFault::from(fault)),
             },
-            Err(fault) => return Err(KeepFault::from(fault)),
+            Err(fault) => return Err(OpenFault::from(fault)),
         }
     }
 }

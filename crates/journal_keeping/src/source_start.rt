@@ -12,7 +12,7 @@ ghost use Rattle.market_history.specs.Histories.{Empty};
 ghost use Rattle.journal_disk.specs.Entries.{framed};
 ghost use Rattle.journal_keeping.specs.Beginning.{IsAfterStart, OpensStart, IsOfSource};
 
-use crate::fault::KeepFault;
+use crate::fault::InputFault;
 use crate::version::is_same;
 use flow_io::{Filled, Source, Window};
 use journal_disk::stored_first;
@@ -35,19 +35,19 @@ pub(crate) struct OpenStart {
 }
 
 // Moves a window past the magic that it holds, if that is the magic of this version.
-fn after_magic(window: Window, version: Version) -> Result<Window, KeepFault>
+fn after_magic(window: Window, version: Version) -> Result<Window, InputFault>
     requires some { 8 ≤ length window.held }
     ensures following { IfOk result (λ following. ((body : List ℕ) × BeginsWith commands.magics window.held version body)
         × (following ≡ record window { held = drop 8 window.held; place = window.place + 8 }) × (length window.held ≤ window.room)) }
-    ensures other { IfErr result (λ fault. (fault ≡ KeepFault.NotFlow) × ((body : List ℕ) → ¬ BeginsWith commands.magics window.held version body)) }
+    ensures other { IfErr result (λ fault. (fault ≡ InputFault.NotFlow) × ((body : List ℕ) → ¬ BeginsWith commands.magics window.held version body)) }
 {
     let mut window = window;
     let found = match command_version(window.held()) {
         Some(found) => found,
-        None => return Err(KeepFault::NotFlow),
+        None => return Err(InputFault::NotFlow),
     };
     if !is_same(found, version) {
-        return Err(KeepFault::NotFlow);
+        return Err(InputFault::NotFlow);
     }
     window.advance(MAGIC);
     Ok(window)
@@ -59,39 +59,39 @@ pub(crate) fn open_source<S: Source>(
     limit: u64,
     source: &mut S,
     version: Version,
-) -> Result<Window, KeepFault>
+) -> Result<Window, InputFault>
     ensures following { IfOk result (λ window. IsAfterStart limit (Empty version) window (S.rest source.old) (S.rest source.new)) }
     ensures of_source { IfErr result (IsOfSource (Some version) limit (S.rest source.old) (S.rest source.new)) }
     ensures taken { IsErr result → TakesAtMost (S.rest source.old) (S.rest source.new) (limit + 1) }
-    ensures cause { Blames (result ≡ Err KeepFault.Read) (S.faults source.old) (S.faults source.new) }
+    ensures cause { Blames (result ≡ Err InputFault.Read) (S.faults source.old) (S.faults source.new) }
 {
     let mut window = match Window::new(alloc, MOST_RECORD, limit) {
         Ok(window) => window,
-        Err(_) => return Err(KeepFault::Memory),
+        Err(_) => return Err(InputFault::Memory),
     };
     match window.fill(source, MAGIC) {
         Ok(Filled::Enough) => after_magic(window, version),
-        Ok(Filled::Ended) => Err(KeepFault::NotFlow),
-        Ok(Filled::Limited) => Err(KeepFault::NotFlow),
-        Err(_) => Err(KeepFault::Read),
+        Ok(Filled::Ended) => Err(InputFault::NotFlow),
+        Ok(Filled::Limited) => Err(InputFault::NotFlow),
+        Err(_) => Err(InputFault::Read),
     }
 }
 
 /// Puts the checkpoint of a market together as a first entry, as it is stored on a disk. The only error is `Memory`.
-pub fn stored_checkpoint(alloc: Global, market: &mut Market) -> Result<Vec<u8>, KeepFault>
+pub fn stored_checkpoint(alloc: Global, market: &mut Market) -> Result<Vec<u8>, InputFault>
     requires { length (checkpoint_bytes market.old) < 2 ^ 32 }
     ensures stored { IfOk result (λ stored. stored.items ≡ framed (checkpoint_bytes market.old) ++ 0 ∷ []) }
     ensures market { market.new ≡ market.old }
-    ensures refused { IfErr result (λ fault. fault ≡ KeepFault.Memory) }
+    ensures refused { IfErr result (λ fault. fault ≡ InputFault.Memory) }
 {
     let mut checkpoint = Vec::new(alloc);
     match write_market(market, &mut checkpoint) {
         Ok(()) => {}
-        Err(_) => return Err(KeepFault::Memory),
+        Err(_) => return Err(InputFault::Memory),
     }
     match stored_first(alloc, &checkpoint) {
         Ok(stored) => Ok(stored),
-        Err(_) => Err(KeepFault::Memory),
+        Err(_) => Err(InputFault::Memory),
     }
 }
 
@@ -101,7 +101,7 @@ fn after_checkpoint<S: Source>(
     window: Window,
     source: &mut S,
     market: Market,
-) -> Result<OpenStart, KeepFault>
+) -> Result<OpenStart, InputFault>
     requires room { window.room ≡ longest_record }
     requires open { window.over ≡ None }
     requires within { window.place + length window.held ≤ window.limit }
@@ -114,14 +114,14 @@ fn after_checkpoint<S: Source>(
     ensures of_source { IfErr result (λ fault. (before : Option (List ℕ)) → IsCheckpoint market (checkpoint_bytes market) →
         Takes before (S.rest source.old) (checkpoint_bytes market ++ window.held) →
         IsOfSource None window.limit before (S.rest source.new) fault × TakesAtMost before (S.rest source.new) (window.limit + 1)) }
-    ensures cause { Blames (result ≡ Err KeepFault.Read) (S.faults source.old) (S.faults source.new) }
+    ensures cause { Blames (result ≡ Err InputFault.Read) (S.faults source.old) (S.faults source.new) }
 {
     let mut window = window;
     match window.fill(source, MAGIC) {
         Ok(Filled::Enough) => {}
-        Ok(Filled::Ended) => return Err(KeepFault::NotFlow),
-        Ok(Filled::Limited) => return Err(KeepFault::NotFlow),
-        Err(_) => return Err(KeepFault::Read),
+        Ok(Filled::Ended) => return Err(InputFault::NotFlow),
+        Ok(Filled::Limited) => return Err(InputFault::NotFlow),
+        Err(_) => return Err(InputFault::Read),
     }
     let mut market = market;
     match after_magic(window, market.version()) {
@@ -142,7 +142,7 @@ fn start_at<S: Source>(
     alloc: Global,
     window: Window,
     source: &mut S,
-) -> Result<OpenStart, KeepFault>
+) -> Result<OpenStart, InputFault>
     requires some { 8 ≤ length window.held }
     requires room { window.room ≡ longest_record }
     requires open { window.over ≡ None }
@@ -154,7 +154,7 @@ fn start_at<S: Source>(
     ensures numbers { IfOk result (λ o. o.market.next_order ≤ 2 ^ 63) }
     ensures of_source { IfErr result (λ fault. (before : Option (List ℕ)) → Takes before (S.rest source.old) window.held →
         IsOfSource None window.limit before (S.rest source.new) fault × TakesAtMost before (S.rest source.new) (window.limit + 1)) }
-    ensures cause { Blames (result ≡ Err KeepFault.Read) (S.faults source.old) (S.faults source.new) }
+    ensures cause { Blames (result ≡ Err InputFault.Read) (S.faults source.old) (S.faults source.new) }
 {
     let mut window = window;
     match command_version(window.held()) {
@@ -169,14 +169,14 @@ fn start_at<S: Source>(
         None => {}
     }
     if !window.held().starts_with(&CHECKPOINT_MAGIC) {
-        return Err(KeepFault::NotFlow);
+        return Err(InputFault::NotFlow);
     }
     match kept_market(alloc, &mut window, source) {
         Ok(market) => after_checkpoint(alloc, window, source, market),
-        Err(StartFault::Read) => Err(KeepFault::Read),
-        Err(StartFault::Memory) => Err(KeepFault::Memory),
-        Err(StartFault::NotFlow) => Err(KeepFault::NotFlow),
-        Err(StartFault::NoCheckpoint) => Err(KeepFault::BadCheckpoint),
+        Err(StartFault::Read) => Err(InputFault::Read),
+        Err(StartFault::Memory) => Err(InputFault::Memory),
+        Err(StartFault::NotFlow) => Err(InputFault::NotFlow),
+        Err(StartFault::NoCheckpoint) => Err(InputFault::BadCheckpoint),
     }
 }
 
@@ -185,22 +185,22 @@ pub(crate) fn open_start<S: Source>(
     alloc: Global,
     limit: u64,
     source: &mut S,
-) -> Result<OpenStart, KeepFault>
+) -> Result<OpenStart, InputFault>
     requires few { limit ≤ 2 ^ 32 }
     ensures opens { IfOk result (λ o. OpensStart limit o.market o.stored.items o.window (S.rest source.old) (S.rest source.new)) }
     ensures numbers { IfOk result (λ o. o.market.next_order ≤ 2 ^ 63) }
     ensures of_source { IfErr result (IsOfSource None limit (S.rest source.old) (S.rest source.new)) }
     ensures taken { IsErr result → TakesAtMost (S.rest source.old) (S.rest source.new) (limit + 1) }
-    ensures cause { Blames (result ≡ Err KeepFault.Read) (S.faults source.old) (S.faults source.new) }
+    ensures cause { Blames (result ≡ Err InputFault.Read) (S.faults source.old) (S.faults source.new) }
 {
     let mut window = match Window::new(alloc, MOST_RECORD, limit) {
         Ok(window) => window,
-        Err(_) => return Err(KeepFault::Memory),
+        Err(_) => return Err(InputFault::Memory),
     };
     match window.fill(source, MAGIC) {
         Ok(Filled::Enough) => start_at(alloc, window, source),
-        Ok(Filled::Ended) => Err(KeepFault::NotFlow),
-        Ok(Filled::Limited) => Err(KeepFault::NotFlow),
-        Err(_) => Err(KeepFault::Read),
+        Ok(Filled::Ended) => Err(InputFault::NotFlow),
+        Ok(Filled::Limited) => Err(InputFault::NotFlow),
+        Err(_) => Err(InputFault::Read),
     }
 }

@@ -25,10 +25,10 @@ ghost use Rattle.journal_keeping.specs.Keeping.{IsKeptJournal};
 ghost use Rattle.journal_keeping.specs.Lengths.{HasYetAtMost};
 ghost use Rattle.journal_keeping.specs.Private.{IsReady, IsTakenNext, IsStill, BreaksNext, ServesOn};
 
-use crate::fault::KeepFault;
+use crate::fault::ServeFault;
 use disk_edge::Disk;
 use exchange_session::Session;
-use file_units::Prefix;
+use file_units::{Ending, Prefix, TakeFault};
 use flow_io::{Filled, ReadFailed, Sink, Source, Window};
 use journal_disk::Appender;
 
@@ -51,12 +51,12 @@ fn put_pair<D: Disk, K: Sink>(
     pair: &[u8],
     disk: &mut D,
     out: &mut K,
-) -> Result<(), KeepFault>
+) -> Result<(), ServeFault>
     requires pair { IsWholePair pair.now }
     requires room { appender.old ≤ 2 ^ 61 }
     requires kept { IfSome (D.state disk.old).content
         (λ _. (head : Head) × (pairs : List RecordPair) × Keeps head pairs appender.old (D.state disk.old)) }
-    ensures kept { result ≢ Err KeepFault.Disk → (head : Head) (pairs : List RecordPair) (last : RecordPair) →
+    ensures kept { result ≢ Err ServeFault.Disk → (head : Head) (pairs : List RecordPair) (last : RecordPair) →
         Keeps head pairs appender.old (D.state disk.old) → IsRecordPair last → pair.now ≡ pair_bytes last →
         Keeps head (pairs ++ last ∷ []) appender.new (D.state disk.new) }
     ensures moments { (head : Head) (pairs : List RecordPair) (last : RecordPair) →
@@ -66,18 +66,18 @@ fn put_pair<D: Disk, K: Sink>(
     ensures told { OnOk result (IsSome (D.state disk.new).content → IsSome (D.state disk.old).content) }
     ensures place { OnOk result (appender.new ≡ appender.old + (5 + length pair.now)) }
     ensures written { OnOk result (Grows (K.held out.old) (K.held out.new) pair.now) }
-    ensures cut { result ≡ Err KeepFault.Write → GrowsByPrefix (K.held out.old) (K.held out.new) pair.now }
-    ensures unasked { result ≡ Err KeepFault.Disk → out.new ≡ out.old }
-    ensures refused { IfErr result (λ fault. (fault ≡ KeepFault.Disk) ⊎ (fault ≡ KeepFault.Write)) }
-    ensures disk_cause { Blames (result ≡ Err KeepFault.Disk) (D.state disk.old).faults (D.state disk.new).faults }
-    ensures out_cause { Blames (result ≡ Err KeepFault.Write) (K.faults out.old) (K.faults out.new) }
+    ensures cut { result ≡ Err ServeFault.Write → GrowsByPrefix (K.held out.old) (K.held out.new) pair.now }
+    ensures unasked { result ≡ Err ServeFault.Disk → out.new ≡ out.old }
+    ensures refused { IfErr result (λ fault. (fault ≡ ServeFault.Disk) ⊎ (fault ≡ ServeFault.Write)) }
+    ensures disk_cause { Blames (result ≡ Err ServeFault.Disk) (D.state disk.old).faults (D.state disk.new).faults }
+    ensures out_cause { Blames (result ≡ Err ServeFault.Write) (K.faults out.old) (K.faults out.new) }
 {
     match appender.append(disk, pair) {
         Ok(()) => match out.write(pair) {
             Ok(()) => Ok(()),
-            Err(_) => Err(KeepFault::Write),
+            Err(_) => Err(ServeFault::Write),
         },
-        Err(_) => Err(KeepFault::Disk),
+        Err(_) => Err(ServeFault::Disk),
     }
 }
 
@@ -87,7 +87,7 @@ fn keep_next<D: Disk, K: Sink>(
     bytes: &[u8],
     disk: &mut D,
     out: &mut K,
-) -> Result<Prefix, KeepFault>
+) -> Result<Prefix, ServeFault>
     requires ready { (left : ℕ) × (length bytes.now ≤ left) × IsReady writer.old.session writer.old.appender left }
     requires room { longest_plain_pair ≤ vec_capacity writer.old.pair }
     requires kept { IfSome (D.state disk.old).content
@@ -105,8 +105,8 @@ fn keep_next<D: Disk, K: Sink>(
         ReachesAtMost (writer.old.appender + 263183 * left + 1) (D.state disk.old) (D.state disk.new) }
     ensures broken { IfErr result (BreaksNext bytes.now writer.old.session writer.old.appender writer.new.appender
         (D.state disk.old) (D.state disk.new) (K.held out.old) (K.held out.new) (disk.new ≡ disk.old) (out.new ≡ out.old)) }
-    ensures disk_cause { Blames (result ≡ Err KeepFault.Disk) (D.state disk.old).faults (D.state disk.new).faults }
-    ensures out_cause { Blames (result ≡ Err KeepFault.Write) (K.faults out.old) (K.faults out.new) }
+    ensures disk_cause { Blames (result ≡ Err ServeFault.Disk) (D.state disk.old).faults (D.state disk.new).faults }
+    ensures out_cause { Blames (result ≡ Err ServeFault.Write) (K.faults out.old) (K.faults out.new) }
 {
     writer.pair.clear();
     match writer.session.serve_next(bytes, &mut writer.pair) {
@@ -117,7 +117,7 @@ fn keep_next<D: Disk, K: Sink>(
         Ok(Prefix::NoBytes) => Ok(Prefix::NoBytes),
         Ok(Prefix::Overlong) => Ok(Prefix::Overlong),
         Ok(Prefix::Short) => Ok(Prefix::Short),
-        Err(_) => Err(KeepFault::Memory),
+        Err(_) => Err(ServeFault::Memory),
     }
 }
 
@@ -154,7 +154,7 @@ pub(crate) fn serve_on<S: Source, D: Disk, K: Sink>(
     writer: &mut Writer,
     disk: &mut D,
     out: &mut K,
-) -> Result<(), KeepFault>
+) -> Result<Ending, TakeFault<ServeFault>>
     requires longest { HasLongest commands window.old.room }
     requires open { window.old.over ≡ None }
     requires ready { IsReady writer.old.session writer.old.appender (window.old.limit - window.old.place) }
@@ -165,29 +165,29 @@ pub(crate) fn serve_on<S: Source, D: Disk, K: Sink>(
         (D.state disk.old) (D.state disk.new) (K.held out.old) (K.held out.new) }
     ensures lengths { (count : ℕ) → HasYetAtMost count window.old (S.rest source.old) →
         ReachesAtMost (writer.old.appender + 263183 * count + 1) (D.state disk.old) (D.state disk.new) }
-    ensures disk_cause { Blames (result ≡ Err KeepFault.Disk) (D.state disk.old).faults (D.state disk.new).faults }
-    ensures source_cause { Blames (result ≡ Err KeepFault.Read) (S.faults source.old) (S.faults source.new) }
-    ensures out_cause { Blames (result ≡ Err KeepFault.Write) (K.faults out.old) (K.faults out.new) }
+    ensures disk_cause { Blames (result ≡ Err (TakeFault.Broken ServeFault.Disk)) (D.state disk.old).faults (D.state disk.new).faults }
+    ensures source_cause { Blames (result ≡ Err TakeFault.Read) (S.faults source.old) (S.faults source.new) }
+    ensures out_cause { Blames (result ≡ Err (TakeFault.Broken ServeFault.Write)) (K.faults out.old) (K.faults out.new) }
 {
     'units: loop {
         let prefix = match keep_next(writer, bytes_of(window.held()), disk, out) {
             Ok(prefix) => prefix,
-            Err(fault) => return Err(fault),
+            Err(fault) => return Err(TakeFault::Broken(fault)),
         };
         match prefix {
             Prefix::Taken(taken) => window.advance(taken),
-            Prefix::Overlong => return Err(KeepFault::Torn(window.place())),
+            Prefix::Overlong => return Ok(Ending::Torn(window.place())),
             Prefix::Short => match read_on(window, source) {
                 Ok(Filled::Enough) => {}
-                Ok(Filled::Limited) => return Err(KeepFault::TooLong),
-                Ok(Filled::Ended) => return Err(KeepFault::Torn(window.place())),
-                Err(_) => return Err(KeepFault::Read),
+                Ok(Filled::Limited) => return Ok(Ending::TooLong),
+                Ok(Filled::Ended) => return Ok(Ending::Torn(window.place())),
+                Err(_) => return Err(TakeFault::Read),
             },
             Prefix::NoBytes => match read_on(window, source) {
                 Ok(Filled::Enough) => {}
-                Ok(Filled::Limited) => return Err(KeepFault::TooLong),
-                Ok(Filled::Ended) => return Ok(()),
-                Err(_) => return Err(KeepFault::Read),
+                Ok(Filled::Limited) => return Ok(Ending::TooLong),
+                Ok(Filled::Ended) => return Ok(Ending::End),
+                Err(_) => return Err(TakeFault::Read),
             },
         }
     }

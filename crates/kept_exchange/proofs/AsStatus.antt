@@ -1,11 +1,14 @@
 -- How keeping a journal ended, as a status.
-use Rattle.std.proofs.Common.{◌≡◌, ℕ, Option, Some, None, IfSome, Result, Ok, Err, refl, sym, ap, ◌∙◌}
+use Rattle.std.proofs.Common.{◌≡◌, inl, inr, ℕ, Option, Some, None, IfSome, Result, Ok, Err, refl, sym, ap, ◌∙◌}
+use Rattle.std.specs.Prelude.{⊤}
 use Rattle.flow_io.specs.Faults.{Blames}
 use Rattle.journal_keeping.specs.declared.fault.KeepFault.{KeepFault}
 use Rattle.journal_keeping.specs.declared.fault.KeepFault.TheVariants.{Read, Write, Disk, Memory, NotDisk, Damaged, Rejected, NotFlow, BadCheckpoint, Torn, TooLong}
 use Rattle.exit_status.specs.declared.status.Status.{Status}
 use Rattle.exit_status.specs.declared.status.Status.TheVariants as status
+use Rattle.journal_keeping.specs.Ended as kept
 use Rattle.kept_exchange.specs.Statuses.{kept_status}
+use Rattle.kept_exchange.specs.Keeping.{IsRefusal}
 
 pub if_some : {T : Type 0} (o : Option T) (P Q : T → Type 0) → ((x : T) → P x → Q x) → IfSome o P → IfSome o Q
 if_some None P Q f p = tt
@@ -18,7 +21,7 @@ each (Some x) P p = p x
 
 -- how it ended
 abbrev pub Kept : Type 0
-Kept = Result (Unit {0}) KeepFault
+Kept = Result ⊤ KeepFault
 
 -- the blame of a fault, said of the status
 pub blames_as : (P Q : Type 0) (before now : ℕ) → (P → Q) → (Q → P) → Blames P before now → Blames Q before now
@@ -71,3 +74,9 @@ by_fault (Err fault) (Err other) e = cc
 -- a status is that of one result
 pub one_result : (limit : ℕ) (a b : Kept) → kept_status limit a ≡ kept_status limit b → ◌≡◌ {A = Kept} a b
 one_result limit a b e = by_fault a b (sym (says_fault limit a) ∙ ap fault_of e ∙ says_fault limit b)
+
+-- a disk is refused by its result, and so by the status
+pub refused_by : (limit : ℕ) (result : Kept) → IsRefusal (kept_status limit result) → kept.IsRefusal result
+refused_by limit result (inl e) = inl (one_result limit result (Err NotDisk) e)
+refused_by limit result (inr (inl e)) = inr (inl (e.0, one_result limit result (Err (Damaged e.0)) e.1))
+refused_by limit result (inr (inr e)) = inr (inr (e.0, one_result limit result (Err (Rejected e.0)) e.1))

@@ -1,5 +1,5 @@
 -- What the program does when asked to `keep FILE`: what a crash may leave on the disk, what the output gains, and which status comes.
-use Rattle.std.specs.Prelude.{◌≡◌, ◌⊎◌, ◌+◌, ℕ, List, [], Option, Some, IfSome}
+use Rattle.std.specs.Prelude.{◌≡◌, ◌⊎◌, ◌+◌, ℕ, List, [], Option, Some, IfSome, ⊤}
 use Rattle.flow_io.specs.Faults.{Rose, Blames}
 use Rattle.flow_io.specs.Streams.{Grows, GrowsByPrefix, TakesAtMost}
 use Rattle.flow_io.specs.Changes.{Change}
@@ -37,10 +37,10 @@ module _ (limit : ℕ) (held : Option (List ℕ)) (end : DiskState) (source out 
   EndsWith (Damaged place) = IfSome held (λ bytes. IsRefused bytes (opening.Damaged place) end)
   EndsWith (Rejected number) = IfSome held (λ bytes. IsRefused bytes (opening.Rejected number) end)
   -- After a fault, and if memory ran out, the disk and the output have what `keeps` says of them.
-  EndsWith ReadFault = Unit {0}
-  EndsWith WriteFault = Unit {0}
-  EndsWith DiskFault = Unit {0}
-  EndsWith NoMemory = Unit {0}
+  EndsWith ReadFault = ⊤
+  EndsWith WriteFault = ⊤
+  EndsWith DiskFault = ⊤
+  EndsWith NoMemory = ⊤
   -- These are of other subcommands.
   EndsWith Usage = ⊥
   EndsWith (BadText number) = ⊥

@@ -1,5 +1,5 @@
 -- What holds of keeping a journal and of serving lines, whatever the code.
-use Rattle.std.specs.Prelude.{◌≡◌, ◌≢◌, ◌≤◌, ◌^◌, ◌↔◌, ℕ, List, length, Option, IfSome, Result, Err}
+use Rattle.std.specs.Prelude.{◌≡◌, ◌≢◌, ◌≤◌, ◌^◌, ◌↔◌, ℕ, List, length, Option, IfSome, Result, Err, ⊤}
 use Rattle.flow_io.specs.Faults.{Rose}
 use Rattle.flow_io.specs.Changes.{Change}
 use Rattle.wire_records.specs.Records.{Record}
@@ -70,12 +70,12 @@ abbrev pub KeepEndsByResult : DiskState → Type 0
 KeepEndsByResult end = (limit : ℕ) (held : Option (List ℕ)) (source out : Change) (status : Status)
     → (EndsWith limit held end source out status × IsPaced limit status source out
     × (status ≡ NoMemory → IfSome held (λ bytes. RunsOut limit bytes source.before source.after end out.before out.after)))
-    ↔ ((result : Result (Unit {0}) KeepFault) × (status ≡ kept_status limit result)
+    ↔ ((result : Result ⊤ KeepFault) × (status ≡ kept_status limit result)
     × IfSome held (λ bytes. kept.ComesTo limit bytes source.before end out.before out.after result) × KeepsPace limit source.before source.after out.before out.after result
-    × ((◌≡◌ {A = Result (Unit {0}) KeepFault} result (Err Memory)) → IfSome held (λ bytes. RunsOut limit bytes source.before source.after end out.before out.after)))
+    × ((◌≡◌ {A = Result ⊤ KeepFault} result (Err Memory)) → IfSome held (λ bytes. RunsOut limit bytes source.before source.after end out.before out.after)))
 
 -- what holds by the status is what some result of serving lines, which has that status, leads to
 abbrev pub LinesEndByResult : DiskState → Type 0
 LinesEndByResult end = (limit : ℕ) (held : List ℕ) (content left : Option (List ℕ)) (out later : Output) (status : Status)
     → LinesEndWith limit held content left end out later status
-    ↔ ((result : Result (Unit {0}) KeepFault) × (status ≡ kept_status limit result) × lines.ComesTo limit held content left end out later result)
+    ↔ ((result : Result ⊤ KeepFault) × (status ≡ kept_status limit result) × lines.ComesTo limit held content left end out later result)

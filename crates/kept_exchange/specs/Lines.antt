@@ -34,9 +34,9 @@ module _ (limit : ℕ) (held : List ℕ) (content left : Option (List ℕ)) (end
       HasAnswered held content end out later (λ bytes before lines. HasLinesWithin limit bytes before lines × (limit < length bytes)) × (most ≡ limit)
   -- all lines that were complete in what was taken of the input were answered, and no others
   LinesEndWith status.ReadFault =
-      HasAnswered held content end out later (λ bytes before lines. (n : ℕ) × IsTaken bytes left n × HasLines (Unit {0}) (take n (take limit bytes)) before lines)
+      HasAnswered held content end out later (λ bytes before lines. (n : ℕ) × IsTaken bytes left n × HasLines ⊤ (take n (take limit bytes)) before lines)
       ⊎ IsNotOpened limit held content left end out later
-  LinesEndWith status.WriteFault = BreaksOff limit held content left (Unit {0}) out later (KeepsJust end)
+  LinesEndWith status.WriteFault = BreaksOff limit held content left ⊤ out later (KeepsJust end)
   LinesEndWith status.DiskFault = IsNotBegun limit content left out later ⊎ BreaksOff limit held content left ⊥ out later (λ begin pairs line. ⊤)
   LinesEndWith status.NoMemory =
       ((left ≡ content) × (later ≡ out))

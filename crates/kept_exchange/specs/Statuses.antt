@@ -1,5 +1,5 @@
 -- Which status keeping a journal, and serving lines, ends with: by its result, and by the bytes of the disk and of the source.
-use Rattle.std.specs.Prelude.{◌≡◌, ◌⊎◌, ◌<◌, ◌≤◌, ℕ, List, length, take, Result, Ok, Err}
+use Rattle.std.specs.Prelude.{◌≡◌, ◌⊎◌, ◌<◌, ◌≤◌, ℕ, List, length, take, Result, Ok, Err, ⊤}
 use Rattle.wire_records.specs.Records.{Record}
 use Rattle.wire_records.specs.Grammars.{BeginsWith}
 use Rattle.wire_records.specs.Reading.{Reading, NotFlow, File, Reads}
@@ -16,7 +16,7 @@ use Rattle.exit_status.specs.declared.status.Status.TheVariants as status
 use Rattle.exit_status.specs.Statuses.{ending_status, reading_status}
 
 -- the status of how keeping a journal ended
-abbrev pub kept_status : ℕ → Result (Unit {0}) KeepFault → Status
+abbrev pub kept_status : ℕ → Result ⊤ KeepFault → Status
 kept_status limit (Ok done) = status.Done
 kept_status limit (Err kept.Read) = status.ReadFault
 kept_status limit (Err kept.Write) = status.WriteFault

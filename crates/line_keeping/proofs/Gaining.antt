@@ -1,11 +1,15 @@
 -- What an output got: nothing, one text, a text that was cut short, and more after what it got before.
-use Rattle.std.proofs.Common.{◌≡◌, ℕ, List, [], ◌∷◌, ◌++◌, take, refl, sym, ap, subst, ◌∙◌, arith, rules, append_assoc}
+use Rattle.std.proofs.Common.{◌≡◌, ℕ, List, [], ◌∷◌, ◌++◌, Result, Ok, Err, OnOk, take, refl, sym, ap, subst, ◌∙◌, arith, rules, append_assoc}
+use Rattle.std.specs.Prelude.{⊤, OnErr}
 use Rattle.std.specs.List.{flat_map}
 use Rattle.std.proofs.lemmas.List.{append-nil}
 use Rattle.std.proofs.lemmas.Grind.{flat_map-append}
 use Rattle.flow_io.specs.Streams.{Grows, GrowsByPrefix}
 use Rattle.flow_io.proofs.Growth.{Grows-nothing, Grows-more}
+use Rattle.flow_io.specs.declared.sink.WriteFailed.{WriteFailed}
 use Rattle.line_keeping.specs.Outputs.{Output, Gains}
+use Rattle.line_keeping.specs.Answers.{no_command_text}
+use Rattle.line_keeping.specs.Private.{Refuses}
 
 abbrev Texts : Type 0
 Texts = List (List ℕ)
@@ -40,7 +44,7 @@ gains_one Cut out later text called grows = record {
   written = subst (λ (l : List ℕ). Grows out.held later.held l) (sym (append-nil (text ++ []) ∙ append-nil text)) grows;
 }
 
-pub gains_cut : (out later : Output) (text : List ℕ) → Grows out.calls later.calls (text ∷ []) → GrowsByPrefix out.held later.held text → Gains (Unit {0}) out later (text ∷ [])
+pub gains_cut : (out later : Output) (text : List ℕ) → Grows out.calls later.calls (text ∷ []) → GrowsByPrefix out.held later.held text → Gains ⊤ out later (text ∷ [])
 gains_cut out later text called cut = record {
   called = called;
   whole = [];
@@ -86,3 +90,8 @@ gains_more Cut first second third texts more a b = record {
       (sym (append_assoc (flat_map (λ text. text) texts) (flat_map (λ text. text) b.whole) (take b.count (flat_map (λ text. text) b.last))) ∙ ap (λ (l : List ℕ). l ++ take b.count (flat_map (λ text. text) b.last)) (sym (flat_map-append (λ (text : List ℕ). text) texts b.whole)))
       (Grows-more first.held second.held third.held (flat_map (λ text. text) texts) (flat_map (λ text. text) b.whole ++ take b.count (flat_map (λ text. text) b.last)) (whole_text first second texts a) b.written);
 }
+
+-- the one text of a line that is no command, whether it was written or cut short
+pub refuses_as : (number : ℕ) (result : Result ⊤ WriteFailed) (out after : Output) (text : List ℕ) → text ≡ no_command_text number → Grows out.calls after.calls (text ∷ []) → OnOk result (Grows out.held after.held text) → OnErr result (GrowsByPrefix out.held after.held text) → Refuses number result out after
+refuses_as number (Ok done) out after text is called written cut = subst (λ (l : List ℕ). Gains ⊥ out after (l ∷ [])) is (gains_one ⊥ out after text called written)
+refuses_as number (Err failed) out after text is called written cut = subst (λ (l : List ℕ). Gains ⊤ out after (l ∷ [])) is (gains_cut out after text called cut)

@@ -1,6 +1,5 @@
 -- Lines that are answered one after the other: none yet, one more, and how it ends.
-use Rattle.std.proofs.Common.{◌≡◌, ◌≢◌, ◌⊎◌, inl, inr, ℕ, ◌+◌, ◌-◌, ◌≤◌, ◌^◌, List, [], ◌∷◌, ◌++◌, Option, None, Some, Result, Err, length, length-append, map, refl, sym, ap, subst, ◌∙◌, arith, append_assoc}
-use Rattle.std.specs.Prelude.{All}
+use Rattle.std.proofs.Common.{◌≡◌, ◌≢◌, ℕ, ◌+◌, ◌-◌, ◌≤◌, ◌^◌, List, [], ◌∷◌, ◌++◌, Option, None, Some, Result, Err, length, length-append, map, refl, sym, ap, subst, ◌∙◌, arith, append_assoc}
 use Rattle.std.proofs.lemmas.List.{append-nil}
 use Rattle.std.proofs.lemmas.List.Elements.{All-push, All-nil}
 use Rattle.std.proofs.lemmas.Grind.{flat_map-append}
@@ -17,14 +16,17 @@ use Rattle.line_records.specs.Lines.{IsPiece, ended_by_feeds}
 use Rattle.journal_keeping.specs.Starts.{head_of}
 use Rattle.journal_keeping.specs.Keeping.{IsKeptJournal, Runs}
 use Rattle.journal_keeping.specs.Pacing.{asked_of}
-use Rattle.journal_keeping.specs.declared.fault.KeepFault.{KeepFault}
-use Rattle.journal_keeping.specs.declared.fault.KeepFault.TheVariants.{Write, Disk, Memory}
+use Rattle.file_units.specs.declared.units.Ending.{Ending}
+use Rattle.file_units.specs.declared.input.TakeFault.{TakeFault}
+use Rattle.file_units.specs.declared.input.TakeFault.TheVariants.{Broken}
+use Rattle.journal_keeping.specs.declared.fault.ServeFault.{ServeFault}
+use Rattle.journal_keeping.specs.declared.fault.ServeFault.TheVariants.{Write, Memory}
 use Rattle.journal_keeping.proofs.Serving.{ended}
 use Rattle.journal_keeping.proofs.Turns.{so_none}
 use Rattle.input_lines.specs.Finding.{IsOpen}
 use Rattle.line_keeping.specs.Answers.{IsLineBegun, AreAnsweredInto}
 use Rattle.line_keeping.specs.Outputs.{Output}
-use Rattle.line_keeping.specs.Private.{HasAdded, AnswersLine, Breaks, BreaksLine, HasGone, StopAt, AreRead, AreDone, BrokeOff, AnswersOn}
+use Rattle.line_keeping.specs.Private.{HasAdded, AnswersLine, Breaks, BreaksLine, HasGone, StopAt, AreRead, AreDone, AnswersOn}
 use Rattle.line_keeping.proofs.Gaining.{gains_none, gains_more, gains_wider}
 use Rattle.line_keeping.proofs.Joining.{Pairs, Texts, lines_more}
 use Rattle.line_keeping.proofs.Adding.{added_more, runs_after}
@@ -125,8 +127,8 @@ module _ (first : WindowState) (rest : Option (List ℕ)) (old : Market) (count 
         length-append joined past,
       )
 
-      pub ends_so : (result : Result (Unit {0}) KeepFault) → AreRead (first.limit - first.place) (first.held ++ known (gone.taken ++ (joined ++ past)) after) (first.held ++ (gone.taken ++ (joined ++ past))) after gone.read [] result
-          → AreDone old count gone.read [] gone.pairs gone.texts market result → AreDone old count gone.read [] (gone.pairs ++ []) gone.texts market result → (◌≢◌ {A = Result (Unit {0}) KeepFault} result (Err Memory))
+      pub ends_so : (result : Result Ending (TakeFault ServeFault)) → AreRead (first.limit - first.place) (first.held ++ known (gone.taken ++ (joined ++ past)) after) (first.held ++ (gone.taken ++ (joined ++ past))) after gone.read [] result
+          → AreDone old count gone.read [] gone.pairs gone.texts market result → AreDone old count gone.read [] (gone.pairs ++ []) gone.texts market result → (◌≢◌ {A = Result Ending (TakeFault ServeFault)} result (Err (Broken Memory)))
           → AnswersOn first rest after result old count from start disk out later
       ends_so result reads done more lacks = record {
         taken = gone.taken ++ (joined ++ past);
@@ -151,7 +153,7 @@ module _ (first : WindowState) (rest : Option (List ℕ)) (old : Market) (count 
       }
 
     -- it ends while a line is answered
-    module _ (after : Option (List ℕ)) (joined : List ℕ) (takes : Takes left after joined) (within : now.place + length (now.held ++ joined) ≤ now.limit) (line : List ℕ) (disk2 : DiskState) (last : Output) (fault : KeepFault)
+    module _ (after : Option (List ℕ)) (joined : List ℕ) (takes : Takes left after joined) (within : now.place + length (now.held ++ joined) ≤ now.limit) (line : List ℕ) (disk2 : DiskState) (last : Output) (fault : ServeFault)
         (breaks : BreaksLine (lines + 1) line market entries place disk disk2 later last fault)
         (stops : StopAt (first.limit - first.place) (first.held ++ known (gone.taken ++ joined) after) (first.held ++ (gone.taken ++ joined)) after gone.read line) where
       b : Breaks (IsLineBegun market entries (lines + 1) line) market place disk disk2 later last fault
@@ -170,50 +172,35 @@ module _ (first : WindowState) (rest : Option (List ℕ)) (old : Market) (count 
         texts_are = refl;
       }
 
-      done_by : (f : KeepFault) (pairs : Pairs) (texts : Texts) (m : Market) → (f ≡ Memory) ⊎ (f ≡ Disk) ⊎ (f ≡ Write) → AreAnsweredInto old count gone.read line pairs texts m → AreDone old count gone.read line pairs texts m (Err f)
-      done_by f pairs texts m (inl is) a = subst (λ (x : KeepFault). AreDone old count gone.read line pairs texts m (Err x)) (sym is) a
-      done_by f pairs texts m (inr (inl is)) a = subst (λ (x : KeepFault). AreDone old count gone.read line pairs texts m (Err x)) (sym is) a
-      done_by f pairs texts m (inr (inr is)) a = subst (λ (x : KeepFault). AreDone old count gone.read line pairs texts m (Err x)) (sym is) a
-
-      read_by : (f : KeepFault) → (f ≡ Memory) ⊎ (f ≡ Disk) ⊎ (f ≡ Write) → AreRead (first.limit - first.place) (first.held ++ known (gone.taken ++ joined) after) (first.held ++ (gone.taken ++ joined)) after gone.read line (Err f)
-      read_by f (inl is) = subst (λ (x : KeepFault). AreRead (first.limit - first.place) (first.held ++ known (gone.taken ++ joined) after) (first.held ++ (gone.taken ++ joined)) after gone.read line (Err x)) (sym is) stops
-      read_by f (inr (inl is)) = subst (λ (x : KeepFault). AreRead (first.limit - first.place) (first.held ++ known (gone.taken ++ joined) after) (first.held ++ (gone.taken ++ joined)) after gone.read line (Err x)) (sym is) stops
-      read_by f (inr (inr is)) = subst (λ (x : KeepFault). AreRead (first.limit - first.place) (first.held ++ known (gone.taken ++ joined) after) (first.held ++ (gone.taken ++ joined)) after gone.read line (Err x)) (sym is) stops
-
-      err_is : (f h : KeepFault) → ◌≡◌ {A = Result (Unit {0}) KeepFault} (Err f) (Err h) → f ≡ h
+      err_is : (f h : ServeFault) → ◌≡◌ {A = Result Ending (TakeFault ServeFault)} (Err (Broken f)) (Err (Broken h)) → f ≡ h
       err_is f h e = cc
 
-      broke : (f : KeepFault) → (f ≡ Memory) ⊎ (f ≡ Disk) ⊎ (f ≡ Write) → BrokeOff (Err f)
-      broke f (inl is) = inl (ap Err is)
-      broke f (inr (inl is)) = inr (inl (ap Err is))
-      broke f (inr (inr is)) = inr (inr (ap Err is))
-
-      pub breaks_so : AnswersOn first rest after (Err fault) old count from start disk2 out last
+      pub breaks_so : AnswersOn first rest after (Err (Broken fault)) old count from start disk2 out last
       breaks_so = record {
         taken = gone.taken ++ joined;
         takes = more_taken after joined takes;
         few = omega (arith, within, gone.place_is, gone.limit, ap length (more_whole joined), length-append first.held (gone.taken ++ joined), length-append (ended_by_feeds gone.read) (now.held ++ joined));
         read = gone.read;
         line = line;
-        reads = read_by fault b.is_one;
+        reads = stops;
         pairs = gone.pairs ++ b.pairs;
         texts = gone.texts ++ b.texts;
         market = b.market;
-        answered = done_by fault (gone.pairs ++ b.pairs) (gone.texts ++ b.texts) b.market b.is_one (into b.pairs b.texts b.market b.begun);
-        journal = λ not. absurd (not (broke fault b.is_one));
+        answered = into b.pairs b.texts b.market b.begun;
+        journal = λ not. absurd (not (fault, refl));
         more = b.more;
         words = gone.texts ++ b.words;
         last = b.last;
-        further = subst (λ (l : Pairs). AreDone old count gone.read line l (gone.texts ++ b.words) b.last (Err fault)) (sym (append_assoc gone.pairs b.pairs b.more))
-            (done_by fault (gone.pairs ++ (b.pairs ++ b.more)) (gone.texts ++ b.words) b.last b.is_one (into (b.pairs ++ b.more) b.words b.last b.further));
+        further = subst (λ (l : Pairs). AreAnsweredInto old count gone.read line l (gone.texts ++ b.words) b.last) (sym (append_assoc gone.pairs b.pairs b.more))
+            (into (b.pairs ++ b.more) b.words b.last b.further);
         runs = λ begin kept is at.
             let k = gone.added.kept begin kept is at in
             let runs = runs_after begin start disk kept gone.pairs old market place k (b.pairs ++ b.more) disk2 (length b.pairs) (b.runs begin (kept ++ gone.pairs) k.goes_on.journal k.keeps) in
             subst (λ (n : ℕ). Runs begin start disk2 kept old (asked_of ((gone.pairs ++ b.pairs) ++ b.more)) ((gone.pairs ++ b.pairs) ++ b.more) n) (sym (length-append gone.pairs b.pairs))
             (subst (λ (l : Pairs). Runs begin start disk2 kept old (asked_of l) l (length gone.pairs + length b.pairs)) (sym (append_assoc gone.pairs b.pairs b.more)) runs);
-        gained = gains_wider (fault ≡ Write) _ out last (gone.texts ++ b.texts) (λ is. ap Err is) (gains_more (fault ≡ Write) out later last gone.texts b.texts gone.gained b.gained);
+        gained = gains_wider (fault ≡ Write) _ out last (gone.texts ++ b.texts) (λ is. ap (λ (f : ServeFault). Err (Broken f)) is) (gains_more (fault ≡ Write) out later last gone.texts b.texts gone.gained b.gained);
         whole = λ not.
-            let w = b.whole (λ is. not (ap Err is)) in (
+            let w = b.whole (λ is. not (ap (λ (f : ServeFault). Err (Broken f)) is)) in (
               w.0,
               λ begin kept is at.
                   let k = gone.added.kept begin kept is at in

@@ -14,7 +14,7 @@ use Rattle.market_history.specs.Kept.{FindsNone, FindsKept}
 use Rattle.market_history.specs.declared.start.StartFault.TheVariants as start
 use Rattle.market_history.proofs.Starting.{kept_magic, magic_on}
 use Rattle.journal_disk.specs.Entries.{framed}
-use Rattle.journal_keeping.specs.declared.fault.KeepFault.TheVariants.{Read, Memory, BadCheckpoint}
+use Rattle.journal_keeping.specs.declared.fault.InputFault.TheVariants.{Read, Memory, BadCheckpoint}
 use Rattle.journal_keeping.specs.Starts.{BeginsUnsound}
 use Rattle.journal_keeping.proofs.Starts.{magic_first, magic_long}
 use Rattle.journal_keeping.proofs.SourceStart.{first_taken, in_checkpoint}

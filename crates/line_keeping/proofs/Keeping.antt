@@ -1,5 +1,6 @@
 -- Commands that are served, kept and told one after the other: none yet, one more, and one at which it broke off.
-use Rattle.std.proofs.Common.{◌≡◌, inl, inr, ℕ, ◌+◌, ◌*◌, ◌<◌, ◌≤◌, ◌^◌, List, [], ◌∷◌, ◌++◌, Option, None, Some, IfSome, IsSome, length, length-append, take, drop, get_or, take-append-drop, map, refl, sym, ap, subst, ◌∙◌, arith, rules, append_assoc}
+use Rattle.std.proofs.Common.{◌≡◌, ℕ, ◌+◌, ◌*◌, ◌<◌, ◌≤◌, ◌^◌, List, [], ◌∷◌, ◌++◌, Option, None, Some, IfSome, IsSome, length, length-append, take, drop, get_or, take-append-drop, map, refl, sym, ap, subst, ◌∙◌, arith, rules, append_assoc}
+use Rattle.std.specs.Prelude.{⊤}
 use Rattle.std.proofs.lemmas.List.{append-nil, map-append, drop_more}
 use Rattle.std.proofs.Math.Seq.{take-add}
 use Rattle.wire_records.specs.Records.{Record, encoding}
@@ -17,8 +18,8 @@ use Rattle.journal_keeping.specs.Starts.{head_of}
 use Rattle.journal_keeping.specs.Keeping.{Runs}
 use Rattle.journal_keeping.specs.Pacing.{asked_of}
 use Rattle.journal_keeping.specs.Private.{KeepsOneMore}
-use Rattle.journal_keeping.specs.declared.fault.KeepFault.{KeepFault}
-use Rattle.journal_keeping.specs.declared.fault.KeepFault.TheVariants.{Read, Write, Disk, Memory, NotDisk, Damaged, Rejected, NotFlow, BadCheckpoint, Torn, TooLong}
+use Rattle.journal_keeping.specs.declared.fault.ServeFault.{ServeFault}
+use Rattle.journal_keeping.specs.declared.fault.ServeFault.TheVariants.{Disk, Write, Memory}
 use Rattle.journal_keeping.proofs.Serving.{ended, failed}
 use Rattle.journal_keeping.proofs.Turns.{canonical_is_admissible, is_record_pair, same_bytes, so_none, so_more}
 use Rattle.line_keeping.specs.Answers.{AreAnswered}
@@ -104,7 +105,7 @@ module _ (old : Market) (count from : ℕ) (disk : DiskState) (out : Output) whe
     }
 
     module _ (rest : List Command) where
-      abbrev Broke : DiskState → Output → KeepFault → Type 0
+      abbrev Broke : DiskState → Output → ServeFault → Type 0
       Broke later after fault = BreaksCommands (done ++ command ∷ rest) old count from disk later out after fault
 
       -- memory ran out for it
@@ -122,7 +123,6 @@ module _ (old : Market) (count from : ℕ) (disk : DiskState) (out : Output) whe
             subst (λ (l : Pairs). Runs begin disk m kept old (asked_of l) l (length so.pairs)) (sym (append-nil so.pairs)) (ended begin disk m kept old place (asked_of so.pairs) so.pairs mid (so.added.kept begin kept is at));
         gained = gains_wider ⊥ _ out o so.texts (λ no. absurd no) so.gained;
         whole = λ not. (refl, λ begin kept is at. (place, (so.added.kept begin kept is at).keeps));
-        is_one = inl refl;
       }
 
       joined : done ++ command ∷ rest ≡ (done ++ command ∷ []) ++ rest
@@ -147,12 +147,11 @@ module _ (old : Market) (count from : ℕ) (disk : DiskState) (out : Output) whe
             (failed begin disk m later kept old place (asked_of so.pairs) so.pairs mid new pair k is_disk served.fits served.step right (moments (head_of begin) (map records_of (kept ++ so.pairs)) k.keeps));
         gained = gains_wider ⊥ _ out o so.texts (λ no. absurd no) so.gained;
         whole = λ not. absurd (not refl);
-        is_one = inr (inl refl);
       }
 
       -- its text was cut short
       pub write_breaks : (pair : Pair Record Outcome) (text : List ℕ) (new : Market) (to : ℕ) (later : DiskState) (after : Output) → IsServed command mid pair new → IsReport new (entries + 1) (records_of pair) text
-          → KeepsOneMore pair place to m later → (IsSome later.content → IsSome m.content) → Gains (Unit {0}) o after (text ∷ []) → Broke later after Write
+          → KeepsOneMore pair place to m later → (IsSome later.content → IsSome m.content) → Gains ⊤ o after (text ∷ []) → Broke later after Write
       write_breaks pair text new to later after served report keeps told gains =
           let all = so.pairs ++ pair ∷ [] in
           let added = so_more disk m later old mid new from place to None None None so.pairs pair so.added served.fits served.step keeps told tt in
@@ -168,25 +167,16 @@ module _ (old : Market) (count from : ℕ) (disk : DiskState) (out : Output) whe
             further = (done ++ command ∷ [], rest, joined, subst (λ (l : Pairs). AreAnswered old count (done ++ command ∷ []) l (so.texts ++ text ∷ []) new) (sym (append-nil all)) answered);
             runs = λ begin kept is at.
                 subst (λ (l : Pairs). Runs begin disk later kept old (asked_of l) l (length all)) (sym (append-nil all)) (ended begin disk later kept old to (asked_of all) all new (added.kept begin kept is at));
-            gained = gains_wider (Unit {0}) _ out after (so.texts ++ text ∷ []) (λ _. refl) (gains_more (Unit {0}) out o after so.texts (text ∷ []) so.gained gains);
+            gained = gains_wider ⊤ _ out after (so.texts ++ text ∷ []) (λ _. refl) (gains_more ⊤ out o after so.texts (text ∷ []) so.gained gains);
             whole = λ not. (refl, λ begin kept is at. (to, (added.kept begin kept is at).keeps));
-            is_one = inr (inr refl);
           }
 
 -- by what it broke off with
 pub breaks_by : {D : Type 0} (state : D → DiskState) (now next : D) (old : Market) (count from : ℕ) (disk : DiskState) (out : Output) (done : List Command) (mid : Market) (entries place to : ℕ) (o after : Output)
-    → AnswersCommands done old mid count entries from place disk (state now) out o → (command : Command) (rest : List Command) (fault : KeepFault) → IsDisk (state next) → BreaksCommand command mid entries place to (state now) (state next) o after (next ≡ now) fault
+    → AnswersCommands done old mid count entries from place disk (state now) out o → (command : Command) (rest : List Command) (fault : ServeFault) → IsDisk (state next) → BreaksCommand command mid entries place to (state now) (state next) o after (next ≡ now) fault
     → BreaksCommands (done ++ command ∷ rest) old count from disk (state next) out after fault
 breaks_by state now next old count from disk out done mid entries place to o after so command rest Memory is_disk (same, quiet) = rw (same, quiet) (memory_breaks old count from disk out done mid entries place (state now) o so command rest)
 breaks_by state now next old count from disk out done mid entries place to o after so command rest Disk is_disk (quiet, pair, text, new, served, report, moments) =
     rw quiet (disk_breaks old count from disk out done mid entries place (state now) o so command rest pair text new (state next) is_disk served report moments)
 breaks_by state now next old count from disk out done mid entries place to o after so command rest Write is_disk (pair, text, new, served, report, keeps, told, gains) =
     write_breaks old count from disk out done mid entries place (state now) o so command rest pair text new to (state next) after served report keeps told gains
-breaks_by state now next old count from disk out done mid entries place to o after so command rest Read is_disk broke = absurd broke
-breaks_by state now next old count from disk out done mid entries place to o after so command rest NotDisk is_disk broke = absurd broke
-breaks_by state now next old count from disk out done mid entries place to o after so command rest (Damaged n) is_disk broke = absurd broke
-breaks_by state now next old count from disk out done mid entries place to o after so command rest (Rejected n) is_disk broke = absurd broke
-breaks_by state now next old count from disk out done mid entries place to o after so command rest NotFlow is_disk broke = absurd broke
-breaks_by state now next old count from disk out done mid entries place to o after so command rest BadCheckpoint is_disk broke = absurd broke
-breaks_by state now next old count from disk out done mid entries place to o after so command rest (Torn n) is_disk broke = absurd broke
-breaks_by state now next old count from disk out done mid entries place to o after so command rest TooLong is_disk broke = absurd broke

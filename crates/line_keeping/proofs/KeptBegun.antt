@@ -1,5 +1,5 @@
 -- A disk of a version is opened, and its input after it.
-use Rattle.std.proofs.Common.{◌≡◌, ◌≢◌, inl, inr, ℕ, ◌+◌, ◌*◌, List, ◌++◌, Option, Some, None, IfSome, true, length, length-append, take, refl, sym, ap, subst, ◌∙◌, arith}
+use Rattle.std.proofs.Common.{◌≡◌, inl, inr, ℕ, ◌+◌, ◌*◌, List, ◌++◌, Option, Some, None, IfSome, true, length, length-append, take, refl, sym, ap, subst, ◌∙◌, arith}
 use Rattle.wire_records.specs.Records.{Record}
 use Rattle.wire_records.specs.Commands.{Pair}
 use Rattle.wire_records.specs.declared.version.Version.{Version}
@@ -13,16 +13,11 @@ use Rattle.disk_edge.specs.Disks.{DiskState, IsDisk}
 use Rattle.journal_disk.specs.Looking.{OnlyLooks}
 use Rattle.journal_disk.specs.Lengths.{ReachesAtMost}
 use Rattle.journal_disk.specs.Recovering.{IsFound}
-use Rattle.journal_disk.proofs.GoingOn.{looks_more}
-use Rattle.journal_disk.specs.declared.fault.DiskFault.{DiskFault}
-use Rattle.journal_keeping.specs.declared.fault.KeepFault.{KeepFault}
-use Rattle.journal_keeping.specs.declared.fault.KeepFault.TheVariants.{Read, Write, Disk, Memory, NotDisk, Damaged, Rejected, NotFlow, BadCheckpoint, Torn, TooLong}
-use Rattle.journal_keeping.specs.Faults.{kept_fault}
-use Rattle.journal_keeping.specs.Openings.{KeepNone}
+use Rattle.journal_keeping.specs.declared.fault.InputFault.TheVariants as input
+use Rattle.journal_keeping.specs.declared.fault.BeginFault.TheVariants.{Input}
 use Rattle.journal_keeping.specs.Keeping.{HoldsLegal}
-use Rattle.journal_keeping.specs.Beginning.{IsKeptOn, IsCounted, OpensNot, IsOfDisk}
-use Rattle.journal_keeping.proofs.Begun.{fault_of_disk, Opens, opened_old, looks_first, looked_legal}
-use Rattle.journal_keeping.proofs.Counts.{if_some}
+use Rattle.journal_keeping.specs.Beginning.{IsKeptOn, IsCounted}
+use Rattle.journal_keeping.proofs.Begun.{Opens, opened_old, looks_first, looked_legal}
 use Rattle.journal_keeping.proofs.Lengths.{short_within, within_first}
 use Rattle.journal_keeping.proofs.SourceStart.{first_taken, are_first}
 use Rattle.input_lines.specs.Long.{most_line}
@@ -76,20 +71,6 @@ begun_first limit start mid end window rest after m count place looks is_disk be
 
 -- ---- why nothing was begun
 
--- a fault at the opening of the disk
-pub not_begun_disk : (limit : ℕ) (held : List ℕ) (content : Option (List ℕ)) (end : DiskState) (fault : KeepFault) → OpensNot held end fault → NotBegun limit held content content end fault
-not_begun_disk limit held content end NotDisk is = is
-not_begun_disk limit held content end (Damaged place) is = is
-not_begun_disk limit held content end (Rejected number) is = is
-not_begun_disk limit held content end Disk is = λ out. (refl, inl refl)
-not_begun_disk limit held content end Memory is = inl refl
-not_begun_disk limit held content end Read is = absurd is
-not_begun_disk limit held content end Write is = absurd is
-not_begun_disk limit held content end NotFlow is = absurd is
-not_begun_disk limit held content end BadCheckpoint is = absurd is
-not_begun_disk limit held content end (Torn place) is = absurd is
-not_begun_disk limit held content end TooLong is = absurd is
-
 -- the disk keeps what it held
 stays_kept : (limit : ℕ) (version : Version) (told content left : Option (List ℕ)) (at end : DiskState) (m : Market) (place : ℕ) (Are : Option (List ℕ) → Type 0) → Are content → IfSome told (λ held. IsFound (Some version) held at) → IfSome told (λ held. IsKeptOn version held m place end)
     → IfSome told (λ held. StaysKept limit held content left end Are)
@@ -107,28 +88,15 @@ is_part limit held (Some bytes) (Some left) end none =
 
 module _ (limit : ℕ) (version : Version) (told content left : Option (List ℕ)) (at end : DiskState) (m : Market) (place : ℕ) (found : IfSome told (λ held. IsFound (Some version) held at)) (kept : IfSome told (λ held. IsKeptOn version held m place end)) where
   -- a checkpoint is before the lines
-  pub not_flow_kept : (w : WindowState) → ShowsStart (empty_window (most_line + 1) limit) w content left true → IfSome told (λ held. NotBegun limit held content left end NotFlow)
+  pub not_flow_kept : (w : WindowState) → ShowsStart (empty_window (most_line + 1) limit) w content left true → IfSome told (λ held. NotBegun limit held content left end (Input input.NotFlow))
   not_flow_kept w shows =
       stays_kept limit version told content left at end m place (λ input. IfSome input (λ bytes. HasCheckpointMagic (take limit bytes)))
       (are_first limit HasCheckpointMagic content left w.held shows.takes (omega (arith, shows.is_open.within, shows.place, shows.limit)) (λ more. magic_on w.held more (shows.magic refl))) found kept
 
   -- the input wasn't read as far as to see it
-  pub unread_kept : ShowsNone limit content left → IfSome told (λ held. NotBegun limit held content left end Read)
+  pub unread_kept : ShowsNone limit content left → IfSome told (λ held. NotBegun limit held content left end (Input input.Read))
   unread_kept none = with_part told found kept
     where
-      with_part : (o : Option (List ℕ)) → IfSome o (λ held. IsFound (Some version) held at) → IfSome o (λ held. IsKeptOn version held m place end) → IfSome o (λ held. NotBegun limit held content left end Read)
+      with_part : (o : Option (List ℕ)) → IfSome o (λ held. IsFound (Some version) held at) → IfSome o (λ held. IsKeptOn version held m place end) → IfSome o (λ held. NotBegun limit held content left end (Input input.Read))
       with_part None is on = tt
       with_part (Some held) is on = inl (stays_kept limit version (Some held) content left at end m place (IsPart limit held content left end) (is_part limit held content left end none) is on)
-
--- a fault at the opening of the disk is none of the output
-pub unwritten_disk : (fault : KeepFault) → IsOfDisk fault → fault ≢ Write
-unwritten_disk fault of = λ is. subst IsOfDisk is of
-
-pub unwritten_fault : (fault : DiskFault) → kept_fault fault ≢ Write
-unwritten_fault fault = unwritten_disk (kept_fault fault) (fault_of_disk fault)
-
--- the disk was only looked at before
-pub untouched_first : (a b c : DiskState) (P Q : Type 0) → OnlyLooks a b → IfSome b.content (λ held. KeepNone held → P × OnlyLooks b c × Q) → IfSome a.content (λ held. KeepNone held → P × OnlyLooks a c × Q)
-untouched_first a b c P Q looks is =
-    subst (λ (o : Option (List ℕ)). IfSome o (λ held. KeepNone held → P × OnlyLooks a c × Q)) looks.content
-    (if_some b.content _ _ (λ (held : List ℕ) so none. let it = so none in (it.0, looks_more a b c looks it.1, it.2)) is)

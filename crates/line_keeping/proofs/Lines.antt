@@ -1,6 +1,6 @@
 -- One line that is answered, or at which answering broke off.
-use Rattle.std.proofs.Common.{◌≡◌, inl, inr, ℕ, ◌+◌, ◌*◌, ◌≤◌, List, [], ◌∷◌, ◌++◌, None, Result, Ok, Err, OnOk, IfErr, length, map, refl, sym, ap, subst, arith}
-use Rattle.std.specs.Prelude.{All}
+use Rattle.std.proofs.Common.{◌≡◌, inl, inr, ℕ, ◌*◌, ◌≤◌, List, [], ◌∷◌, ◌++◌, None, Result, Ok, Err, OnOk, IfErr, length, map, refl, sym, ap, subst, arith}
+use Rattle.std.specs.Prelude.{⊤}
 use Rattle.std.proofs.lemmas.List.{append-nil, length-map}
 use Rattle.std.proofs.lemmas.List.Elements.{All-nil}
 use Rattle.wire_records.specs.Commands.{Command, Place}
@@ -15,14 +15,14 @@ use Rattle.disk_edge.specs.Disks.{DiskState, IsDisk}
 use Rattle.journal_disk.specs.Entries.{Keeps}
 use Rattle.journal_keeping.specs.Starts.{head_of}
 use Rattle.journal_keeping.specs.Keeping.{IsKeptJournal, Runs}
-use Rattle.journal_keeping.specs.declared.fault.KeepFault.{KeepFault}
-use Rattle.journal_keeping.specs.declared.fault.KeepFault.TheVariants.{Read, Write, Disk, Memory, NotDisk, Damaged, Rejected, NotFlow, BadCheckpoint, Torn, TooLong}
+use Rattle.journal_keeping.specs.declared.fault.ServeFault.{ServeFault}
+use Rattle.journal_keeping.specs.declared.fault.ServeFault.TheVariants.{Write, Memory}
 use Rattle.journal_keeping.proofs.Serving.{ended}
 use Rattle.journal_keeping.proofs.Turns.{so_none}
 use Rattle.input_lines.specs.Long.{IsLong}
 use Rattle.line_keeping.specs.Answers.{HasNoAnswer, IsNoCommand, AsksIn, no_command_text}
 use Rattle.line_keeping.specs.Outputs.{Output, Gains}
-use Rattle.line_keeping.specs.Private.{AnswersCommands, BreaksCommands, Refuses, AnswersLine, BreaksLine}
+use Rattle.line_keeping.specs.Private.{AnswersCommands, BreaksCommands, AnswersLine, BreaksLine}
 use Rattle.line_keeping.proofs.Gaining.{gains_none, gains_wider}
 use Rattle.line_keeping.proofs.Joining.{Pairs, Texts}
 
@@ -94,7 +94,7 @@ module _ (number : ℕ) (line : List ℕ) (old : Market) (count from : ℕ) (dis
   }
 
   -- answering its commands broke off
-  pub line_broke : (asked : Asked) (later : DiskState) (after : Output) (fault : KeepFault) → AsksIn old line asked → BreaksCommands (commands_of asked) old count from disk later out after fault → BreaksLine number line old count from disk later out after fault
+  pub line_broke : (asked : Asked) (later : DiskState) (after : Output) (fault : ServeFault) → AsksIn old line asked → BreaksCommands (commands_of asked) old count from disk later out after fault → BreaksLine number line old count from disk later out after fault
   line_broke asked later after fault asks b = record {
     breaks = record {
       pairs = b.pairs;
@@ -108,7 +108,6 @@ module _ (number : ℕ) (line : List ℕ) (old : Market) (count from : ℕ) (dis
       runs = b.runs;
       gained = b.gained;
       whole = b.whole;
-      is_one = b.is_one;
     };
     lacks = λ is. (asks.0, asks.1.written);
   }
@@ -134,14 +133,13 @@ module _ (number : ℕ) (line : List ℕ) (old : Market) (count from : ℕ) (dis
       runs = nothing_runs is_disk;
       gained = gains_none _ out;
       whole = λ not. (refl, nothing_keeps);
-      is_one = inl refl;
     };
     lacks = λ is. (short, written);
   }
 
   -- that it is no command wasn't written
-  pub line_unwritten : (after : Output) (fault : KeepFault) → IsDisk disk → IsNoCommand old line → Refuses number (Err fault) out after → BreaksLine number line old count from disk disk out after fault
-  line_unwritten after Write is_disk none refused = record {
+  pub line_unwritten : (after : Output) → IsDisk disk → IsNoCommand old line → Gains ⊤ out after (no_command_text number ∷ []) → BreaksLine number line old count from disk disk out after Write
+  line_unwritten after is_disk none refused = record {
     breaks = record {
       pairs = [];
       texts = no_command_text number ∷ [];
@@ -152,28 +150,8 @@ module _ (number : ℕ) (line : List ℕ) (old : Market) (count from : ℕ) (dis
       last = old;
       further = inr (inl (none, refl, refl, refl));
       runs = nothing_runs is_disk;
-      gained = gains_wider (Unit {0}) _ out after (no_command_text number ∷ []) (λ _. refl) refused;
+      gained = gains_wider ⊤ _ out after (no_command_text number ∷ []) (λ _. refl) refused;
       whole = λ not. (refl, nothing_keeps);
-      is_one = inr (inr refl);
     };
     lacks = λ is. absurd cc;
   }
-  line_unwritten after Read is_disk none refused = absurd refused
-  line_unwritten after Disk is_disk none refused = absurd refused
-  line_unwritten after Memory is_disk none refused = absurd refused
-  line_unwritten after NotDisk is_disk none refused = absurd refused
-  line_unwritten after (Damaged n) is_disk none refused = absurd refused
-  line_unwritten after (Rejected n) is_disk none refused = absurd refused
-  line_unwritten after NotFlow is_disk none refused = absurd refused
-  line_unwritten after BadCheckpoint is_disk none refused = absurd refused
-  line_unwritten after (Torn n) is_disk none refused = absurd refused
-  line_unwritten after TooLong is_disk none refused = absurd refused
-
--- the answer to a line that is no command, by whether it was written
-pub ok_refused : (number : ℕ) (result : Result (Unit {0}) KeepFault) (out after : Output) → Refuses number result out after → OnOk result (Gains ⊥ out after (no_command_text number ∷ []))
-ok_refused number (Ok done) out after refused = refused
-ok_refused number (Err fault) out after refused = tt
-
-pub err_refused : (number : ℕ) (result : Result (Unit {0}) KeepFault) (out after : Output) → Refuses number result out after → IfErr result (λ fault. Refuses number (Err fault) out after)
-err_refused number (Ok done) out after refused = tt
-err_refused number (Err fault) out after refused = refused

@@ -1,6 +1,5 @@
 -- A new disk is made one that begins with what is before the lines of its input.
-use Rattle.std.proofs.Common.{◌≡◌, ◌≢◌, ◌⊎◌, inr, ℕ, ◌+◌, ◌-◌, ◌*◌, ◌<◌, ◌≤◌, ◌^◌, List, [], ◌∷◌, ◌++◌, Option, Some, None, IfSome, length, length-append, take, refl, sym, ap, subst, ◌∙◌, arith, append_assoc}
-use Rattle.std.specs.Prelude.{All}
+use Rattle.std.proofs.Common.{◌≡◌, ◌⊎◌, inr, ℕ, ◌+◌, ◌-◌, ◌*◌, ◌<◌, ◌≤◌, ◌^◌, List, [], ◌∷◌, ◌++◌, Option, Some, None, IfSome, length, length-append, take, refl, sym, ap, subst, ◌∙◌, arith, append_assoc}
 use Rattle.std.proofs.lemmas.List.Elements.{All-nil}
 use Rattle.wire_records.specs.Records.{Record}
 use Rattle.wire_records.specs.Commands.{Pair}
@@ -21,11 +20,12 @@ use Rattle.journal_disk.specs.Recovering.{IsFound}
 use Rattle.journal_disk.proofs.Entries.{length-framed}
 use Rattle.line_records.specs.Lines.{IsPiece}
 use Rattle.line_records.proofs.Pieces.{lines_after}
-use Rattle.journal_keeping.specs.declared.fault.KeepFault.{KeepFault}
-use Rattle.journal_keeping.specs.declared.fault.KeepFault.TheVariants.{Read, Write, Disk, Memory, NotDisk, Damaged, Rejected, NotFlow, BadCheckpoint, Torn, TooLong}
+use Rattle.journal_keeping.specs.declared.fault.InputFault.{InputFault}
+use Rattle.journal_keeping.specs.declared.fault.InputFault.TheVariants as input
+use Rattle.journal_keeping.specs.declared.fault.BeginFault.TheVariants.{Input}
 use Rattle.journal_keeping.specs.Starts.{version_of, head_of}
 use Rattle.journal_keeping.specs.Keeping.{HoldsLegal}
-use Rattle.journal_keeping.specs.Beginning.{IsStored, Asked}
+use Rattle.journal_keeping.specs.Beginning.{IsStored}
 use Rattle.journal_keeping.proofs.Starts.{version_is}
 use Rattle.journal_keeping.proofs.ShortCheckpoints.{starts_begin_files}
 use Rattle.journal_keeping.proofs.Begun.{makes_new}
@@ -135,36 +135,12 @@ module _ (limit : ℕ) (market : Market) (stored : List ℕ) (window : WindowSta
 -- ---- why nothing was begun
 
 -- the input wasn't opened
-pub new_not_begun : (limit : ℕ) (held : List ℕ) (content left : Option (List ℕ)) (at : DiskState) (fault : KeepFault) → IsFound None held at → NotOpened limit content left fault → NotBegun limit held content left at fault
-new_not_begun limit held content left at BadCheckpoint found why = ((found.0, found.1), why, found.2, found.3)
-new_not_begun limit held content left at Read found why = inr (λ out. ((found.0, found.1), found.2, found.3, refl, why))
-new_not_begun limit held content left at Memory found why = inr (λ out. ((found.0, found.1), found.2, refl, why))
-new_not_begun limit held content left at NotFlow found why = absurd why
-new_not_begun limit held content left at NotDisk found why = absurd why
-new_not_begun limit held content left at (Damaged n) found why = absurd why
-new_not_begun limit held content left at (Rejected n) found why = absurd why
-new_not_begun limit held content left at Disk found why = absurd why
-new_not_begun limit held content left at Write found why = absurd why
-new_not_begun limit held content left at (Torn n) found why = absurd why
-new_not_begun limit held content left at TooLong found why = absurd why
+new_not_begun : (limit : ℕ) (held : List ℕ) (content left : Option (List ℕ)) (at : DiskState) (fault : InputFault) → IsFound None held at → NotOpened limit content left fault → NotBegun limit held content left at (Input fault)
+new_not_begun limit held content left at input.BadCheckpoint found why = ((found.0, found.1), why, found.2, found.3)
+new_not_begun limit held content left at input.Read found why = inr (λ out. ((found.0, found.1), found.2, found.3, refl, why))
+new_not_begun limit held content left at input.Memory found why = λ out. ((found.0, found.1), found.2, refl, why)
+new_not_begun limit held content left at input.NotFlow found why = absurd why
 
-pub not_begun_new : (limit : ℕ) (told content left : Option (List ℕ)) (at : DiskState) (fault : KeepFault) → IfSome told (λ held. IsFound None held at) → NotOpened limit content left fault → IfSome told (λ held. NotBegun limit held content left at fault)
+pub not_begun_new : (limit : ℕ) (told content left : Option (List ℕ)) (at : DiskState) (fault : InputFault) → IfSome told (λ held. IsFound None held at) → NotOpened limit content left fault → IfSome told (λ held. NotBegun limit held content left at (Input fault))
 not_begun_new limit None content left at fault found why = tt
 not_begun_new limit (Some held) content left at fault found why = new_not_begun limit held content left at fault found why
-
--- an input that wasn't opened is no refusal of the disk
-pub asked_of_input : (limit : ℕ) (content left : Option (List ℕ)) (Same : Type 0) (fault : KeepFault) → NotOpened limit content left fault → Asked fault Same
-asked_of_input limit content left Same BadCheckpoint why = tt
-asked_of_input limit content left Same Read why = tt
-asked_of_input limit content left Same Memory why = tt
-asked_of_input limit content left Same NotFlow why = tt
-asked_of_input limit content left Same Disk why = tt
-asked_of_input limit content left Same Write why = tt
-asked_of_input limit content left Same (Torn n) why = tt
-asked_of_input limit content left Same TooLong why = tt
-asked_of_input limit content left Same NotDisk why = absurd why
-asked_of_input limit content left Same (Damaged n) why = absurd why
-asked_of_input limit content left Same (Rejected n) why = absurd why
-
-pub unwritten_input : (limit : ℕ) (content left : Option (List ℕ)) (fault : KeepFault) → NotOpened limit content left fault → fault ≢ Write
-unwritten_input limit content left fault why = λ is. subst (NotOpened limit content left) is why

@@ -1,5 +1,6 @@
 -- One turn of the loop over lines: a line was found, and how it ends.
-use Rattle.std.proofs.Common.{◌≡◌, ◌≢◌, inl, ℕ, ◌+◌, ◌-◌, ◌<◌, ◌≤◌, ◌^◌, List, [], ◌∷◌, ◌++◌, Option, IfSome, Result, Ok, Err, OnOk, IfErr, length, length-append, take, drop, map, refl, sym, ap, subst, ◌∙◌, arith, append_assoc}
+use Rattle.std.proofs.Common.{◌≡◌, ◌≢◌, inl, ℕ, ◌+◌, ◌-◌, ◌<◌, ◌≤◌, ◌^◌, List, [], ◌∷◌, ◌++◌, Option, IfSome, Ok, Err, length, length-append, take, drop, map, refl, sym, ap, subst, ◌∙◌, arith, append_assoc}
+use Rattle.std.specs.Prelude.{⊤}
 use Rattle.std.proofs.lemmas.List.{append-nil, length-take-le}
 use Rattle.wire_records.specs.Records.{Record}
 use Rattle.wire_records.specs.Commands.{Pair}
@@ -18,19 +19,20 @@ use Rattle.journal_keeping.specs.Starts.{head_of}
 use Rattle.journal_keeping.specs.Keeping.{IsKeptJournal, Runs}
 use Rattle.journal_keeping.specs.Pacing.{asked_of}
 use Rattle.journal_keeping.proofs.Serving.{ended}
-use Rattle.journal_keeping.specs.declared.fault.KeepFault.{KeepFault}
-use Rattle.journal_keeping.specs.declared.fault.KeepFault.TheVariants.{Read, TooLong}
+use Rattle.file_units.specs.declared.units.Ending.TheVariants.{End, TooLong}
+use Rattle.file_units.specs.declared.input.TakeFault.TheVariants.{Read, Broken}
+use Rattle.journal_keeping.specs.declared.fault.ServeFault.{ServeFault}
+use Rattle.journal_keeping.specs.declared.fault.ServeFault.TheVariants.{Write}
 use Rattle.input_lines.specs.Finding.{Finds, FindsNone}
 use Rattle.input_lines.specs.declared.lines.Next.TheVariants as next
 use Rattle.line_keeping.specs.Answers.{no_command_text, AreLinesAnswered}
 use Rattle.line_keeping.specs.Outputs.{Output, Gains}
-use Rattle.line_keeping.specs.Private.{AnswersLine, BreaksLine, Refuses, HasGone, StopAt, AnswersOn, KeepsSome}
+use Rattle.line_keeping.specs.Private.{AnswersLine, BreaksLine, HasGone, StopAt, AnswersOn, KeepsSome}
 use Rattle.line_keeping.proofs.Joining.{Texts, lines_more}
 use Rattle.line_keeping.proofs.Adding.{added_more}
 use Rattle.line_keeping.proofs.Gaining.{gains_more, gains_wider}
-use Rattle.line_keeping.proofs.Served.{on_ok}
 use Rattle.line_keeping.proofs.Keeping.{keeps_on}
-use Rattle.line_keeping.proofs.Lines.{line_refused, line_unwritten, if_err, ok_refused, err_refused}
+use Rattle.line_keeping.proofs.Lines.{line_refused, line_unwritten}
 use Rattle.line_keeping.proofs.Going.{feeds_more, gone_more, ends_so, breaks_so}
 use Rattle.line_keeping.proofs.Endings.{known_is, lines_end, lines_last, lines_limit, lines_taken, lines_stop}
 
@@ -93,7 +95,7 @@ module _ (first : WindowState) (rest : Option (List ℕ)) (old : Market) (count 
   room_left joined within = omega (arith, within, gone.place_is, gone.limit, length-append (ended_by_feeds gone.read) (now.held ++ joined))
 
   -- the input ended after a line feed
-  pub end_turn : (w : WindowState) (after : Option (List ℕ)) → Finds now w left after next.End → AnswersOn first rest after (Ok tt) old count from start disk out later
+  pub end_turn : (w : WindowState) (after : Option (List ℕ)) → Finds now w left after next.End → AnswersOn first rest after (Ok End) old count from start disk out later
   end_turn w after finds =
       let f = finds.is in
       let joined = finds.joined in
@@ -104,12 +106,12 @@ module _ (first : WindowState) (rest : Option (List ℕ)) (old : Market) (count 
       ∙ ap (λ (x : List ℕ). (ended_by_feeds gone.read ++ []) ++ (x ++ (known_is (gone.taken ++ (joined ++ past)) after).0)) f.1 ∙ ap (λ (x : List ℕ). (ended_by_feeds gone.read ++ []) ++ x) none
       ∙ append-nil (ended_by_feeds gone.read ++ []) ∙ append-nil (ended_by_feeds gone.read) in
       let few : length (first.held ++ known (gone.taken ++ (joined ++ past)) after) ≤ first.limit - first.place = omega (arith, ap length whole, room_left joined finds.within, length-append (ended_by_feeds gone.read) (now.held ++ joined)) in
-      ends_so first rest old count from start out now left market entries place lines disk later gone after joined past finds.takes (omega (arith, ap length f.1)) finds.within (Ok tt)
+      ends_so first rest old count from start out now left market entries place lines disk later gone after joined past finds.takes (omega (arith, ap length f.1)) finds.within (Ok End)
       (lines_end (first.limit - first.place) (first.held ++ known (gone.taken ++ (joined ++ past)) after) gone.read gone.pieces whole few, few, f.2.1)
       gone.answered (subst (λ (l : List (Pair Record Outcome)). AreLinesAnswered old count 1 gone.read l gone.texts market) (sym (append-nil gone.pairs)) gone.answered) (λ e. absurd cc)
 
   -- the input has more than the limit
-  pub limit_turn : (w : WindowState) (after : Option (List ℕ)) → Finds now w left after next.Limit → AnswersOn first rest after (Err TooLong) old count from start disk out later
+  pub limit_turn : (w : WindowState) (after : Option (List ℕ)) → Finds now w left after next.Limit → AnswersOn first rest after (Ok TooLong) old count from start disk out later
   limit_turn w after finds =
       let f = finds.is in
       let joined = finds.joined in
@@ -118,7 +120,7 @@ module _ (first : WindowState) (rest : Option (List ℕ)) (old : Market) (count 
       let size : length (ended_by_feeds gone.read ++ (now.held ++ joined)) ≡ first.limit - first.place = omega (arith, f.2, gone.place_is, gone.limit, length-append (ended_by_feeds gone.read) (now.held ++ joined)) in
       let more : first.limit - first.place < length (first.held ++ known (gone.taken ++ (joined ++ past)) after) =
       omega (arith, size, f.1, ap length (all_bytes joined past after), length-append (ended_by_feeds gone.read ++ (now.held ++ joined)) (past ++ l), length-append past l) in
-      ends_so first rest old count from start out now left market entries place lines disk later gone after joined past finds.takes (omega (arith, f.1)) finds.within (Err TooLong)
+      ends_so first rest old count from start out now left market entries place lines disk later gone after joined past finds.takes (omega (arith, f.1)) finds.within (Ok TooLong)
       (lines_limit (first.limit - first.place) (first.held ++ known (gone.taken ++ (joined ++ past)) after) gone.read gone.pieces (now.held ++ joined) (past ++ l) f.0 (all_bytes joined past after) size more, more)
       gone.answered (subst (λ (p : List (Pair Record Outcome)). AreLinesAnswered old count 1 gone.read p gone.texts market) (sym (append-nil gone.pairs)) gone.answered) (λ e. absurd cc)
 
@@ -172,8 +174,8 @@ module _ (first : WindowState) (rest : Option (List ℕ)) (old : Market) (count 
       )
 
   -- answering broke off at a line that was found
-  pub line_broken : (w : WindowState) (after : Option (List ℕ)) (size : ℕ) (held : List ℕ) → held ≡ w.held → length held ≤ w.room → Finds now w left after (next.Line size) → (disk2 : DiskState) (last : Output) (fault : KeepFault)
-      → BreaksLine (lines + 1) (take size held) market entries place disk disk2 later last fault → AnswersOn first rest after (Err fault) old count from start disk2 out last
+  pub line_broken : (w : WindowState) (after : Option (List ℕ)) (size : ℕ) (held : List ℕ) → held ≡ w.held → length held ≤ w.room → Finds now w left after (next.Line size) → (disk2 : DiskState) (last : Output) (fault : ServeFault)
+      → BreaksLine (lines + 1) (take size held) market entries place disk disk2 later last fault → AnswersOn first rest after (Err (Broken fault)) old count from start disk2 out last
   line_broken w after size held same few finds disk2 last fault breaks =
       let all = now.held ++ finds.joined in
       let f = finds.is in
@@ -182,12 +184,12 @@ module _ (first : WindowState) (rest : Option (List ℕ)) (old : Market) (count 
       (subst (λ (l : List ℕ). BreaksLine (lines + 1) (take size l) market entries place disk disk2 later last fault) bytes breaks)
       (stop_line after finds.joined (take size all) (drop (size + 1) all) f.4 f.5 (omega (arith, few, f.7.room, ap length bytes, ap length f.5, length-append (take size all) (10 ∷ drop (size + 1) all))) finds.within)
 
-  pub long_broken : (w : WindowState) (after : Option (List ℕ)) (held : List ℕ) → held ≡ w.held → length held ≤ w.room → IsDisk disk → Finds now w left after next.Long → (last : Output) (fault : KeepFault) → Refuses (lines + 1) (Err fault) later last
-      → AnswersOn first rest after (Err fault) old count from start disk out last
-  long_broken w after held same few is_disk finds last fault refused =
+  pub long_broken : (w : WindowState) (after : Option (List ℕ)) (held : List ℕ) → held ≡ w.held → length held ≤ w.room → IsDisk disk → Finds now w left after next.Long → (last : Output) → Gains ⊤ later last (no_command_text (lines + 1) ∷ [])
+      → AnswersOn first rest after (Err (Broken Write)) old count from start disk out last
+  long_broken w after held same few is_disk finds last refused =
       let f = finds.is in
-      breaks_so first rest old count from start out now left market entries place lines disk later gone after finds.joined (no_past after finds.joined finds.past f.5 finds.takes) finds.within f.0 disk last fault
-      (line_unwritten (lines + 1) f.0 market entries place disk later last fault is_disk (inl f.1) refused)
+      breaks_so first rest old count from start out now left market entries place lines disk later gone after finds.joined (no_past after finds.joined finds.past f.5 finds.takes) finds.within f.0 disk last Write
+      (line_unwritten (lines + 1) f.0 market entries place disk later last is_disk (inl f.1) refused)
       (stop_line after finds.joined f.0 w.held f.2 f.3 (omega (arith, few, f.6.room, ap length same)) finds.within)
 
   -- the last line, which has no line feed, was answered, or answering it broke off
@@ -198,7 +200,7 @@ module _ (first : WindowState) (rest : Option (List ℕ)) (old : Market) (count 
     last_whole : first.held ++ known (gone.taken ++ joined) after ≡ ended_by_feeds gone.read ++ line
     last_whole = joined_bytes joined after ∙ ap (λ (x : List ℕ). (ended_by_feeds gone.read ++ line) ++ x) ((known_is (gone.taken ++ joined) after).2 ends) ∙ append-nil (ended_by_feeds gone.read ++ line)
 
-    last_done : (market2 : Market) (entries2 place2 : ℕ) (disk2 : DiskState) (last : Output) → AnswersLine (lines + 1) line market market2 entries entries2 place place2 disk disk2 later last → AnswersOn first rest after (Ok tt) old count from start disk2 out last
+    last_done : (market2 : Market) (entries2 place2 : ℕ) (disk2 : DiskState) (last : Output) → AnswersLine (lines + 1) line market market2 entries entries2 place place2 disk disk2 later last → AnswersOn first rest after (Ok End) old count from start disk2 out last
     last_done market2 entries2 place2 disk2 last answers =
         let pairs = gone.pairs ++ answers.pairs in
         let texts = gone.texts ++ answers.texts in
@@ -228,24 +230,36 @@ module _ (first : WindowState) (rest : Option (List ℕ)) (old : Market) (count 
           lacks = λ is. absurd cc;
         }
 
-    pub last_turn : (market2 : Market) (entries2 place2 : ℕ) (disk2 : DiskState) (last : Output) (result : Result (Unit {0}) KeepFault) → OnOk result (AnswersLine (lines + 1) line market market2 entries entries2 place place2 disk disk2 later last)
-        → IfErr result (BreaksLine (lines + 1) line market entries place disk disk2 later last) → AnswersOn first rest after result old count from start disk2 out last
-    last_turn market2 entries2 place2 disk2 last (Ok done) answers breaks = last_done market2 entries2 place2 disk2 last answers
-    last_turn market2 entries2 place2 disk2 last (Err fault) answers breaks =
+    last_broke : (disk2 : DiskState) (last : Output) (fault : ServeFault) → BreaksLine (lines + 1) line market entries place disk disk2 later last fault → AnswersOn first rest after (Err (Broken fault)) old count from start disk2 out last
+    last_broke disk2 last fault breaks =
         breaks_so first rest old count from start out now left market entries place lines disk later gone after joined takes within line disk2 last fault breaks (stop_last after joined piece some ends within)
 
-  pub last_found : (w : WindowState) (after : Option (List ℕ)) (held : List ℕ) → held ≡ w.held → Finds now w left after next.Last → (market2 : Market) (entries2 place2 : ℕ) (disk2 : DiskState) (last : Output) (result : Result (Unit {0}) KeepFault)
-      → OnOk result (AnswersLine (lines + 1) held market market2 entries entries2 place place2 disk disk2 later last) → IfErr result (BreaksLine (lines + 1) held market entries place disk disk2 later last) → AnswersOn first rest after result old count from start disk2 out last
-  last_found w after held same finds market2 entries2 place2 disk2 last result answers breaks =
-      let f = finds.is in
-      let bytes : held ≡ now.held ++ finds.joined = same ∙ f.0 in
-      last_turn after finds.joined (no_past after finds.joined finds.past f.5 finds.takes) finds.within f.4 f.2 f.7.1 market2 entries2 place2 disk2 last result
-      (subst (λ (l : List ℕ). OnOk result (AnswersLine (lines + 1) l market market2 entries entries2 place place2 disk disk2 later last)) bytes answers)
-      (subst (λ (l : List ℕ). IfErr result (BreaksLine (lines + 1) l market entries place disk disk2 later last)) bytes breaks)
+  module _ (w : WindowState) (after : Option (List ℕ)) where
+    module _ (held : List ℕ) (same : held ≡ w.held) (finds : Finds now w left after next.Last) (disk2 : DiskState) (last : Output) where
+      bytes : held ≡ now.held ++ finds.joined
+      bytes = same ∙ finds.is.0
 
-  pub last_long : (w : WindowState) (after : Option (List ℕ)) → IsDisk disk → Finds now w left after next.LongLast → (last : Output) (result : Result (Unit {0}) KeepFault) → Refuses (lines + 1) result later last → AnswersOn first rest after result old count from start disk out last
-  last_long w after is_disk finds last result refused =
-      let f = finds.is in
-      last_turn after finds.joined (no_past after finds.joined finds.past f.2 finds.takes) finds.within f.1 (λ e. omega (arith, f.0, ap length e)) f.3.1 market entries place disk last result
-      (on_ok result _ _ (λ gained. line_refused (lines + 1) (now.held ++ finds.joined) market entries place disk later last is_disk (inl f.0) gained) (ok_refused (lines + 1) result later last refused))
-      (if_err result _ _ (λ fault why. line_unwritten (lines + 1) (now.held ++ finds.joined) market entries place disk later last fault is_disk (inl f.0) why) (err_refused (lines + 1) result later last refused))
+      pub last_found : (market2 : Market) (entries2 place2 : ℕ) → AnswersLine (lines + 1) held market market2 entries entries2 place place2 disk disk2 later last → AnswersOn first rest after (Ok End) old count from start disk2 out last
+      last_found market2 entries2 place2 answers =
+          let f = finds.is in
+          last_done after finds.joined (no_past after finds.joined finds.past f.5 finds.takes) finds.within f.4 f.2 f.7.1 market2 entries2 place2 disk2 last
+          (subst (λ (l : List ℕ). AnswersLine (lines + 1) l market market2 entries entries2 place place2 disk disk2 later last) bytes answers)
+
+      pub last_broken : (fault : ServeFault) → BreaksLine (lines + 1) held market entries place disk disk2 later last fault → AnswersOn first rest after (Err (Broken fault)) old count from start disk2 out last
+      last_broken fault breaks =
+          let f = finds.is in
+          last_broke after finds.joined (no_past after finds.joined finds.past f.5 finds.takes) finds.within f.4 f.2 f.7.1 disk2 last fault
+          (subst (λ (l : List ℕ). BreaksLine (lines + 1) l market entries place disk disk2 later last fault) bytes breaks)
+
+    module _ (is_disk : IsDisk disk) (finds : Finds now w left after next.LongLast) (last : Output) where
+      pub last_long : Gains ⊥ later last (no_command_text (lines + 1) ∷ []) → AnswersOn first rest after (Ok End) old count from start disk out last
+      last_long gained =
+          let f = finds.is in
+          last_done after finds.joined (no_past after finds.joined finds.past f.2 finds.takes) finds.within f.1 (λ e. omega (arith, f.0, ap length e)) f.3.1 market entries place disk last
+          (line_refused (lines + 1) (now.held ++ finds.joined) market entries place disk later last is_disk (inl f.0) gained)
+
+      pub last_long_broken : Gains ⊤ later last (no_command_text (lines + 1) ∷ []) → AnswersOn first rest after (Err (Broken Write)) old count from start disk out last
+      last_long_broken gained =
+          let f = finds.is in
+          last_broke after finds.joined (no_past after finds.joined finds.past f.2 finds.takes) finds.within f.1 (λ e. omega (arith, f.0, ap length e)) f.3.1 disk last Write
+          (line_unwritten (lines + 1) (now.held ++ finds.joined) market entries place disk later last is_disk (inl f.0) gained)

@@ -1,6 +1,6 @@
 -- What serving lines results in, from what its parts did.
-use Rattle.std.proofs.Common.{◌≡◌, ◌≢◌, ◌⊎◌, inl, inr, ℕ, zero, suc, ◌+◌, ◌-◌, ◌*◌, ◌<◌, ◌≤◌, List, [], ◌∷◌, ◌++◌, Option, None, Some, IfSome, IsSome, Result, Ok, Err, Contains, length, length-append, length-take, take, drop, get_or, map, refl, sym, ap, subst, ◌∙◌, arith, append_assoc, take-append-drop}
-use Rattle.std.specs.Prelude.{All, ⊤}
+use Rattle.std.proofs.Common.{◌≡◌, ◌≢◌, ◌⊎◌, inl, inr, ℕ, zero, suc, ◌+◌, ◌-◌, ◌*◌, ◌<◌, ◌≤◌, ◌^◌, List, [], ◌∷◌, ◌++◌, Option, None, Some, IfSome, IsSome, Result, Ok, Err, Contains, length, length-append, length-take, take, drop, get_or, map, refl, sym, ap, subst, ◌∙◌, arith, append_assoc, take-append-drop}
+use Rattle.std.specs.Prelude.{⊤}
 use Rattle.std.proofs.lemmas.List.{append-nil}
 use Rattle.std.proofs.lemmas.List.Elements.{All-nil, Contains-append_left}
 use Rattle.std.proofs.Math.Seq.{take-append-add, take-append_seam}
@@ -21,21 +21,31 @@ use Rattle.journal_disk.specs.Entries.{IsNewDisk, Keeps}
 use Rattle.journal_disk.specs.Lengths.{HasAtMost, LeavesAtMost, ReachesAtMost}
 use Rattle.line_records.specs.Lines.{IsPiece, AreLines, ended_by_feeds}
 use Rattle.line_records.proofs.Pieces.{lines_after}
-use Rattle.journal_keeping.specs.declared.fault.KeepFault.{KeepFault}
-use Rattle.journal_keeping.specs.declared.fault.KeepFault.TheVariants.{Read, Write, Disk, Memory, NotDisk, Damaged, Rejected, NotFlow, BadCheckpoint, Torn, TooLong}
+use Rattle.file_units.specs.declared.units.Ending.{Ending}
+use Rattle.file_units.specs.declared.units.Ending.TheVariants.{End, Torn, TooLong}
+use Rattle.file_units.specs.declared.input.TakeFault.{TakeFault}
+use Rattle.file_units.specs.declared.input.TakeFault.TheVariants.{Read, Broken}
+use Rattle.journal_keeping.specs.declared.fault.OpenFault.TheVariants as unopened
+use Rattle.journal_keeping.specs.declared.fault.InputFault.TheVariants as input
+use Rattle.journal_keeping.specs.declared.fault.BeginFault.{BeginFault}
+use Rattle.journal_keeping.specs.declared.fault.BeginFault.TheVariants.{Open, Input, Make}
+use Rattle.journal_keeping.specs.declared.fault.ServeFault.{ServeFault}
+use Rattle.journal_keeping.specs.declared.fault.ServeFault.TheVariants.{Disk, Write, Memory}
+use Rattle.journal_keeping.specs.Faults.{of_begin, kept_result}
 use Rattle.journal_keeping.specs.Starts.{head_of}
 use Rattle.journal_keeping.specs.Keeping.{IsKeptJournal, HoldsLegal}
 use Rattle.journal_keeping.specs.Openings.{KeepNone}
 use Rattle.journal_keeping.specs.Lengths.{BringsAtMost, HasYetAtMost}
 use Rattle.journal_keeping.specs.Ended.{IsRefusal, MayBeginAgain}
-use Rattle.journal_keeping.specs.Beginning as keeping
 use Rattle.journal_keeping.specs.Pacing.{asked_of}
 use Rattle.journal_keeping.proofs.Auditing.{none_read}
 use Rattle.journal_keeping.proofs.Begun.{Opens, opened_old, new_again}
 use Rattle.journal_keeping.proofs.Lengths.{last_commit, left_less}
 use Rattle.journal_keeping.proofs.Magic.{at_most}
 use Rattle.journal_keeping.proofs.Serving.{unbegun, opened_first}
-use Rattle.journal_keeping.proofs.Whole.{after_run}
+use Rattle.journal_keeping.proofs.Whole.{after_run, not_refused_legal}
+use Rattle.journal_keeping.proofs.Counts.{if_some}
+use Rattle.journal_keeping.proofs.Faults.{begin_refusal}
 use Rattle.line_keeping.specs.Answers.{AreLinesAnswered, AreAnsweredInto, AreFirstAnswered}
 use Rattle.line_keeping.specs.Inputs.{bytes_before, IsBefore, HasLines, HasLinesWithin}
 use Rattle.line_keeping.specs.Outputs.{Output}
@@ -67,7 +77,7 @@ magic_piece (k, inside, is) = not_ten k inside is
     not_ten (suc (suc (suc (suc (suc (suc (suc (suc k)))))))) inside is = omega (arith, inside)
 
 -- a part of the magic has no lines
-part_lines : (x rest : List ℕ) → checkpoint_magic ≡ x ++ rest → length x < 8 → HasLines (Unit {0}) x None []
+part_lines : (x rest : List ℕ) → checkpoint_magic ≡ x ++ rest → length x < 8 → HasLines ⊤ x None []
 part_lines x rest e few = (
   x,
   (too_few x few, refl),
@@ -82,18 +92,20 @@ part_lines x rest e few = (
 )
 
 part_read : (limit : ℕ) (held : List ℕ) (content left : Option (List ℕ)) (end : DiskState) → IsPart limit held content left end content
-    → IfSome content (λ bytes. (n : ℕ) × IsTaken bytes left n × HasLines (Unit {0}) (take n (take limit bytes)) None [])
+    → IfSome content (λ bytes. (n : ℕ) × IsTaken bytes left n × HasLines ⊤ (take n (take limit bytes)) None [])
 part_read limit held None left end part = tt
 part_read limit held (Some bytes) left end (n, taken, rest, e, few) =
     (n, taken, part_lines (take n (take limit bytes)) rest e (omega (arith, few, length-take n (take limit bytes))))
 
-pub comes_not_begun : (limit : ℕ) (held : List ℕ) (content left : Option (List ℕ)) (end : DiskState) (out : Output) (fault : KeepFault) → NotBegun limit held content left end fault → ComesTo limit held content left end out out (Err fault)
-comes_not_begun limit held content left end out NotDisk is = (refl, is)
-comes_not_begun limit held content left end out (Damaged place) is = (refl, is)
-comes_not_begun limit held content left end out (Rejected number) is = (refl, is)
-comes_not_begun limit held content left end out NotFlow is = (refl, is.0, is.1, is.2, is.3, is.4, is.5, is.6)
-comes_not_begun limit held content left end out BadCheckpoint is = (refl, is)
-comes_not_begun limit held content left end out Read (inl (begin, old, market, opens, part, place, keeps)) =
+pub comes_not_begun : (limit : ℕ) (held : List ℕ) (content left : Option (List ℕ)) (end : DiskState) (out : Output) (fault : BeginFault) → NotBegun limit held content left end fault → ComesTo limit held content left end out out (Err (of_begin fault))
+comes_not_begun limit held content left end out (Open unopened.NotDisk) is = (refl, is.0)
+comes_not_begun limit held content left end out (Open (unopened.Damaged place)) is = (refl, is.0)
+comes_not_begun limit held content left end out (Open (unopened.Rejected number)) is = (refl, is.0)
+comes_not_begun limit held content left end out (Open unopened.Disk) is = inl (refl, inl is.1)
+comes_not_begun limit held content left end out (Open unopened.Memory) is = inl (is.1, refl)
+comes_not_begun limit held content left end out (Input input.NotFlow) is = (refl, is.0, is.1, is.2, is.3, is.4, is.5, is.6)
+comes_not_begun limit held content left end out (Input input.BadCheckpoint) is = (refl, is)
+comes_not_begun limit held content left end out (Input input.Read) (inl (begin, old, market, opens, part, place, keeps)) =
     inl (record {
       begin = begin;
       old = old;
@@ -111,27 +123,18 @@ comes_not_begun limit held content left end out Read (inl (begin, old, market, o
       keeps = subst (λ (l : Pairs). Keeps (head_of begin) (map records_of l) place end) (sym (append-nil old)) keeps;
       gained = gains_none ⊥ out;
     })
-comes_not_begun limit held content left end out Read (inr not) = inr (not out)
-comes_not_begun limit held content left end out Memory (inl same) = inl (same, refl)
-comes_not_begun limit held content left end out Memory (inr early) = inr (inl (early out))
-comes_not_begun limit held content left end out Disk is = inl (is out)
-comes_not_begun limit held content left end out Write is = absurd is
-comes_not_begun limit held content left end out (Torn place) is = absurd is
-comes_not_begun limit held content left end out TooLong is = absurd is
+comes_not_begun limit held content left end out (Input input.Read) (inr not) = inr (not out)
+comes_not_begun limit held content left end out (Input input.Memory) early = inr (inl (early out))
+comes_not_begun limit held content left end out Make is = inl (is out)
 
--- a disk that is refused is so as for `keep`
-pub refusal_alike : (limit : ℕ) (held : List ℕ) (content left : Option (List ℕ)) (end : DiskState) (fault : KeepFault) → NotBegun limit held content left end fault → IsRefusal (Err fault) → keeping.NotBegun limit held content left end fault
-refusal_alike limit held content left end NotDisk is refusal = is
-refusal_alike limit held content left end (Damaged place) is refusal = is
-refusal_alike limit held content left end (Rejected number) is refusal = is
-refusal_alike limit held content left end NotFlow is refusal = absurd refusal
-refusal_alike limit held content left end BadCheckpoint is refusal = absurd refusal
-refusal_alike limit held content left end Read is refusal = absurd refusal
-refusal_alike limit held content left end Memory is refusal = absurd refusal
-refusal_alike limit held content left end Disk is refusal = absurd refusal
-refusal_alike limit held content left end Write is refusal = absurd refusal
-refusal_alike limit held content left end (Torn place) is refusal = absurd refusal
-refusal_alike limit held content left end TooLong is refusal = absurd refusal
+-- a disk that holds a valid journal isn't refused
+pub refused_not_legal : (begin : Start) (limit : ℕ) (content left : Option (List ℕ)) (start end : DiskState) (old : Pairs) (market : Market) (fault : BeginFault) → HoldsLegal start begin old market → IfSome start.content (λ held. length held ≤ 2 ^ 60)
+    → IfSome start.content (λ held. NotBegun limit held content left end fault) → ¬ IsRefusal (Err (of_begin fault))
+refused_not_legal begin limit content left start end old market fault holds small is refusal =
+    let of = begin_refusal fault refusal in
+    not_refused_legal begin start end old market of.0 holds small
+    (if_some start.content _ _ (λ (held : List ℕ) not. (subst (NotBegun limit held content left end) of.1 not).0) is)
+    (subst (λ (f : BeginFault). IsRefusal (Err (of_begin f))) of.1 refusal)
 
 -- before the first line
 pub keeps_none : (limit : ℕ) (content : Option (List ℕ)) (Cut : Type 0) (begin : Start) (start next : DiskState) (old : Pairs) (market : Market) (out : Output) → IsDisk next → OpensSafely limit content start next begin old market
@@ -157,6 +160,26 @@ pub may_begin_again : (limit : ℕ) (content : Option (List ℕ)) (Cut : Type 0)
     → ServesIn limit content Cut begin start end old market out later → MayBeginAgain start end
 may_begin_again limit content Cut begin start end old market out later legal is_disk (of, from, before, goes, serves) =
     after_run begin of start end old serves.new market from (asked_of serves.new) serves.acknowledged legal is_disk serves.runs
+
+-- a write may be cut short in more cases
+pub cut_wider : (limit : ℕ) (content : Option (List ℕ)) (Less Cut : Type 0) → (Less → Cut) → (begin : Start) (start end : DiskState) (old : Pairs) (market : Market) (out later : Output)
+    → ServesIn limit content Less begin start end old market out later → ServesIn limit content Cut begin start end old market out later
+cut_wider limit content Less Cut wider begin start end old market out later (of, from, before, goes, serves) = (
+  of,
+  from,
+  before,
+  goes,
+  record {
+    new = serves.new;
+    acknowledged = serves.acknowledged;
+    runs = serves.runs;
+    texts = serves.texts;
+    added = serves.added;
+    answers = serves.answers;
+    answered = serves.answered;
+    gained = gains_wider Less Cut out later serves.answers wider serves.gained;
+  },
+)
 
 -- ---- a disk that was opened
 
@@ -217,7 +240,7 @@ lines_alike More Other bytes lines to from are = record { ended = are.ended; las
     all (inr (is, not, some)) = inr (is, (λ other. not (from other)), some)
 
 -- the lines that were complete in the first bytes are the first ones
-lines_go_on : (More : Type 0) → More ⊎ (¬ More) → (k : ℕ) (bytes : List ℕ) (read : Texts) → AreLines (Unit {0}) (take k bytes) read → (rest : Texts) × AreLines More bytes (read ++ rest)
+lines_go_on : (More : Type 0) → More ⊎ (¬ More) → (k : ℕ) (bytes : List ℕ) (read : Texts) → AreLines ⊤ (take k bytes) read → (rest : Texts) × AreLines More bytes (read ++ rest)
 lines_go_on More more k bytes read are =
     let is = ended_are are.all in
     let whole : bytes ≡ ended_by_feeds are.ended ++ (are.last ++ drop k bytes) = sym (take-append-drop k bytes) ∙ ap (λ (l : List ℕ). l ++ drop k bytes) are.whole ∙ append_assoc (ended_by_feeds are.ended) are.last (drop k bytes) in
@@ -287,7 +310,7 @@ module _ (limit : ℕ) (before : Option Market) (w : WindowState) (content mid l
     taken_is : IsTaken bytes left (length (bytes_before before) + length seen)
     taken_is = subst (λ (o : Option (List ℕ)). IsTaken bytes o (length (bytes_before before) + length seen)) (sym is_left) counts_are
 
-    read_is : (read : Texts) → AreLines (Unit {0}) (take (length seen) (take far all)) read → (n : ℕ) × IsTaken bytes left n × HasLines (Unit {0}) (take n (take limit bytes)) before read
+    read_is : (read : Texts) → AreLines ⊤ (take (length seen) (take far all)) read → (n : ℕ) × IsTaken bytes left n × HasLines ⊤ (take n (take limit bytes)) before read
     read_is read are =
         let n = length (bytes_before before) + length seen in
         let first : take n (take limit bytes) ≡ bytes_before before ++ take (length seen) (take far all) = ap (take n) within_is ∙ take-append-add (bytes_before before) (take far all) (length seen) in
@@ -331,28 +354,21 @@ module _ (limit : ℕ) (before : Option Market) (w : WindowState) (content mid l
     stopped : (pairs : Pairs) (texts : Texts) (new : Market) → StopAt far all seen left read line → AreAnsweredInto market count read line pairs texts new → IfSome content (First pairs texts)
     stopped pairs texts new stop into = if_known (First pairs texts) (λ bytes m l x y z. (read ++ line ∷ stop.0, lines_are bytes m l x y z (read ++ line ∷ stop.0) stop.1, new, inr (read, line, stop.0, refl, into)))
 
-    pub first_answered : (result : Result (Unit {0}) KeepFault) (pairs : Pairs) (texts : Texts) (new : Market) → AreRead far all seen left read line result → AreDone market count read line pairs texts new result → IfSome content (First pairs texts)
-    first_answered (Ok done) pairs texts new reads answered = if_known (First pairs texts) (λ bytes m l x y z. (read, lines_are bytes m l x y z read reads.0, new, inl answered))
-    first_answered (Err TooLong) pairs texts new reads answered = if_known (First pairs texts) (λ bytes m l x y z. (read, lines_are bytes m l x y z read reads.0, new, inl answered))
+    pub first_answered : (result : Result Ending (TakeFault ServeFault)) (pairs : Pairs) (texts : Texts) (new : Market) → AreRead far all seen left read line result → AreDone market count read line pairs texts new result → IfSome content (First pairs texts)
+    first_answered (Ok End) pairs texts new reads answered = if_known (First pairs texts) (λ bytes m l x y z. (read, lines_are bytes m l x y z read reads.0, new, inl answered))
+    first_answered (Ok TooLong) pairs texts new reads answered = if_known (First pairs texts) (λ bytes m l x y z. (read, lines_are bytes m l x y z read reads.0, new, inl answered))
     first_answered (Err Read) pairs texts new reads answered =
         let found = lines_go_on (far < length all) (less_or_not far (length all)) (length seen) (take far all) read reads in
         if_known (First pairs texts) (λ bytes m l x y z. (read ++ found.0, lines_are bytes m l x y z (read ++ found.0) found.1, new, more_first found.0 pairs texts new answered))
-    first_answered (Err Write) pairs texts new reads answered = stopped pairs texts new reads answered
-    first_answered (Err Disk) pairs texts new reads answered = stopped pairs texts new reads answered
-    first_answered (Err Memory) pairs texts new reads answered = stopped pairs texts new reads answered
-    first_answered (Err NotDisk) pairs texts new reads answered = absurd reads
-    first_answered (Err (Damaged n)) pairs texts new reads answered = absurd reads
-    first_answered (Err (Rejected n)) pairs texts new reads answered = absurd reads
-    first_answered (Err NotFlow) pairs texts new reads answered = absurd reads
-    first_answered (Err BadCheckpoint) pairs texts new reads answered = absurd reads
-    first_answered (Err (Torn n)) pairs texts new reads answered = absurd reads
+    first_answered (Err (Broken fault)) pairs texts new reads answered = stopped pairs texts new reads answered
+    first_answered (Ok (Torn n)) pairs texts new reads answered = absurd reads
 
 -- ---- lines were answered
 
 -- what it does to the disk and to the output
-pub keeps_served : (limit : ℕ) (content mid left : Option (List ℕ)) (w : WindowState) (of : Start) (before : Option Market) (following : IsBehind limit before w content mid) (result : Result (Unit {0}) KeepFault) (begin : Start) (start begun end : DiskState) (old : Pairs) (market session : Market) (count place : ℕ) (out later : Output)
+pub keeps_served : (limit : ℕ) (content mid left : Option (List ℕ)) (w : WindowState) (of : Start) (before : Option Market) (following : IsBehind limit before w content mid) (result : Result Ending (TakeFault ServeFault)) (begin : Start) (start begun end : DiskState) (old : Pairs) (market session : Market) (count place : ℕ) (out later : Output)
     → GoesOnIn limit content start begin market of session before × IsKeptJournal of old session × (count ≡ length old) × Keeps (head_of of) (map records_of old) place begun → Opens of start begun old
-    → AnswersOn w mid left result session count place begun end out later → ServesIn limit content (result ≡ Err Write) begin start end old market out later
+    → AnswersOn w mid left result session count place begun end out later → ServesIn limit content (result ≡ Err (Broken Write)) begin start end old market out later
 keeps_served limit content mid left w of before following result begin start begun end old market session count place out later is opens on =
     let all = on.pairs ++ on.more in (
       of,
@@ -380,10 +396,10 @@ module _ (limit : ℕ) (held : List ℕ) (content : Option (List ℕ)) (begun : 
   journal : IsKeptJournal begin is.0 market
   journal = opens_journal held begin is.0 market before starts is.1
 
-  all_answered : (result : Result (Unit {0}) KeepFault) (on : AnswersOn w mid left result market count place begun end out later) (Are : List ℕ → Option Market → Texts → Type 0) → ¬ BrokeOff result → AreLinesAnswered market count 1 on.read on.pairs on.texts on.market
+  all_answered : (result : Result Ending (TakeFault ServeFault)) (on : AnswersOn w mid left result market count place begun end out later) (Are : List ℕ → Option Market → Texts → Type 0) → ¬ BrokeOff result → AreLinesAnswered market count 1 on.read on.pairs on.texts on.market
       → IfSome content (λ bytes. Are bytes before on.read) → HasAnswered held content end out later Are
   all_answered result on Are whole answered are =
-      let kept = (on.whole (λ e. whole (inr (inl e)))).1 begin is.0 journal is.3 in
+      let kept = (on.whole (λ e. whole (Disk, e))).1 begin is.0 journal is.3 in
       record {
         begin = begin;
         old = is.0;
@@ -399,11 +415,11 @@ module _ (limit : ℕ) (held : List ℕ) (content : Option (List ℕ)) (begun : 
         journal = on.journal whole begin is.0 journal is.3;
         place = kept.0;
         keeps = kept.1;
-        gained = gains_wider (result ≡ Err Write) ⊥ out later on.texts (λ e. whole (inr (inr e))) on.gained;
+        gained = gains_wider (result ≡ Err (Broken Write)) ⊥ out later on.texts (λ e. whole (Write, e)) on.gained;
       }
 
-  stopped_at : (result : Result (Unit {0}) KeepFault) (on : AnswersOn w mid left result market count place begun end out later) (Cut : Type 0) (At : Start → Pairs → List ℕ → Type 0)
-      → StopAt (w.limit - w.place) (w.held ++ known on.taken left) (w.held ++ on.taken) left on.read on.line → AreAnsweredInto market count on.read on.line on.pairs on.texts on.market → (result ≡ Err Write → Cut) → At begin (is.0 ++ on.pairs) on.line
+  stopped_at : (result : Result Ending (TakeFault ServeFault)) (on : AnswersOn w mid left result market count place begun end out later) (Cut : Type 0) (At : Start → Pairs → List ℕ → Type 0)
+      → StopAt (w.limit - w.place) (w.held ++ known on.taken left) (w.held ++ on.taken) left on.read on.line → AreAnsweredInto market count on.read on.line on.pairs on.texts on.market → (result ≡ Err (Broken Write) → Cut) → At begin (is.0 ++ on.pairs) on.line
       → BreaksOff limit held content left Cut out later At
   stopped_at result on Cut At stop into cut at = record {
     begin = begin;
@@ -424,74 +440,49 @@ module _ (limit : ℕ) (held : List ℕ) (content : Option (List ℕ)) (begun : 
     texts = on.texts;
     now = on.market;
     answered = subst (λ (n : ℕ). AreAnsweredInto market n on.read on.line on.pairs on.texts on.market) is.2 into;
-    gained = gains_wider (result ≡ Err Write) Cut out later on.texts cut on.gained;
+    gained = gains_wider (result ≡ Err (Broken Write)) Cut out later on.texts cut on.gained;
     at = at;
   }
 
-  keeps_just : (result : Result (Unit {0}) KeepFault) (on : AnswersOn w mid left result market count place begun end out later) → result ≢ Err Disk → KeepsJust end begin (is.0 ++ on.pairs) on.line
+  keeps_just : (result : Result Ending (TakeFault ServeFault)) (on : AnswersOn w mid left result market count place begun end out later) → result ≢ Err (Broken Disk) → KeepsJust end begin (is.0 ++ on.pairs) on.line
   keeps_just result on not = (on.whole not).1 begin is.0 journal is.3
 
-  done_whole : (done : Unit {0}) → ¬ BrokeOff (Ok done)
-  done_whole done (inl e) = absurd cc
-  done_whole done (inr (inl e)) = absurd cc
-  done_whole done (inr (inr e)) = absurd cc
-
-  long_whole : ¬ BrokeOff (Err TooLong)
-  long_whole (inl e) = absurd cc
-  long_whole (inr (inl e)) = absurd cc
-  long_whole (inr (inr e)) = absurd cc
+  done_whole : (ending : Ending) → ¬ BrokeOff (Ok ending)
+  done_whole ending e = absurd (let is = e.1 in cc)
 
   read_whole : ¬ BrokeOff (Err Read)
-  read_whole (inl e) = absurd cc
-  read_whole (inr (inl e)) = absurd cc
-  read_whole (inr (inr e)) = absurd cc
+  read_whole e = absurd (let is = e.1 in cc)
 
-  pub comes_served : (result : Result (Unit {0}) KeepFault) → AnswersOn w mid left result market count place begun end out later → ComesTo limit held content left end out later result
-  comes_served (Ok done) on =
-      all_answered (Ok done) on (λ bytes first lines. HasLinesWithin limit bytes first lines × (length bytes ≤ limit)) (done_whole done) on.answered
+  pub comes_served : (result : Result Ending (TakeFault ServeFault)) → AnswersOn w mid left result market count place begun end out later → ComesTo limit held content left end out later (kept_result result)
+  comes_served (Ok End) on =
+      all_answered (Ok End) on (λ bytes first lines. HasLinesWithin limit bytes first lines × (length bytes ≤ limit)) (done_whole End) on.answered
       (if_known limit before w content mid left following on.taken on.takes _ (λ bytes m l x y z. (
         lines_are limit before w content mid left following on.taken on.takes bytes m l x y z on.read on.reads.0,
         omega (arith, on.reads.1, size_is limit before w content mid left following on.taken on.takes bytes m l x y z, parts limit before w content mid left following on.taken on.takes),
       )))
-  comes_served (Err TooLong) on =
-      all_answered (Err TooLong) on (λ bytes first lines. HasLinesWithin limit bytes first lines × (limit < length bytes)) long_whole on.answered
+  comes_served (Ok TooLong) on =
+      all_answered (Ok TooLong) on (λ bytes first lines. HasLinesWithin limit bytes first lines × (limit < length bytes)) (done_whole TooLong) on.answered
       (if_known limit before w content mid left following on.taken on.takes _ (λ bytes m l x y z. (
         lines_are limit before w content mid left following on.taken on.takes bytes m l x y z on.read on.reads.0,
         omega (arith, on.reads.1, size_is limit before w content mid left following on.taken on.takes bytes m l x y z, parts limit before w content mid left following on.taken on.takes),
       )))
   comes_served (Err Read) on =
-      inl (all_answered (Err Read) on (λ bytes first lines. (n : ℕ) × IsTaken bytes left n × HasLines (Unit {0}) (take n (take limit bytes)) first lines) read_whole on.answered
+      inl (all_answered (Err Read) on (λ bytes first lines. (n : ℕ) × IsTaken bytes left n × HasLines ⊤ (take n (take limit bytes)) first lines) read_whole on.answered
       (if_known limit before w content mid left following on.taken on.takes _ (λ bytes m l x y z. read_is limit before w content mid left following on.taken on.takes bytes m l x y z on.read on.reads)))
-  comes_served (Err Write) on = stopped_at (Err Write) on (Unit {0}) (KeepsJust end) on.reads on.answered (λ e. tt) (keeps_just (Err Write) on (λ e. absurd cc))
-  comes_served (Err Disk) on = inr (stopped_at (Err Disk) on ⊥ (λ b pairs line. ⊤) on.reads on.answered (λ e. absurd cc) tt)
-  comes_served (Err Memory) on = inr (inr (stopped_at (Err Memory) on ⊥ (RunsOutAt end) on.reads on.answered (λ e. absurd cc) (keeps_just (Err Memory) on (λ e. absurd cc), on.lacks refl)))
-  comes_served (Err NotDisk) on = absurd on.reads
-  comes_served (Err (Damaged n)) on = absurd on.reads
-  comes_served (Err (Rejected n)) on = absurd on.reads
-  comes_served (Err NotFlow) on = absurd on.reads
-  comes_served (Err BadCheckpoint) on = absurd on.reads
-  comes_served (Err (Torn n)) on = absurd on.reads
+  comes_served (Err (Broken Write)) on = stopped_at (Err (Broken Write)) on ⊤ (KeepsJust end) on.reads on.answered (λ e. tt) (keeps_just (Err (Broken Write)) on (λ e. absurd cc))
+  comes_served (Err (Broken Disk)) on = inr (stopped_at (Err (Broken Disk)) on ⊥ (λ b pairs line. ⊤) on.reads on.answered (λ e. absurd cc) tt)
+  comes_served (Err (Broken Memory)) on = inr (inr (stopped_at (Err (Broken Memory)) on ⊥ (RunsOutAt end) on.reads on.answered (λ e. absurd cc) (keeps_just (Err (Broken Memory)) on (λ e. absurd cc), on.lacks refl)))
+  comes_served (Ok (Torn n)) on = absurd on.reads
 
 -- ---- how much was read
 
 module _ (far : ℕ) (all seen : List ℕ) (left : Option (List ℕ)) (read : Texts) (line : List ℕ) where
-  pub not_refusal : (result : Result (Unit {0}) KeepFault) → AreRead far all seen left read line result → ¬ IsRefusal result
-  not_refusal (Ok done) reads refusal = refusal
-  not_refusal (Err Read) reads refusal = refusal
-  not_refusal (Err Write) reads refusal = refusal
-  not_refusal (Err Disk) reads refusal = refusal
-  not_refusal (Err Memory) reads refusal = refusal
-  not_refusal (Err NotDisk) reads refusal = reads
-  not_refusal (Err (Damaged n)) reads refusal = reads
-  not_refusal (Err (Rejected n)) reads refusal = reads
-  not_refusal (Err NotFlow) reads refusal = refusal
-  not_refusal (Err BadCheckpoint) reads refusal = refusal
-  not_refusal (Err (Torn n)) reads refusal = refusal
-  not_refusal (Err TooLong) reads refusal = refusal
-
-  pub leaves_none : (result : Result (Unit {0}) KeepFault) → AreRead far all seen left read line result → LeavesNone result left
-  leaves_none (Ok done) reads = reads.2
-  leaves_none (Err fault) reads = tt
+  pub leaves_none : (result : Result Ending (TakeFault ServeFault)) → AreRead far all seen left read line result → LeavesNone (kept_result result) left
+  leaves_none (Ok End) reads = reads.2
+  leaves_none (Ok (Torn n)) reads = tt
+  leaves_none (Ok TooLong) reads = tt
+  leaves_none (Err Read) reads = tt
+  leaves_none (Err (Broken fault)) reads = tt
 
 -- at most one byte past the limit was taken
 pub taken_few : (limit : ℕ) (before : Option Market) (w : WindowState) (content mid left : Option (List ℕ)) (taken : List ℕ) → IsBehind limit before w content mid → Takes mid left taken → w.place + (length w.held + length taken) ≤ w.limit + 1 → TakesAtMost content left (limit + 1)

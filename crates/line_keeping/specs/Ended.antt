@@ -99,14 +99,14 @@ RunsOutEarly limit held content left end out later =
 
 -- what serving lines results in, if the disk is known to have held these bytes
 module _ (limit : ℕ) (held : List ℕ) (content left : Option (List ℕ)) (end : DiskState) (out later : Output) where
-  abbrev pub ComesTo : Result (Unit {0}) KeepFault → Type 0
+  abbrev pub ComesTo : Result ⊤ KeepFault → Type 0
   ComesTo (Ok done) = HasAnswered held content end out later (λ bytes before lines. HasLinesWithin limit bytes before lines × (length bytes ≤ limit))
   ComesTo (Err TooLong) = HasAnswered held content end out later (λ bytes before lines. HasLinesWithin limit bytes before lines × (limit < length bytes))
   -- all lines that were complete in what was taken of the input were answered, and no others
   ComesTo (Err Read) =
-      HasAnswered held content end out later (λ bytes before lines. (n : ℕ) × IsTaken bytes left n × HasLines (Unit {0}) (take n (take limit bytes)) before lines)
+      HasAnswered held content end out later (λ bytes before lines. (n : ℕ) × IsTaken bytes left n × HasLines ⊤ (take n (take limit bytes)) before lines)
       ⊎ IsNotOpened limit held content left end out later
-  ComesTo (Err Write) = BreaksOff limit held content left (Unit {0}) out later (KeepsJust end)
+  ComesTo (Err Write) = BreaksOff limit held content left ⊤ out later (KeepsJust end)
   ComesTo (Err Disk) = IsNotBegun limit content left out later ⊎ BreaksOff limit held content left ⊥ out later (λ begin pairs line. ⊤)
   ComesTo (Err Memory) =
       ((left ≡ content) × (later ≡ out))
@@ -122,5 +122,5 @@ module _ (limit : ℕ) (held : List ℕ) (content left : Option (List ℕ)) (end
   ComesTo (Err (Torn place)) = ⊥
 
 -- nothing is left of the source if all its lines were answered
-abbrev pub LeavesNone : Result (Unit {0}) KeepFault → Option (List ℕ) → Type 0
+abbrev pub LeavesNone : Result ⊤ KeepFault → Option (List ℕ) → Type 0
 LeavesNone result left = OnOk result (IfSome left (λ rest. rest ≡ []))

@@ -1,5 +1,5 @@
 -- For private functions alone: what finding a line, answering it, and opening an input do.
-use Rattle.std.specs.Prelude.{◌≡◌, ◌≢◌, ◌<◌, ◌≤◌, ◌+◌, ◌*◌, ◌-◌, ◌^◌, ◌⊎◌, ℕ, List, [], ◌∷◌, ◌++◌, length, take, map, All, Option, None, IfSome, IsSome, Bool, IsTrue, Result, Ok, Err}
+use Rattle.std.specs.Prelude.{◌≡◌, ◌≢◌, ◌<◌, ◌≤◌, ◌+◌, ◌*◌, ◌-◌, ◌^◌, ◌⊎◌, ℕ, List, [], ◌∷◌, ◌++◌, length, take, map, All, Option, None, IfSome, IsSome, Bool, IsTrue, Result, Ok, Err, ⊤}
 use Rattle.flow_io.specs.Streams.{Takes}
 use Rattle.flow_io.specs.Windows.{WindowState}
 use Rattle.wire_records.specs.Records.{Record}
@@ -25,13 +25,21 @@ use Rattle.line_records.specs.Lines.{IsPiece, AreLines, ended_by_feeds}
 use Rattle.journal_keeping.specs.Starts.{head_of, BeginsUnsound}
 use Rattle.journal_keeping.specs.Keeping.{IsKeptJournal, HoldsLegal, Runs}
 use Rattle.journal_keeping.specs.Openings.{Legal, IsOpening}
-use Rattle.journal_keeping.specs.Openings as opening
-use Rattle.journal_keeping.specs.Ended.{IsRefused, StaysNew}
-use Rattle.journal_keeping.specs.Beginning.{IsStored, WhileOpening}
+use Rattle.journal_keeping.specs.Ended.{StaysNew}
+use Rattle.journal_keeping.specs.Beginning.{OpensNot, IsStored, WhileOpening}
 use Rattle.journal_keeping.specs.Pacing.{asked_of, IsInCheckpoint}
 use Rattle.journal_keeping.specs.Private.{KeepsOneMore, SoFar}
-use Rattle.journal_keeping.specs.declared.fault.KeepFault.{KeepFault}
-use Rattle.journal_keeping.specs.declared.fault.KeepFault.TheVariants.{Read, Write, Disk, Memory, NotDisk, Damaged, Rejected, NotFlow, BadCheckpoint, Torn, TooLong}
+use Rattle.file_units.specs.declared.units.Ending.{Ending}
+use Rattle.file_units.specs.declared.units.Ending.TheVariants.{End, Torn, TooLong}
+use Rattle.file_units.specs.declared.input.TakeFault.{TakeFault}
+use Rattle.file_units.specs.declared.input.TakeFault.TheVariants.{Read, Broken}
+use Rattle.flow_io.specs.declared.sink.WriteFailed.{WriteFailed}
+use Rattle.journal_keeping.specs.declared.fault.InputFault.{InputFault}
+use Rattle.journal_keeping.specs.declared.fault.InputFault.TheVariants as input
+use Rattle.journal_keeping.specs.declared.fault.BeginFault.{BeginFault}
+use Rattle.journal_keeping.specs.declared.fault.BeginFault.TheVariants.{Open, Input, Make}
+use Rattle.journal_keeping.specs.declared.fault.ServeFault.{ServeFault}
+use Rattle.journal_keeping.specs.declared.fault.ServeFault.TheVariants.{Disk, Write, Memory}
 use Rattle.input_lines.specs.Finding.{IsOpen, HasEnded}
 use Rattle.line_keeping.specs.Answers.{no_command_text, AreAnswered, IsLineAnswered, IsLineBegun, AreLinesAnswered, AreAnsweredInto, MayRunOut}
 use Rattle.line_keeping.specs.Inputs.{start_after, bytes_before, IsUnopened}
@@ -89,18 +97,11 @@ pub record OpensInput (limit : ℕ) (market : Market) (stored : List ℕ) (windo
   pub shown : IfSome rest (λ bytes. HasShownStart limit bytes after)
 
 -- why an input wasn't opened
-abbrev pub NotOpened : ℕ → Option (List ℕ) → Option (List ℕ) → KeepFault → Type 0
-NotOpened limit content left BadCheckpoint = IfSome content (λ bytes. BeginsUnsound (take limit bytes))
-NotOpened limit content left Read = IfSome content (λ bytes. (n : ℕ) × IsTaken bytes left n × IsUnopened (take n (take limit bytes)))
-NotOpened limit content left Memory = IsInCheckpoint limit content left
-NotOpened limit content left NotFlow = ⊥
-NotOpened limit content left NotDisk = ⊥
-NotOpened limit content left (Damaged place) = ⊥
-NotOpened limit content left (Rejected number) = ⊥
-NotOpened limit content left Disk = ⊥
-NotOpened limit content left Write = ⊥
-NotOpened limit content left (Torn place) = ⊥
-NotOpened limit content left TooLong = ⊥
+abbrev pub NotOpened : ℕ → Option (List ℕ) → Option (List ℕ) → InputFault → Type 0
+NotOpened limit content left input.BadCheckpoint = IfSome content (λ bytes. BeginsUnsound (take limit bytes))
+NotOpened limit content left input.Read = IfSome content (λ bytes. (n : ℕ) × IsTaken bytes left n × IsUnopened (take n (take limit bytes)))
+NotOpened limit content left input.Memory = IsInCheckpoint limit content left
+NotOpened limit content left input.NotFlow = ⊥
 
 -- the journal of a disk was opened, with so many entries, and the disk holds nothing after its commit byte; or the disk was new, and was made one that begins so
 abbrev pub IsBegun : List ℕ → Start → Option Market → Market → ℕ → ℕ → DiskState → Type 0
@@ -150,18 +151,13 @@ module _ (limit : ℕ) (held : List ℕ) (content left : Option (List ℕ)) (end
   abbrev pub IsPart : Option (List ℕ) → Type 0
   IsPart input = IfSome input (λ bytes. (n : ℕ) × IsTaken bytes left n × (rest : List ℕ) × (checkpoint_magic ≡ take n (take limit bytes) ++ rest) × (n < 8))
 
-  abbrev pub NotBegun : KeepFault → Type 0
-  NotBegun NotDisk = IsRefused held opening.Foreign end
-  NotBegun (Damaged place) = IsRefused held (opening.Damaged place) end
-  NotBegun (Rejected number) = IsRefused held (opening.Rejected number) end
-  NotBegun NotFlow = StaysKept (λ input. IfSome input (λ bytes. HasCheckpointMagic (take limit bytes)))
-  NotBegun BadCheckpoint = StaysNew BeginsUnsound limit held content end
-  NotBegun Read = StaysKept IsPart ⊎ ((out : Output) → IsNotOpened limit held content left end out out)
-  NotBegun Memory = (left ≡ content) ⊎ ((out : Output) → RunsOutEarly limit held content left end out out)
-  NotBegun Disk = (out : Output) → IsNotBegun limit content left out out
-  NotBegun Write = ⊥
-  NotBegun (Torn place) = ⊥
-  NotBegun TooLong = ⊥
+  abbrev pub NotBegun : BeginFault → Type 0
+  NotBegun (Open fault) = OpensNot held end fault × (left ≡ content)
+  NotBegun (Input input.NotFlow) = StaysKept (λ input. IfSome input (λ bytes. HasCheckpointMagic (take limit bytes)))
+  NotBegun (Input input.BadCheckpoint) = StaysNew BeginsUnsound limit held content end
+  NotBegun (Input input.Read) = StaysKept IsPart ⊎ ((out : Output) → IsNotOpened limit held content left end out out)
+  NotBegun (Input input.Memory) = (out : Output) → RunsOutEarly limit held content left end out out
+  NotBegun Make = (out : Output) → IsNotBegun limit content left out out
 
 -- what is kept and written may go on: the numbers of orders and entries are below the place on the disk, which has room for so many entries more
 pub record IsReadyFor (market : Market) (entries place left : ℕ) : Type 0 where
@@ -203,22 +199,14 @@ pub record AnswersCommand (command : Command) (old new : Market) (count from to 
 
 -- why a command wasn't served, kept and told
 module _ (command : Command) (old : Market) (count from to : ℕ) (disk later : DiskState) (out after : Output) (SameDisk : Type 0) where
-  abbrev pub BreaksCommand : KeepFault → Type 0
+  abbrev pub BreaksCommand : ServeFault → Type 0
   BreaksCommand Memory = SameDisk × (after ≡ out)
   BreaksCommand Disk =
       (after ≡ out) × (pair : Pair Record Outcome) × (text : List ℕ) × (new : Market) × IsServed command old pair new × IsReport new (count + 1) (records_of pair) text
       × ((head : Head) (pairs : List RecordPair) → Keeps head pairs from disk → AtEachMoment disk later (WithOrWithout head pairs (records_of pair)))
   BreaksCommand Write =
       (pair : Pair Record Outcome) × (text : List ℕ) × (new : Market) × IsServed command old pair new × IsReport new (count + 1) (records_of pair) text
-      × KeepsOneMore pair from to disk later × (IsSome later.content → IsSome disk.content) × Gains (Unit {0}) out after (text ∷ [])
-  BreaksCommand Read = ⊥
-  BreaksCommand NotDisk = ⊥
-  BreaksCommand (Damaged place) = ⊥
-  BreaksCommand (Rejected number) = ⊥
-  BreaksCommand NotFlow = ⊥
-  BreaksCommand BadCheckpoint = ⊥
-  BreaksCommand (Torn place) = ⊥
-  BreaksCommand TooLong = ⊥
+      × KeepsOneMore pair from to disk later × (IsSome later.content → IsSome disk.content) × Gains (⊤) out after (text ∷ [])
 
 -- if the content of a disk is known, it keeps some entries up to this place
 abbrev pub KeepsSome : ℕ → DiskState → Type 0
@@ -239,7 +227,7 @@ pub record AnswersCommands (commands : List Command) (old new : Market) (count e
 
 -- Answering broke off: these entries are acknowledged, and `more` is the one that was being kept, if one was. `Begun` says which entries and texts
 -- are those of a part of what was to be answered.
-pub record Breaks (Begun : List (Pair Record Outcome) → List (List ℕ) → Market → Type 0) (old : Market) (from : ℕ) (disk later : DiskState) (out after : Output) (fault : KeepFault) : Type 0 where
+pub record Breaks (Begun : List (Pair Record Outcome) → List (List ℕ) → Market → Type 0) (old : Market) (from : ℕ) (disk later : DiskState) (out after : Output) (fault : ServeFault) : Type 0 where
   pub pairs : List (Pair Record Outcome)
   pub texts : List (List ℕ)
   pub market : Market
@@ -251,32 +239,21 @@ pub record Breaks (Begun : List (Pair Record Outcome) → List (List ℕ) → Ma
   pub runs : (begin : Start) (kept : List (Pair Record Outcome)) → IsKeptJournal begin kept old → Keeps (head_of begin) (map records_of kept) from disk → Runs begin disk later kept old (asked_of (pairs ++ more)) (pairs ++ more) (length pairs)
   pub gained : Gains (fault ≡ Write) out after texts
   pub whole : fault ≢ Disk → (more ≡ []) × ((begin : Start) (kept : List (Pair Record Outcome)) → IsKeptJournal begin kept old → Keeps (head_of begin) (map records_of kept) from disk → (place : ℕ) × Keeps (head_of begin) (map records_of (kept ++ pairs)) place later)
-  pub is_one : (fault ≡ Memory) ⊎ (fault ≡ Disk) ⊎ (fault ≡ Write)
 
 -- the entries and texts of the first of these commands
 abbrev pub AreBegun : Market → ℕ → List Command → List (Pair Record Outcome) → List (List ℕ) → Market → Type 0
 AreBegun old count commands pairs texts new = (first : List Command) × (rest : List Command) × (commands ≡ first ++ rest) × AreAnswered old count first pairs texts new
 
 -- answering commands broke off
-abbrev pub BreaksCommands : List Command → Market → ℕ → ℕ → DiskState → DiskState → Output → Output → KeepFault → Type 0
+abbrev pub BreaksCommands : List Command → Market → ℕ → ℕ → DiskState → DiskState → Output → Output → ServeFault → Type 0
 BreaksCommands commands old count from disk later out after fault = Breaks (AreBegun old count commands) old from disk later out after fault
 
 -- ---- lines
 
 -- it was answered that the line of this number is no command
-abbrev pub Refuses : ℕ → Result (Unit {0}) KeepFault → Output → Output → Type 0
+abbrev pub Refuses : ℕ → Result ⊤ WriteFailed → Output → Output → Type 0
 Refuses number (Ok done) out after = Gains ⊥ out after (no_command_text number ∷ [])
-Refuses number (Err Write) out after = Gains (Unit {0}) out after (no_command_text number ∷ [])
-Refuses number (Err Read) out after = ⊥
-Refuses number (Err Disk) out after = ⊥
-Refuses number (Err Memory) out after = ⊥
-Refuses number (Err NotDisk) out after = ⊥
-Refuses number (Err (Damaged place)) out after = ⊥
-Refuses number (Err (Rejected bad)) out after = ⊥
-Refuses number (Err NotFlow) out after = ⊥
-Refuses number (Err BadCheckpoint) out after = ⊥
-Refuses number (Err (Torn place)) out after = ⊥
-Refuses number (Err TooLong) out after = ⊥
+Refuses number (Err failed) out after = Gains ⊤ out after (no_command_text number ∷ [])
 
 -- a line was answered
 pub record AnswersLine (number : ℕ) (line : List ℕ) (old new : Market) (count entries from to : ℕ) (disk later : DiskState) (out after : Output) : Type 0 where
@@ -291,7 +268,7 @@ pub record AnswersLine (number : ℕ) (line : List ℕ) (old new : Market) (coun
   pub gained : Gains ⊥ out after texts
 
 -- answering a line broke off
-pub record BreaksLine (number : ℕ) (line : List ℕ) (old : Market) (count from : ℕ) (disk later : DiskState) (out after : Output) (fault : KeepFault) : Type 0 where
+pub record BreaksLine (number : ℕ) (line : List ℕ) (old : Market) (count from : ℕ) (disk later : DiskState) (out after : Output) (fault : ServeFault) : Type 0 where
   pub breaks : Breaks (IsLineBegun old count number line) old from disk later out after fault
   pub lacks : fault ≡ Memory → MayRunOut line
 
@@ -326,42 +303,26 @@ module _ (limit : ℕ) (all seen : List ℕ) (after : Option (List ℕ)) (read :
       (more : List (List ℕ)) × AreLines (limit < length all) (take limit all) (read ++ line ∷ more)
       × (length seen ≤ length (ended_by_feeds (read ++ line ∷ [])) + 65538)
 
-  abbrev pub AreRead : Result (Unit {0}) KeepFault → Type 0
-  AreRead (Ok done) = AreLines (limit < length all) (take limit all) read × (length all ≤ limit) × IfSome after (λ left. left ≡ [])
-  AreRead (Err TooLong) = AreLines (limit < length all) (take limit all) read × (limit < length all)
-  AreRead (Err Read) = AreLines (Unit {0}) (take (length seen) (take limit all)) read
-  AreRead (Err Write) = StopAt
-  AreRead (Err Disk) = StopAt
-  AreRead (Err Memory) = StopAt
-  AreRead (Err NotDisk) = ⊥
-  AreRead (Err (Damaged place)) = ⊥
-  AreRead (Err (Rejected number)) = ⊥
-  AreRead (Err NotFlow) = ⊥
-  AreRead (Err BadCheckpoint) = ⊥
-  AreRead (Err (Torn place)) = ⊥
+  abbrev pub AreRead : Result Ending (TakeFault ServeFault) → Type 0
+  AreRead (Ok End) = AreLines (limit < length all) (take limit all) read × (length all ≤ limit) × IfSome after (λ left. left ≡ [])
+  AreRead (Ok TooLong) = AreLines (limit < length all) (take limit all) read × (limit < length all)
+  AreRead (Ok (Torn place)) = ⊥
+  AreRead (Err Read) = AreLines ⊤ (take (length seen) (take limit all)) read
+  AreRead (Err (Broken fault)) = StopAt
 
 -- which of the lines were answered, by the result: those that were read, or also a part of the one at which it stopped
 module _ (old : Market) (count : ℕ) (read : List (List ℕ)) (line : List ℕ) (pairs : List (Pair Record Outcome)) (texts : List (List ℕ)) (new : Market) where
-  abbrev pub AreDone : Result (Unit {0}) KeepFault → Type 0
-  AreDone (Ok done) = AreLinesAnswered old count 1 read pairs texts new
-  AreDone (Err TooLong) = AreLinesAnswered old count 1 read pairs texts new
+  abbrev pub AreDone : Result Ending (TakeFault ServeFault) → Type 0
+  AreDone (Ok ending) = AreLinesAnswered old count 1 read pairs texts new
   AreDone (Err Read) = AreLinesAnswered old count 1 read pairs texts new
-  AreDone (Err Write) = AreAnsweredInto old count read line pairs texts new
-  AreDone (Err Disk) = AreAnsweredInto old count read line pairs texts new
-  AreDone (Err Memory) = AreAnsweredInto old count read line pairs texts new
-  AreDone (Err NotDisk) = ⊥
-  AreDone (Err (Damaged place)) = ⊥
-  AreDone (Err (Rejected number)) = ⊥
-  AreDone (Err NotFlow) = ⊥
-  AreDone (Err BadCheckpoint) = ⊥
-  AreDone (Err (Torn place)) = ⊥
+  AreDone (Err (Broken fault)) = AreAnsweredInto old count read line pairs texts new
 
 -- answering broke off at a line
-abbrev pub BrokeOff : Result (Unit {0}) KeepFault → Type 0
-BrokeOff result = (result ≡ Err Memory) ⊎ (result ≡ Err Disk) ⊎ (result ≡ Err Write)
+abbrev pub BrokeOff : Result Ending (TakeFault ServeFault) → Type 0
+BrokeOff result = (fault : ServeFault) × (result ≡ Err (Broken fault))
 
 -- The lines from those that a window held on were answered: these entries are acknowledged, and `more` is the one that was being kept, if one was.
-pub record AnswersOn (window : WindowState) (rest left : Option (List ℕ)) (result : Result (Unit {0}) KeepFault) (old : Market) (count from : ℕ) (start end : DiskState) (out later : Output) : Type 0 where
+pub record AnswersOn (window : WindowState) (rest left : Option (List ℕ)) (result : Result Ending (TakeFault ServeFault)) (old : Market) (count from : ℕ) (start end : DiskState) (out later : Output) : Type 0 where
   pub taken : List ℕ
   pub takes : Takes rest left taken
   pub few : window.place + (length window.held + length taken) ≤ window.limit + 1
@@ -378,9 +339,9 @@ pub record AnswersOn (window : WindowState) (rest left : Option (List ℕ)) (res
   pub last : Market
   pub further : AreDone old count read line (pairs ++ more) words last result
   pub runs : (begin : Start) (kept : List (Pair Record Outcome)) → IsKeptJournal begin kept old → Keeps (head_of begin) (map records_of kept) from start → Runs begin start end kept old (asked_of (pairs ++ more)) (pairs ++ more) (length pairs)
-  pub gained : Gains (result ≡ Err Write) out later texts
-  pub whole : result ≢ Err Disk → (more ≡ []) × ((begin : Start) (kept : List (Pair Record Outcome)) → IsKeptJournal begin kept old → Keeps (head_of begin) (map records_of kept) from start → (place : ℕ) × Keeps (head_of begin) (map records_of (kept ++ pairs)) place end)
-  pub lacks : result ≡ Err Memory → MayRunOut line
+  pub gained : Gains (result ≡ Err (Broken Write)) out later texts
+  pub whole : result ≢ Err (Broken Disk) → (more ≡ []) × ((begin : Start) (kept : List (Pair Record Outcome)) → IsKeptJournal begin kept old → Keeps (head_of begin) (map records_of kept) from start → (place : ℕ) × Keeps (head_of begin) (map records_of (kept ++ pairs)) place end)
+  pub lacks : result ≡ Err (Broken Memory) → MayRunOut line
 
 -- how far a crash may leave a disk by now, from the bytes that the window gave up since
 abbrev pub Reaches : WindowState → WindowState → ℕ → ℕ → DiskState → DiskState → Type 0

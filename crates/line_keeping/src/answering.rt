@@ -1,5 +1,5 @@
 //! One line: the commands that it asks for are served, kept and answered.
-ghost use Rattle.std.specs.Prelude.{◌≡◌, ◌≢◌, ◌<◌, ◌≤◌, ◌+◌, ◌*◌, ◌^◌, ◌∷◌, ℕ, List, [], length, map, All, Err, IfOk, IfErr, OnOk, OnErr, IfSome, vec_capacity};
+ghost use Rattle.std.specs.Prelude.{◌≡◌, ◌≢◌, ◌<◌, ◌≤◌, ◌+◌, ◌*◌, ◌^◌, ◌∷◌, ℕ, List, [], length, map, All, Err, IsErr, IfOk, IfErr, OnOk, OnErr, IfSome, vec_capacity};
 ghost use Rattle.flow_io.specs.Faults.{Blames};
 ghost use Rattle.wire_records.specs.Records.{Record, IsRecord, encoding, most_body};
 ghost use Rattle.wire_records.specs.Commands.{Command as command_value, Pair};
@@ -16,8 +16,8 @@ ghost use Rattle.line_keeping.specs.Private.{AnswersRecord, LedTo};
 use batch_report::report_entry;
 use disk_edge::Disk;
 use exchange_session::Session;
-use flow_io::Sink;
-use journal_keeping::{KeepFault, Writer};
+use flow_io::{Sink, WriteFailed};
+use journal_keeping::{ServeFault, Writer};
 use journal_records::{PairFramed, next_pair};
 use order_text::{LineFault, LineRead, ask_line};
 use std::alloc::Global;
@@ -118,7 +118,7 @@ impl Desk {
         command: &Command,
         disk: &mut D,
         out: &mut K,
-    ) -> Result<(), KeepFault>
+    ) -> Result<(), ServeFault>
         requires short { HasShortRow (command_in command.now) }
         requires ready { IsReadyFor self.old.writer.session self.old.entries self.old.writer.appender 0 }
         requires kept { IfSome (D.state disk.old).content
@@ -133,21 +133,21 @@ impl Desk {
         ensures lengths { ReachesAtMost (self.old.writer.appender + 263184) (D.state disk.old) (D.state disk.new) }
         ensures broken { IfErr result (BreaksCommand (command_in command.now) self.old.writer.session self.old.entries self.old.writer.appender self.new.writer.appender
             (D.state disk.old) (D.state disk.new) (output K.held K.calls K.faults out.old) (output K.held K.calls K.faults out.new) (disk.new ≡ disk.old)) }
-        ensures disk_cause { Blames (result ≡ Err KeepFault.Disk) (D.state disk.old).faults (D.state disk.new).faults }
-        ensures out_cause { Blames (result ≡ Err KeepFault.Write) (K.faults out.old) (K.faults out.new) }
+        ensures disk_cause { Blames (result ≡ Err ServeFault.Disk) (D.state disk.old).faults (D.state disk.new).faults }
+        ensures out_cause { Blames (result ≡ Err ServeFault.Write) (K.faults out.old) (K.faults out.new) }
     {
         match self.serve(command) {
             Ok(()) => {}
-            Err(_) => return Err(KeepFault::Memory),
+            Err(_) => return Err(ServeFault::Memory),
         }
         match self.writer.appender.append(disk, &self.writer.pair) {
             Ok(()) => {}
-            Err(_) => return Err(KeepFault::Disk),
+            Err(_) => return Err(ServeFault::Disk),
         }
         self.entries += 1;
         match out.write(&self.text) {
             Ok(()) => Ok(()),
-            Err(_) => Err(KeepFault::Write),
+            Err(_) => Err(ServeFault::Write),
         }
     }
 
@@ -157,7 +157,7 @@ impl Desk {
         commands: &[Command],
         disk: &mut D,
         out: &mut K,
-    ) -> Result<(), KeepFault>
+    ) -> Result<(), ServeFault>
         requires short { All (λ command. HasShortRow (command_in command)) commands.now }
         requires ready { IsReadyFor self.old.writer.session self.old.entries self.old.writer.appender (length commands.now) }
         requires kept { IfSome (D.state disk.old).content
@@ -170,8 +170,8 @@ impl Desk {
         ensures lengths { ReachesAtMost (self.old.writer.appender + (263183 * length commands.now + 1)) (D.state disk.old) (D.state disk.new) }
         ensures broken { IfErr result (BreaksCommands (map command_in commands.now) self.old.writer.session self.old.entries self.old.writer.appender
             (D.state disk.old) (D.state disk.new) (output K.held K.calls K.faults out.old) (output K.held K.calls K.faults out.new)) }
-        ensures disk_cause { Blames (result ≡ Err KeepFault.Disk) (D.state disk.old).faults (D.state disk.new).faults }
-        ensures out_cause { Blames (result ≡ Err KeepFault.Write) (K.faults out.old) (K.faults out.new) }
+        ensures disk_cause { Blames (result ≡ Err ServeFault.Disk) (D.state disk.old).faults (D.state disk.new).faults }
+        ensures out_cause { Blames (result ≡ Err ServeFault.Write) (K.faults out.old) (K.faults out.new) }
     {
         for command in commands {
             match self.answer_command(command, disk, out) {
@@ -183,29 +183,26 @@ impl Desk {
     }
 
     // Answers that the line that was counted last is no command.
-    fn refuse<K: Sink>(&mut self, out: &mut K) -> Result<(), KeepFault>
+    fn refuse<K: Sink>(&mut self, out: &mut K) -> Result<(), WriteFailed>
         requires room { refusal_room ≤ vec_capacity self.old.text }
         ensures refuses { Refuses self.old.lines result (output K.held K.calls K.faults out.old) (output K.held K.calls K.faults out.new) }
         ensures same { (self.new.writer ≡ self.old.writer) × (self.new.lines ≡ self.old.lines) × (self.new.entries ≡ self.old.entries) }
         ensures room { refusal_room ≤ vec_capacity self.new.text }
-        ensures out_cause { Blames (result ≡ Err KeepFault.Write) (K.faults out.old) (K.faults out.new) }
+        ensures out_cause { Blames (IsErr result) (K.faults out.old) (K.faults out.new) }
     {
         self.text.clear();
         put_number(&mut self.text, b"line ", self.lines, b" is no command\n");
-        match out.write(&self.text) {
-            Ok(()) => Ok(()),
-            Err(_) => Err(KeepFault::Write),
-        }
+        out.write(&self.text)
     }
 
     // Answers a line that is too long.
-    pub(crate) fn answer_long<K: Sink>(&mut self, out: &mut K) -> Result<(), KeepFault>
+    pub(crate) fn answer_long<K: Sink>(&mut self, out: &mut K) -> Result<(), WriteFailed>
         requires few { self.old.lines + 1 < 2 ^ 64 }
         requires room { refusal_room ≤ vec_capacity self.old.text }
         ensures refuses { Refuses (self.old.lines + 1) result (output K.held K.calls K.faults out.old) (output K.held K.calls K.faults out.new) }
         ensures same { (self.new.writer ≡ self.old.writer) × (self.new.lines ≡ self.old.lines + 1) × (self.new.entries ≡ self.old.entries) }
         ensures room { refusal_room ≤ vec_capacity self.new.text }
-        ensures out_cause { Blames (result ≡ Err KeepFault.Write) (K.faults out.old) (K.faults out.new) }
+        ensures out_cause { Blames (IsErr result) (K.faults out.old) (K.faults out.new) }
     {
         self.lines += 1;
         self.refuse(out)
@@ -217,7 +214,7 @@ impl Desk {
         line: &[u8],
         disk: &mut D,
         out: &mut K,
-    ) -> Result<(), KeepFault>
+    ) -> Result<(), ServeFault>
         requires short { length line.now ≤ most_line }
         requires few { self.old.lines + 1 < 2 ^ 64 }
         requires room { refusal_room ≤ vec_capacity self.old.text }
@@ -232,8 +229,8 @@ impl Desk {
         ensures lengths { ReachesAtMost (self.old.writer.appender + (263183 * (32 * length line.now) + 1)) (D.state disk.old) (D.state disk.new) }
         ensures broken { IfErr result (BreaksLine (self.old.lines + 1) line.now self.old.writer.session self.old.entries self.old.writer.appender
             (D.state disk.old) (D.state disk.new) (output K.held K.calls K.faults out.old) (output K.held K.calls K.faults out.new)) }
-        ensures disk_cause { Blames (result ≡ Err KeepFault.Disk) (D.state disk.old).faults (D.state disk.new).faults }
-        ensures out_cause { Blames (result ≡ Err KeepFault.Write) (K.faults out.old) (K.faults out.new) }
+        ensures disk_cause { Blames (result ≡ Err ServeFault.Disk) (D.state disk.old).faults (D.state disk.new).faults }
+        ensures out_cause { Blames (result ≡ Err ServeFault.Write) (K.faults out.old) (K.faults out.new) }
     {
         self.lines += 1;
         let market = self.writer.session.market();
@@ -241,8 +238,11 @@ impl Desk {
             Ok(LineRead::Blank) => Ok(()),
             Ok(LineRead::Asks(command)) => self.answer_command(&command, disk, out),
             Ok(LineRead::Many(commands)) => self.answer_commands(commands.as_slice(), disk, out),
-            Err(LineFault::NoCommand) => self.refuse(out),
-            Err(LineFault::Memory) => Err(KeepFault::Memory),
+            Err(LineFault::NoCommand) => match self.refuse(out) {
+                Ok(()) => Ok(()),
+                Err(_) => Err(ServeFault::Write),
+            },
+            Err(LineFault::Memory) => Err(ServeFault::Memory),
         }
     }
 }

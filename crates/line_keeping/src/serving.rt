@@ -27,9 +27,10 @@ ghost use Rattle.line_keeping.specs.Private.{IsReadyToServe, AnswersOn};
 use crate::answering::Desk;
 use crate::opening::begin;
 use disk_edge::Disk;
+use file_units::{Ending, TakeFault};
 use flow_io::{Sink, Source, Window};
 use input_lines::{Next, next_line};
-use journal_keeping::KeepFault;
+use journal_keeping::{KeepFault, ServeFault, kept};
 use std::alloc::Global;
 
 // Answers the lines of an input, from those that a window holds on.
@@ -39,7 +40,7 @@ fn serve_on<S: Source, D: Disk, K: Sink>(
     desk: &mut Desk,
     disk: &mut D,
     out: &mut K,
-) -> Result<(), KeepFault>
+) -> Result<Ending, TakeFault<ServeFault>>
     requires open { IsOpen window.old (S.rest source.old) }
     requires few { window.old.limit ≤ 2 ^ 32 }
     requires ready { IsReadyToServe desk.old.writer.session desk.old.entries desk.old.writer.appender (vec_capacity desk.old.text) }
@@ -50,20 +51,20 @@ fn serve_on<S: Source, D: Disk, K: Sink>(
         (D.state disk.old) (D.state disk.new) (output K.held K.calls K.faults out.old) (output K.held K.calls K.faults out.new) }
     ensures lengths { (count : ℕ) → HasYetAtMost count window.old (S.rest source.old) →
         ReachesAtMost (desk.old.writer.appender + (8421856 * count + 1)) (D.state disk.old) (D.state disk.new) }
-    ensures disk_cause { Blames (result ≡ Err KeepFault.Disk) (D.state disk.old).faults (D.state disk.new).faults }
-    ensures source_cause { Blames (result ≡ Err KeepFault.Read) (S.faults source.old) (S.faults source.new) }
-    ensures out_cause { Blames (result ≡ Err KeepFault.Write) (K.faults out.old) (K.faults out.new) }
+    ensures disk_cause { Blames (result ≡ Err (TakeFault.Broken ServeFault.Disk)) (D.state disk.old).faults (D.state disk.new).faults }
+    ensures source_cause { Blames (result ≡ Err TakeFault.Read) (S.faults source.old) (S.faults source.new) }
+    ensures out_cause { Blames (result ≡ Err (TakeFault.Broken ServeFault.Write)) (K.faults out.old) (K.faults out.new) }
 {
     'lines: loop {
         let next = match next_line(window, source) {
             Ok(next) => next,
-            Err(_) => return Err(KeepFault::Read),
+            Err(_) => return Err(TakeFault::Read),
         };
         match next {
             Next::Line(size) => {
                 match desk.answer_line(&window.held()[..size], disk, out) {
                     Ok(()) => {}
-                    Err(fault) => return Err(fault),
+                    Err(fault) => return Err(TakeFault::Broken(fault)),
                 }
                 window.advance(size + 1);
             }
@@ -72,13 +73,23 @@ fn serve_on<S: Source, D: Disk, K: Sink>(
                 let _held = window.held();
                 match desk.answer_long(out) {
                     Ok(()) => {}
-                    Err(fault) => return Err(fault),
+                    Err(_) => return Err(TakeFault::Broken(ServeFault::Write)),
                 }
             }
-            Next::Last => return desk.answer_line(window.held(), disk, out),
-            Next::LongLast => return desk.answer_long(out),
-            Next::End => return Ok(()),
-            Next::Limit => return Err(KeepFault::TooLong),
+            Next::Last => {
+                return match desk.answer_line(window.held(), disk, out) {
+                    Ok(()) => Ok(Ending::End),
+                    Err(fault) => Err(TakeFault::Broken(fault)),
+                };
+            }
+            Next::LongLast => {
+                return match desk.answer_long(out) {
+                    Ok(()) => Ok(Ending::End),
+                    Err(_) => Err(TakeFault::Broken(ServeFault::Write)),
+                };
+            }
+            Next::End => return Ok(Ending::End),
+            Next::Limit => return Ok(Ending::TooLong),
         }
     }
 }
@@ -137,7 +148,7 @@ pub fn serve_lines<S: Source, D: Disk, K: Sink>(
     ensures out_cause { Blames (result ≡ Err KeepFault.Write) (K.faults out.old) (K.faults out.new) }
 {
     match begin(alloc, limit, source, disk) {
-        Ok(mut begun) => serve_on(&mut begun.window, source, &mut begun.desk, disk, out),
-        Err(fault) => Err(fault),
+        Ok(mut begun) => kept(serve_on(&mut begun.window, source, &mut begun.desk, disk, out)),
+        Err(fault) => Err(KeepFault::from(fault)),
     }
 }

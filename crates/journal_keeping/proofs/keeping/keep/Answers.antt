@@ -1,12 +1,20 @@
-use Rattle.std.proofs.Common.{inr, ℕ, List, refl, sym, subst}
+use Rattle.std.proofs.Common.{◌≡◌, ⊎_elim, inl, inr, ℕ, List, IfSome, Result, Err, refl, ap, sym, subst, ◌∙◌}
+use Rattle.std.specs.Prelude.{⊤}
 use Rattle.wire_records.specs.Formats.{commands}
 use Rattle.file_units.specs.Inputs.{HasLongest}
 use Rattle.exchange_session.proofs.RunLaws.{run_is_exact}
-use Rattle.journal_keeping.proofs.Counts.{if_some}
+use Rattle.file_units.specs.declared.input.TakeFault.TheVariants.{Broken}
+use Rattle.journal_keeping.specs.declared.fault.ServeFault.TheVariants as serve
+use Rattle.journal_keeping.specs.declared.fault.KeepFault.{KeepFault}
+use Rattle.journal_keeping.specs.Faults.{of_begin, kept_result}
+use Rattle.journal_keeping.specs.Pacing.{KeepsPace}
+use Rattle.journal_keeping.specs.Ended.{ComesTo, IsRefusal}
+use Rattle.journal_keeping.proofs.Faults.{same_kept, same_begin, begin_read, begin_disk, begin_write, disk_begin, begin_refusal, went_read, went_write, went_disk, went_memory, went_refused}
+use Rattle.journal_keeping.proofs.Counts.{if_some, uncalled, later_call, blames_alike}
 use Rattle.journal_keeping.proofs.Making.{each_some, start_taken, source_begins}
 use Rattle.journal_keeping.proofs.Begun.{begun_known, none_begun, can_serve}
 use Rattle.journal_keeping.proofs.Pacing.{paced_unread, unread_out, taken_at_most, paced_served, wants_next}
-use Rattle.journal_keeping.proofs.Whole.{keeps_none, may_begin_again, comes_not_begun, comes_served, keeps_served, not_of_serving, refused_not_legal, asked_refused}
+use Rattle.journal_keeping.proofs.Whole.{keeps_none, may_begin_again, comes_not_begun, comes_served, keeps_served, cut_wider, refused_not_legal}
 use Rattle.journal_keeping.proofs.Lengths.{grows_served}
 use Rattle.journal_keeping.proofs.keeping.keep.Goals as goal
 
@@ -23,33 +31,57 @@ returns-in-Err-clause-again g c = λ begin old market legal.
     let content = g.S.Source.rest c.args.source.now in
     let held = g.K.Sink.held c.args.out.now in
     let is_disk = g.met.D.Disk.is_disk c.begin.new.disk in
-    may_begin_again c.args.limit content (Unit {0}) begin start end old market held held legal is_disk (keeps_none c.args.limit content (Unit {0}) begin start end old market held is_disk (c.in-Err.ensures.safe refl begin old market legal))
+    may_begin_again c.args.limit content ⊤ begin start end old market held held legal is_disk (keeps_none c.args.limit content ⊤ begin start end old market held is_disk (c.in-Err.ensures.safe refl begin old market legal))
 
 pub returns-in-Err-clause-comes : goal.returns-in-Err-clause-comes
 returns-in-Err-clause-comes g c =
-    if_some (g.D.Disk.state c.args.disk.now).content _ _
+    subst (λ (f : KeepFault). IfSome (g.D.Disk.state c.args.disk.now).content (λ held. ComesTo c.args.limit held (g.S.Source.rest c.args.source.now) (g.D.Disk.state c.begin.new.disk) (g.K.Sink.held c.args.out.now) (g.K.Sink.held c.args.out.now) (Err f))) (sym c.from.ensures)
+    (if_some (g.D.Disk.state c.args.disk.now).content _ _
     (λ (held : List ℕ) why. comes_not_begun c.args.limit held (g.S.Source.rest c.args.source.now) (g.S.Source.rest c.begin.new.source) (g.D.Disk.state c.begin.new.disk) (g.K.Sink.held c.args.out.now) c.in-Err.fault why)
-    c.in-Err.ensures.refused
+    c.in-Err.ensures.refused)
 
 pub returns-in-Err-clause-legal : goal.returns-in-Err-clause-legal
 returns-in-Err-clause-legal g c = λ begin old market legal small.
-    refused_not_legal begin c.args.limit (g.S.Source.rest c.args.source.now) (g.S.Source.rest c.begin.new.source) (g.D.Disk.state c.args.disk.now) (g.D.Disk.state c.begin.new.disk) old market c.in-Err.fault legal small c.in-Err.ensures.refused
+    subst (λ (f : KeepFault). ¬ IsRefusal (Err f)) (sym c.from.ensures)
+    (refused_not_legal begin c.args.limit (g.S.Source.rest c.args.source.now) (g.S.Source.rest c.begin.new.source) (g.D.Disk.state c.args.disk.now) (g.D.Disk.state c.begin.new.disk) old market c.in-Err.fault legal small c.in-Err.ensures.refused)
 
 pub returns-in-Err-clause-untouched : goal.returns-in-Err-clause-untouched
 returns-in-Err-clause-untouched g c =
     if_some (g.D.Disk.state c.args.disk.now).content _ _ (λ (held : List ℕ) looks. λ none. let it = looks none in (it.1, it.2, refl)) c.in-Err.ensures.untouched
 
 pub returns-in-Err-clause-paced : goal.returns-in-Err-clause-paced
-returns-in-Err-clause-paced g c = paced_unread c.args.limit (g.S.Source.rest c.args.source.now) (g.S.Source.rest c.begin.new.source) (g.K.Sink.held c.args.out.now) c.in-Err.fault c.in-Err.ensures.unread
+returns-in-Err-clause-paced g c =
+    subst (λ (f : KeepFault). KeepsPace c.args.limit (g.S.Source.rest c.args.source.now) (g.S.Source.rest c.begin.new.source) (g.K.Sink.held c.args.out.now) (g.K.Sink.held c.args.out.now) (Err f)) (sym c.from.ensures)
+    (paced_unread c.args.limit (g.S.Source.rest c.args.source.now) (g.S.Source.rest c.begin.new.source) (g.K.Sink.held c.args.out.now) c.in-Err.fault c.in-Err.ensures.unread)
 
 pub returns-in-Err-clause-allocates : goal.returns-in-Err-clause-allocates
 returns-in-Err-clause-allocates g c = λ lacks.
     if_some (g.D.Disk.state c.args.disk.now).content _ _
-    (λ (held : List ℕ) why. unread_out c.args.limit held (g.S.Source.rest c.args.source.now) (g.S.Source.rest c.begin.new.source) (g.D.Disk.state c.begin.new.disk) (g.K.Sink.held c.args.out.now) c.in-Err.fault why (cc lacks))
+    (λ (held : List ℕ) why. unread_out c.args.limit held (g.S.Source.rest c.args.source.now) (g.S.Source.rest c.begin.new.source) (g.D.Disk.state c.begin.new.disk) (g.K.Sink.held c.args.out.now) c.in-Err.fault why (sym c.from.ensures ∙ same_kept c.from.result _ lacks))
     c.in-Err.ensures.refused
 
 pub returns-in-Err-clause-unasked : goal.returns-in-Err-clause-unasked
-returns-in-Err-clause-unasked g c = λ refusal. (asked_refused _ c.in-Err.fault c.in-Err.ensures.unasked refusal, refl)
+returns-in-Err-clause-unasked g c = λ refusal.
+    let of = begin_refusal c.in-Err.fault (subst (λ (f : KeepFault). IsRefusal (Err f)) c.from.ensures refusal) in
+    (c.in-Err.ensures.unasked of.0 (ap Err of.1), refl)
+
+pub returns-in-Err-clause-disk_cause : goal.returns-in-Err-clause-disk_cause
+returns-in-Err-clause-disk_cause g c =
+    blames_alike _ _ (g.D.Disk.state c.args.disk.now).faults (g.D.Disk.state c.begin.new.disk).faults
+    (λ fails. ap Err (c.from.ensures ∙ disk_begin c.in-Err.fault (⊎_elim (λ e. inl (same_begin c.in-Err.fault _ e)) (λ e. inr (same_begin c.in-Err.fault _ e)) fails)))
+    (λ e. ⊎_elim (λ is. inl (ap Err is)) (λ is. inr (ap Err is)) (begin_disk c.in-Err.fault (sym c.from.ensures ∙ same_kept c.from.result _ e)))
+    c.in-Err.ensures.disk_cause
+
+pub returns-in-Err-clause-source_cause : goal.returns-in-Err-clause-source_cause
+returns-in-Err-clause-source_cause g c =
+    blames_alike _ _ (g.S.Source.faults c.args.source.now) (g.S.Source.faults c.begin.new.source)
+    (λ e. ap Err (c.from.ensures ∙ ap of_begin (same_begin c.in-Err.fault _ e)))
+    (λ e. ap Err (begin_read c.in-Err.fault (sym c.from.ensures ∙ same_kept c.from.result _ e)))
+    c.in-Err.ensures.source_cause
+
+pub returns-in-Err-clause-out_cause : goal.returns-in-Err-clause-out_cause
+returns-in-Err-clause-out_cause g c =
+    uncalled _ (g.K.Sink.faults c.args.out.now) (λ e. begin_write c.in-Err.fault (sym c.from.ensures ∙ same_kept c.from.result _ e))
 
 -- ---- records were served
 
@@ -72,8 +104,9 @@ returns-in-Ok-clause-keeps g c = λ begin old market legal.
     let holds_out = g.K.Sink.held c.serve_on.new.out in
     let known = begun_known start begin old market legal c.args.limit content mid c.in-Ok.ensures.begun.begin c.in-Ok.ensures.begun.input c.in-Ok.begun.writer.session c.in-Ok.begun.writer.appender c.in-Ok.ensures.begun.following.magic.0
     (source_begins c.args.limit c.in-Ok.begun.window c.in-Ok.ensures.begun.input content after c.in-Ok.ensures.begun.following) c.in-Ok.ensures.begun.begun in
-    keeps_served c.args.limit content after left c.in-Ok.begun.window c.in-Ok.ensures.begun.begin c.in-Ok.ensures.begun.input c.in-Ok.ensures.begun.following c.serve_on.result begin start mid end old market c.in-Ok.begun.writer.session c.in-Ok.begun.writer.appender held holds_out
-    known (c.in-Ok.ensures.begun.moments begin old market legal) c.serve_on.ensures.goes
+    cut_wider c.args.limit content (c.serve_on.result ≡ Err (Broken serve.Write)) _ (λ e. c.kept.ensures ∙ ap kept_result e) begin start end old market held holds_out
+    (keeps_served c.args.limit content after left c.in-Ok.begun.window c.in-Ok.ensures.begun.begin c.in-Ok.ensures.begun.input c.in-Ok.ensures.begun.following c.serve_on.result begin start mid end old market c.in-Ok.begun.writer.session c.in-Ok.begun.writer.appender held holds_out
+    known (c.in-Ok.ensures.begun.moments begin old market legal) c.serve_on.ensures.goes)
 
 pub returns-in-Ok-clause-again : goal.returns-in-Ok-clause-again
 returns-in-Ok-clause-again g c = λ begin old market legal.
@@ -101,16 +134,17 @@ returns-in-Ok-clause-comes g c =
     let left = g.S.Source.rest c.serve_on.new.source in
     let before = g.K.Sink.held c.args.out.now in
     let holds_out = g.K.Sink.held c.serve_on.new.out in
-    if_some start.content _ _
+    subst (λ (r : Result ⊤ KeepFault). IfSome start.content (λ held. ComesTo c.args.limit held content end before holds_out r)) (sym c.kept.ensures)
+    (if_some start.content _ _
     (λ (held : List ℕ) begun. comes_served c.args.limit held content mid c.in-Ok.ensures.begun.begin c.in-Ok.ensures.begun.input c.in-Ok.begun.writer.session c.in-Ok.begun.writer.appender begun after left
     c.in-Ok.begun.window c.in-Ok.ensures.begun.following end before holds_out c.serve_on.result c.serve_on.ensures.goes)
-    c.in-Ok.ensures.begun.begun
+    c.in-Ok.ensures.begun.begun)
 
 pub returns-in-Ok-clause-legal : goal.returns-in-Ok-clause-legal
-returns-in-Ok-clause-legal g c = λ begin old market legal small refusal. absurd (not_of_serving c.serve_on.result _ c.serve_on.ensures.goes.ended refusal)
+returns-in-Ok-clause-legal g c = λ begin old market legal small refusal. went_refused c.serve_on.result (subst IsRefusal c.kept.ensures refusal)
 
 pub returns-in-Ok-clause-unasked : goal.returns-in-Ok-clause-unasked
-returns-in-Ok-clause-unasked g c = λ refusal. absurd (not_of_serving c.serve_on.result _ c.serve_on.ensures.goes.ended refusal)
+returns-in-Ok-clause-unasked g c = λ refusal. absurd (went_refused c.serve_on.result (subst IsRefusal c.kept.ensures refusal))
 
 pub returns-in-Ok-clause-untouched : goal.returns-in-Ok-clause-untouched
 returns-in-Ok-clause-untouched g c =
@@ -138,7 +172,8 @@ returns-in-Ok-clause-paced g c =
     let left = g.S.Source.rest c.serve_on.new.source in
     let held = g.K.Sink.held c.args.out.now in
     let holds_out = g.K.Sink.held c.serve_on.new.out in
-    paced_served c.args.limit content after left c.in-Ok.begun.window c.in-Ok.ensures.begun.input c.in-Ok.ensures.begun.following c.in-Ok.begun.writer.session c.in-Ok.begun.writer.appender mid end held holds_out c.serve_on.result c.serve_on.ensures.goes
+    subst (KeepsPace c.args.limit content left held holds_out) (sym c.kept.ensures)
+    (paced_served c.args.limit content after left c.in-Ok.begun.window c.in-Ok.ensures.begun.input c.in-Ok.ensures.begun.following c.in-Ok.begun.writer.session c.in-Ok.begun.writer.appender mid end held holds_out c.serve_on.result c.serve_on.ensures.goes)
 
 pub returns-in-Ok-clause-allocates : goal.returns-in-Ok-clause-allocates
 returns-in-Ok-clause-allocates g c = λ lacks.
@@ -151,7 +186,7 @@ returns-in-Ok-clause-allocates g c = λ lacks.
     let before = g.K.Sink.held c.args.out.now in
     let holds_out = g.K.Sink.held c.serve_on.new.out in
     if_some start.content _ _
-    (λ (held : List ℕ) begun. wants_next c.args.limit content after left c.in-Ok.begun.window c.in-Ok.ensures.begun.input c.in-Ok.ensures.begun.following c.in-Ok.begun.writer.session c.in-Ok.begun.writer.appender mid end before holds_out held c.in-Ok.ensures.begun.begin begun c.serve_on.result c.serve_on.ensures.goes lacks)
+    (λ (held : List ℕ) begun. wants_next c.args.limit content after left c.in-Ok.begun.window c.in-Ok.ensures.begun.input c.in-Ok.ensures.begun.following c.in-Ok.begun.writer.session c.in-Ok.begun.writer.appender mid end before holds_out held c.in-Ok.ensures.begun.begin begun c.serve_on.result c.serve_on.ensures.goes (went_memory c.serve_on.result (sym c.kept.ensures ∙ lacks)))
     c.in-Ok.ensures.begun.begun
 
 pub returns-in-Ok-clause-made : goal.returns-in-Ok-clause-made
@@ -174,3 +209,17 @@ returns-in-Ok-clause-lengths g c =
     (λ (held : List ℕ) begun. grows_served c.args.limit c.in-Ok.ensures.begun.begin c.in-Ok.ensures.begun.input c.in-Ok.begun.window content after c.in-Ok.ensures.begun.following start mid end (g.met.D.Disk.is_disk c.begin.new.disk) c.in-Ok.ensures.begun.lengths
     held c.in-Ok.begun.writer.session c.in-Ok.begun.writer.appender begun c.serve_on.ensures.lengths)
     c.in-Ok.ensures.begun.begun
+
+pub returns-in-Ok-clause-disk_cause : goal.returns-in-Ok-clause-disk_cause
+returns-in-Ok-clause-disk_cause g c =
+    later_call _ _ (g.D.Disk.state c.args.disk.now).faults (g.D.Disk.state c.begin.new.disk).faults (g.D.Disk.state c.serve_on.new.disk).faults c.in-Ok.ensures.disk_cause (λ fails. ⊎_elim (λ e. cc e) (λ e. cc e) fails)
+    (blames_alike _ _ (g.D.Disk.state c.begin.new.disk).faults (g.D.Disk.state c.serve_on.new.disk).faults (λ e. c.kept.ensures ∙ ap kept_result e) (λ e. went_disk c.serve_on.result (sym c.kept.ensures ∙ e)) c.serve_on.ensures.disk_cause)
+
+pub returns-in-Ok-clause-source_cause : goal.returns-in-Ok-clause-source_cause
+returns-in-Ok-clause-source_cause g c =
+    later_call _ _ (g.S.Source.faults c.args.source.now) (g.S.Source.faults c.begin.new.source) (g.S.Source.faults c.serve_on.new.source) c.in-Ok.ensures.source_cause (λ e. cc e)
+    (blames_alike _ _ (g.S.Source.faults c.begin.new.source) (g.S.Source.faults c.serve_on.new.source) (λ e. c.kept.ensures ∙ ap kept_result e) (λ e. went_read c.serve_on.result (sym c.kept.ensures ∙ e)) c.serve_on.ensures.source_cause)
+
+pub returns-in-Ok-clause-out_cause : goal.returns-in-Ok-clause-out_cause
+returns-in-Ok-clause-out_cause g c =
+    blames_alike _ _ (g.K.Sink.faults c.args.out.now) (g.K.Sink.faults c.serve_on.new.out) (λ e. c.kept.ensures ∙ ap kept_result e) (λ e. went_write c.serve_on.result (sym c.kept.ensures ∙ e)) c.serve_on.ensures.out_cause

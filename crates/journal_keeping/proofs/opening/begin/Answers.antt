@@ -1,5 +1,5 @@
 use Rattle.std.proofs.Common.{inl, List, ℕ}
-use Rattle.journal_keeping.proofs.Begun.{safe_first, looked_legal, looks_alone, safe_kept}
+use Rattle.journal_keeping.proofs.Begun.{untouched_first, safe_first, looked_legal, looks_alone, safe_kept}
 use Rattle.journal_keeping.proofs.BeginningKept.{begun_first}
 use Rattle.journal_keeping.proofs.Counts.{on_ok, on_err}
 use Rattle.journal_keeping.proofs.Lengths.{grows_first}
@@ -44,3 +44,9 @@ returns-in-Err-clause-made g c = each_some (g.D.Disk.state c.args.disk.now).cont
 
 pub returns-in-Err-clause-safe : goal.returns-in-Err-clause-safe
 returns-in-Err-clause-safe g c = λ _ was old market holds. safe_kept c.args.limit (g.S.Source.rest c.args.source.now) (g.D.Disk.state c.args.disk.now) (g.D.Disk.state c.recover.new.disk) was old market holds (looks_alone was old (g.D.Disk.state c.args.disk.now) (g.D.Disk.state c.recover.new.disk) c.recover.ensures.looks)
+
+pub returns-in-Ok-Some-clause-untouched : goal.returns-in-Ok-Some-clause-untouched
+returns-in-Ok-Some-clause-untouched g c = untouched_first (g.D.Disk.state c.args.disk.now) (g.D.Disk.state c.recover.new.disk) (g.D.Disk.state c.begin_kept.new.disk) _ _ c.recover.ensures.looks c.begin_kept.ensures.untouched
+
+pub returns-in-Ok-None-clause-untouched : goal.returns-in-Ok-None-clause-untouched
+returns-in-Ok-None-clause-untouched g c = untouched_first (g.D.Disk.state c.args.disk.now) (g.D.Disk.state c.recover.new.disk) (g.D.Disk.state c.begin_new.new.disk) _ _ c.recover.ensures.looks c.begin_new.ensures.untouched

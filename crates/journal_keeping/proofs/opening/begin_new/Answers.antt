@@ -1,9 +1,10 @@
-use Rattle.std.proofs.Common.{inr, ℕ, List, [], ap, sym, subst, arith}
+use Rattle.std.proofs.Common.{⊎_elim, inr, ℕ, List, [], ap, sym, subst, arith}
 use Rattle.market_rules.specs.Market.{Market}
 use Rattle.journal_disk.proofs.GoingOn.{looks_none}
-use Rattle.journal_keeping.specs.Beginning.{OpensStart, Unread}
-use Rattle.journal_keeping.proofs.Begun.{looks_alone, safe_kept, none_new, same_fault}
+use Rattle.journal_keeping.specs.Beginning.{OpensStart}
+use Rattle.journal_keeping.proofs.Begun.{looks_alone, safe_kept, none_new}
 use Rattle.journal_keeping.proofs.BeginningNew.{stored_small, new_begun, new_safe, new_grows}
+use Rattle.journal_keeping.proofs.Counts.{went_on}
 use Rattle.journal_keeping.proofs.Making.{start_taken, takes_none}
 use Rattle.journal_keeping.proofs.Whole.{unread_made}
 use Rattle.journal_keeping.proofs.opening.begin_new.Goals as goal
@@ -45,8 +46,7 @@ returns-in-Ok-make_disk-clause-untouched g c = none_new (g.D.Disk.state c.args.d
 pub returns-in-Err-make_disk-clause-unread : goal.returns-in-Err-make_disk-clause-unread
 returns-in-Err-make_disk-clause-unread g c =
     let opens = (subst (λ (l : List ℕ). OpensStart c.args.limit c.in-Ok-open_start.opened.market l c.in-Ok-open_start.opened.window (g.S.Source.rest c.args.source.now) (g.S.Source.rest c.open_start.new.source)) (sym c.deref.ensures.value) c.in-Ok-open_start.ensures.opens) in
-    subst (Unread c.args.limit (g.S.Source.rest c.args.source.now) (g.S.Source.rest c.open_start.new.source)) (sym (same_fault c.in-Err-make_disk.fault _ c.in-Err-make_disk.ensures.refused))
-    (unread_made c.args.limit opens.begin c.in-Ok-open_start.opened.window (g.S.Source.rest c.args.source.now) (g.S.Source.rest c.open_start.new.source) opens.following)
+    unread_made c.args.limit opens.begin c.in-Ok-open_start.opened.window (g.S.Source.rest c.args.source.now) (g.S.Source.rest c.open_start.new.source) opens.following
 
 pub returns-in-Err-make_disk-clause-untouched : goal.returns-in-Err-make_disk-clause-untouched
 returns-in-Err-make_disk-clause-untouched g c = none_new (g.D.Disk.state c.args.disk.now).content (g.D.Disk.state c.args.disk.now) _ c.requires.found
@@ -63,3 +63,7 @@ returns-in-Err-make_disk-clause-lengths g c =
 
 pub returns-in-Err-make_disk-clause-made : goal.returns-in-Err-make_disk-clause-made
 returns-in-Err-make_disk-clause-made g c = inr (start_taken c.args.limit c.in-Ok-open_start.opened.window c.in-Ok-open_start.ensures.opens.begin (g.S.Source.rest c.args.source.now) (g.S.Source.rest c.open_start.new.source) (g.S.Source.rest c.open_start.new.source) [] c.in-Ok-open_start.ensures.opens.following (takes_none (g.S.Source.rest c.open_start.new.source)))
+
+pub returns-in-Ok-make_disk-clause-disk_cause : goal.returns-in-Ok-make_disk-clause-disk_cause
+returns-in-Ok-make_disk-clause-disk_cause g c =
+    went_on _ _ (g.D.Disk.state c.args.disk.now).faults (g.D.Disk.state c.make_disk.new.disk).faults c.in-Ok-make_disk.ensures.cause (λ e. cc e) (λ fails. ⊎_elim (λ e. cc e) (λ e. cc e) fails)

@@ -1,7 +1,7 @@
 use Rattle.std.proofs.Common.{IfSome, Err, ap, sym, subst, ◌∙◌, arith}
 use Rattle.market_rules.specs.Market.{Market}
 use Rattle.journal_disk.proofs.Lengths.{reach_wider, reach_more, reach_looks}
-use Rattle.journal_keeping.specs.Faults.{kept_fault}
+use Rattle.journal_keeping.specs.Faults.{of_disk}
 use Rattle.journal_keeping.specs.Beginning.{IsKeptOn}
 use Rattle.journal_keeping.proofs.Counts.{went_on, later_call, blames_alike}
 use Rattle.journal_keeping.proofs.Begun.{begun, begins_known, looks_alone, can_begin, not_begun_known, is_failed, same_fault, err_fault, none_read_up}
@@ -41,7 +41,7 @@ pub returns-in-Err-begin-clause-cause : goal.returns-in-Err-begin-clause-cause
 returns-in-Err-begin-clause-cause g c =
     later_call _ _ (g.D.Disk.state c.args.disk.now).faults (g.D.Disk.state c.read_up.new.disk).faults (g.D.Disk.state c.begin.new.disk).faults c.in-Ok.ensures.cause (λ e. cc e)
     (blames_alike _ _ (g.D.Disk.state c.read_up.new.disk).faults (g.D.Disk.state c.begin.new.disk).faults
-    (λ e. ap Err (c.from.ensures ∙ ap kept_fault (err_fault c.in-Err-begin.fault _ e))) (λ e. ap Err (is_failed c.in-Err-begin.fault (sym c.from.ensures ∙ same_fault c.from.result _ e))) c.in-Err-begin.ensures.cause)
+    (λ e. ap Err (c.from.ensures ∙ ap of_disk (err_fault c.in-Err-begin.fault _ e))) (λ e. ap Err (is_failed c.in-Err-begin.fault (sym c.from.ensures ∙ same_fault c.from.result _ e))) c.in-Err-begin.ensures.cause)
 
 pub returns-in-Err-clause-moments : goal.returns-in-Err-clause-moments
 returns-in-Err-clause-moments g c = λ was old market holds. looks_alone was old (g.D.Disk.state c.args.disk.now) (g.D.Disk.state c.read_up.new.disk) c.in-Err.ensures.looks

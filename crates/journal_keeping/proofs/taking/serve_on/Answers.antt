@@ -2,7 +2,8 @@ use Rattle.std.proofs.Common.{◌≤◌, ◌-◌, [], ◌∷◌, ◌++◌, Ok, E
 use Rattle.flow_io.specs.Windows.{WindowState}
 use Rattle.wire_records.specs.Formats.{commands}
 use Rattle.file_units.proofs.Gone.{went_well, fewer_than_room, within_limit, falls, none_gone, one_more_gone, read_gone, gone_overlong, gone_unread, gone_limited, gone_to_end, gone_torn, limit_reached}
-use Rattle.journal_keeping.specs.declared.fault.KeepFault.TheVariants.{Torn, TooLong, Read}
+use Rattle.file_units.specs.declared.units.Ending.TheVariants.{End, Torn, TooLong}
+use Rattle.file_units.specs.declared.input.TakeFault.TheVariants.{Read}
 use Rattle.journal_keeping.specs.Private.{IsReady, Adds, Names}
 use Rattle.journal_keeping.proofs.Turns.{so_none, so_more}
 use Rattle.journal_keeping.proofs.Ends.{serves_so, serves_broken}
@@ -58,7 +59,7 @@ returns-in-Overlong-clause-goes g c =
     let inside = within_limit w.place (length w.held) w.limit w.over c.held.ensures.within in
     let none = rw (c.in-Overlong.is, c.bytes_of.ensures.value, c.held.ensures.held) at c.in-Ok.ensures.taken in
     let same = rw (c.in-Overlong.is) at c.in-Ok.ensures.still in
-    rw (c.place.ensures, same.2, same.3) (serves_so c.args.window.now (g.S.Source.rest c.args.source.now) (g.S.Source.rest c.units.source) (g.D.Disk.state c.args.disk.now) (g.D.Disk.state c.units.disk) c.args.writer.now.session c.units.writer.session c.args.writer.now.appender c.units.writer.appender (g.K.Sink.held c.args.out.now) (g.K.Sink.held c.units.out) i.0 i.2 (Err (Torn w.place)) (gone_overlong commands Adds g.S.Source.rest g.S.Source.faults c.args.window.now w c.args.source.now c.units.source [] i.0 tt tt (Names c.units.writer.session i.0 []) (IsReady c.units.writer.session c.units.writer.appender) i.1 inside c.requires.longest i.0 tt refl refl none.1) (λ P p. p))
+    rw (c.place.ensures, same.2, same.3) (serves_so c.args.window.now (g.S.Source.rest c.args.source.now) (g.S.Source.rest c.units.source) (g.D.Disk.state c.args.disk.now) (g.D.Disk.state c.units.disk) c.args.writer.now.session c.units.writer.session c.args.writer.now.appender c.units.writer.appender (g.K.Sink.held c.args.out.now) (g.K.Sink.held c.units.out) i.0 i.2 (Ok (Torn w.place)) (gone_overlong commands Adds g.S.Source.rest g.S.Source.faults c.args.window.now w c.args.source.now c.units.source [] i.0 tt tt (Names c.units.writer.session i.0 []) (IsReady c.units.writer.session c.units.writer.appender) i.1 inside c.requires.longest i.0 tt refl refl none.1) (λ P p. p))
 
 pub units-smaller-in-Ok-Enough : goal.units-smaller-in-Ok-Enough
 units-smaller-in-Ok-Enough g c = falls c.units.window c.read_on.new.window (g.S.Source.rest c.units.source) (g.S.Source.rest c.read_on.new.source) c.read_on.ensures.fills (c.in-Ok-Enough.ensures.more c.in-Ok-Enough.field-0-is).0 c.read_on.ensures.within
@@ -116,7 +117,7 @@ returns-in-Ok-Limited-clause-goes g c =
     let none = rw (c.in-Short.is, c.bytes_of.ensures.value, c.held.ensures.held) at c.in-Ok.ensures.taken in
     let same = rw (c.in-Short.is) at c.in-Ok.ensures.still in
     let how = c.in-Ok-Limited.ensures.limited c.in-Ok-Limited.field-0-is in
-    rw (same.2, same.3) (serves_so c.args.window.now (g.S.Source.rest c.args.source.now) (g.S.Source.rest c.read_on.new.source) (g.D.Disk.state c.args.disk.now) (g.D.Disk.state c.units.disk) c.args.writer.now.session c.units.writer.session c.args.writer.now.appender c.units.writer.appender (g.K.Sink.held c.args.out.now) (g.K.Sink.held c.units.out) i.0 i.2 (Err TooLong) (gone_limited commands Adds g.S.Source.rest g.S.Source.faults c.args.window.now w c.args.source.now c.units.source [] i.0 tt tt (Names c.units.writer.session i.0 []) (IsReady c.units.writer.session c.units.writer.appender) i.1 inside c.read_on.new.window c.read_on.new.source c.read_on.ensures.fills how.0 i.0 tt refl refl none.0 none.2 how.1 (limit_reached w c.read_on.new.window (g.S.Source.rest c.units.source) (g.S.Source.rest c.read_on.new.source) c.read_on.ensures.fills how.0 how.1 c.read_on.ensures.within)) (λ P p. p))
+    rw (same.2, same.3) (serves_so c.args.window.now (g.S.Source.rest c.args.source.now) (g.S.Source.rest c.read_on.new.source) (g.D.Disk.state c.args.disk.now) (g.D.Disk.state c.units.disk) c.args.writer.now.session c.units.writer.session c.args.writer.now.appender c.units.writer.appender (g.K.Sink.held c.args.out.now) (g.K.Sink.held c.units.out) i.0 i.2 (Ok TooLong) (gone_limited commands Adds g.S.Source.rest g.S.Source.faults c.args.window.now w c.args.source.now c.units.source [] i.0 tt tt (Names c.units.writer.session i.0 []) (IsReady c.units.writer.session c.units.writer.appender) i.1 inside c.read_on.new.window c.read_on.new.source c.read_on.ensures.fills how.0 i.0 tt refl refl none.0 none.2 how.1 (limit_reached w c.read_on.new.window (g.S.Source.rest c.units.source) (g.S.Source.rest c.read_on.new.source) c.read_on.ensures.fills how.0 how.1 c.read_on.ensures.within)) (λ P p. p))
 
 pub returns-in-Ok-Ended-clause-goes : goal.returns-in-Ok-Ended-clause-goes
 returns-in-Ok-Ended-clause-goes g c =
@@ -126,7 +127,7 @@ returns-in-Ok-Ended-clause-goes g c =
     let none = rw (c.in-Short.is, c.bytes_of.ensures.value, c.held.ensures.held) at c.in-Ok.ensures.taken in
     let same = rw (c.in-Short.is) at c.in-Ok.ensures.still in
     let how = c.in-Ok-Ended.ensures.ended c.in-Ok-Ended.field-0-is in
-    rw (c.place-in-Ok-Ended.ensures ∙ ap (λ (x : WindowState). x.place) c.read_on.ensures.fills.holds, same.2, same.3) (serves_so c.args.window.now (g.S.Source.rest c.args.source.now) (g.S.Source.rest c.read_on.new.source) (g.D.Disk.state c.args.disk.now) (g.D.Disk.state c.units.disk) c.args.writer.now.session c.units.writer.session c.args.writer.now.appender c.units.writer.appender (g.K.Sink.held c.args.out.now) (g.K.Sink.held c.units.out) i.0 i.2 (Err (Torn w.place)) (gone_torn commands Adds g.S.Source.rest g.S.Source.faults c.args.window.now w c.args.source.now c.units.source [] i.0 tt tt (Names c.units.writer.session i.0 []) (IsReady c.units.writer.session c.units.writer.appender) i.1 inside c.read_on.new.window c.read_on.new.source c.read_on.ensures.fills how.0 i.0 tt refl refl none.0 none.2 how.1 (c.read_on.ensures.all how.1) none.1) (λ P p. p))
+    rw (c.place-in-Ok-Ended.ensures ∙ ap (λ (x : WindowState). x.place) c.read_on.ensures.fills.holds, same.2, same.3) (serves_so c.args.window.now (g.S.Source.rest c.args.source.now) (g.S.Source.rest c.read_on.new.source) (g.D.Disk.state c.args.disk.now) (g.D.Disk.state c.units.disk) c.args.writer.now.session c.units.writer.session c.args.writer.now.appender c.units.writer.appender (g.K.Sink.held c.args.out.now) (g.K.Sink.held c.units.out) i.0 i.2 (Ok (Torn w.place)) (gone_torn commands Adds g.S.Source.rest g.S.Source.faults c.args.window.now w c.args.source.now c.units.source [] i.0 tt tt (Names c.units.writer.session i.0 []) (IsReady c.units.writer.session c.units.writer.appender) i.1 inside c.read_on.new.window c.read_on.new.source c.read_on.ensures.fills how.0 i.0 tt refl refl none.0 none.2 how.1 (c.read_on.ensures.all how.1) none.1) (λ P p. p))
 
 pub returns-in-Err-read_on-clause-goes : goal.returns-in-Err-read_on-clause-goes
 returns-in-Err-read_on-clause-goes g c =
@@ -146,7 +147,7 @@ returns-in-Ok-Limited-read_on-clause-goes g c =
     let none = rw (c.in-NoBytes.is, c.bytes_of.ensures.value, c.held.ensures.held) at c.in-Ok.ensures.taken in
     let same = rw (c.in-NoBytes.is) at c.in-Ok.ensures.still in
     let how = c.in-Ok-Limited-read_on.ensures.limited c.in-Ok-Limited-read_on.field-0-is in
-    rw (same.2, same.3) (serves_so c.args.window.now (g.S.Source.rest c.args.source.now) (g.S.Source.rest c.read_on-in-NoBytes.new.source) (g.D.Disk.state c.args.disk.now) (g.D.Disk.state c.units.disk) c.args.writer.now.session c.units.writer.session c.args.writer.now.appender c.units.writer.appender (g.K.Sink.held c.args.out.now) (g.K.Sink.held c.units.out) i.0 i.2 (Err TooLong) (gone_limited commands Adds g.S.Source.rest g.S.Source.faults c.args.window.now w c.args.source.now c.units.source [] i.0 tt tt (Names c.units.writer.session i.0 []) (IsReady c.units.writer.session c.units.writer.appender) i.1 inside c.read_on-in-NoBytes.new.window c.read_on-in-NoBytes.new.source c.read_on-in-NoBytes.ensures.fills how.0 i.0 tt refl refl none.0 none.2 how.1 (limit_reached w c.read_on-in-NoBytes.new.window (g.S.Source.rest c.units.source) (g.S.Source.rest c.read_on-in-NoBytes.new.source) c.read_on-in-NoBytes.ensures.fills how.0 how.1 c.read_on-in-NoBytes.ensures.within)) (λ P p. p))
+    rw (same.2, same.3) (serves_so c.args.window.now (g.S.Source.rest c.args.source.now) (g.S.Source.rest c.read_on-in-NoBytes.new.source) (g.D.Disk.state c.args.disk.now) (g.D.Disk.state c.units.disk) c.args.writer.now.session c.units.writer.session c.args.writer.now.appender c.units.writer.appender (g.K.Sink.held c.args.out.now) (g.K.Sink.held c.units.out) i.0 i.2 (Ok TooLong) (gone_limited commands Adds g.S.Source.rest g.S.Source.faults c.args.window.now w c.args.source.now c.units.source [] i.0 tt tt (Names c.units.writer.session i.0 []) (IsReady c.units.writer.session c.units.writer.appender) i.1 inside c.read_on-in-NoBytes.new.window c.read_on-in-NoBytes.new.source c.read_on-in-NoBytes.ensures.fills how.0 i.0 tt refl refl none.0 none.2 how.1 (limit_reached w c.read_on-in-NoBytes.new.window (g.S.Source.rest c.units.source) (g.S.Source.rest c.read_on-in-NoBytes.new.source) c.read_on-in-NoBytes.ensures.fills how.0 how.1 c.read_on-in-NoBytes.ensures.within)) (λ P p. p))
 
 pub returns-in-Ok-Ended-read_on-clause-goes : goal.returns-in-Ok-Ended-read_on-clause-goes
 returns-in-Ok-Ended-read_on-clause-goes g c =
@@ -156,7 +157,7 @@ returns-in-Ok-Ended-read_on-clause-goes g c =
     let none = rw (c.in-NoBytes.is, c.bytes_of.ensures.value, c.held.ensures.held) at c.in-Ok.ensures.taken in
     let same = rw (c.in-NoBytes.is) at c.in-Ok.ensures.still in
     let how = c.in-Ok-Ended-read_on.ensures.ended c.in-Ok-Ended-read_on.field-0-is in
-    rw (same.2, same.3) (serves_so c.args.window.now (g.S.Source.rest c.args.source.now) (g.S.Source.rest c.read_on-in-NoBytes.new.source) (g.D.Disk.state c.args.disk.now) (g.D.Disk.state c.units.disk) c.args.writer.now.session c.units.writer.session c.args.writer.now.appender c.units.writer.appender (g.K.Sink.held c.args.out.now) (g.K.Sink.held c.units.out) i.0 i.2 (Ok tt) (gone_to_end commands Adds g.S.Source.rest g.S.Source.faults c.args.window.now w c.args.source.now c.units.source [] i.0 tt tt (Names c.units.writer.session i.0 []) (IsReady c.units.writer.session c.units.writer.appender) i.1 inside c.read_on-in-NoBytes.new.window c.read_on-in-NoBytes.new.source c.read_on-in-NoBytes.ensures.fills how.0 i.0 tt refl refl none.0 none.2 how.1 (c.read_on-in-NoBytes.ensures.all how.1) none.1) (λ P p. p))
+    rw (same.2, same.3) (serves_so c.args.window.now (g.S.Source.rest c.args.source.now) (g.S.Source.rest c.read_on-in-NoBytes.new.source) (g.D.Disk.state c.args.disk.now) (g.D.Disk.state c.units.disk) c.args.writer.now.session c.units.writer.session c.args.writer.now.appender c.units.writer.appender (g.K.Sink.held c.args.out.now) (g.K.Sink.held c.units.out) i.0 i.2 (Ok End) (gone_to_end commands Adds g.S.Source.rest g.S.Source.faults c.args.window.now w c.args.source.now c.units.source [] i.0 tt tt (Names c.units.writer.session i.0 []) (IsReady c.units.writer.session c.units.writer.appender) i.1 inside c.read_on-in-NoBytes.new.window c.read_on-in-NoBytes.new.source c.read_on-in-NoBytes.ensures.fills how.0 i.0 tt refl refl none.0 none.2 how.1 (c.read_on-in-NoBytes.ensures.all how.1) none.1) (λ P p. p))
 
 pub returns-in-Err-read_on-2-clause-goes : goal.returns-in-Err-read_on-2-clause-goes
 returns-in-Err-read_on-2-clause-goes g c =

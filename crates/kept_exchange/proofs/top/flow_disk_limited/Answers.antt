@@ -1,7 +1,8 @@
-use Rattle.std.proofs.Common.{Err, sym, ◌∙◌}
+use Rattle.std.proofs.Common.{Err, sym, subst, ◌∙◌}
 use Rattle.flow_io.specs.Changes.{change}
 use Rattle.journal_keeping.specs.declared.fault.KeepFault.TheVariants.{Memory}
-use Rattle.kept_exchange.proofs.AsStatus.{one_result}
+use Rattle.kept_exchange.specs.Keeping.{IsRefusal}
+use Rattle.kept_exchange.proofs.AsStatus.{one_result, refused_by}
 use Rattle.kept_exchange.proofs.Ends.{paced_as}
 use Rattle.kept_exchange.proofs.Serving.{serves}
 use Rattle.kept_exchange.proofs.top.flow_disk_limited.Goals as goal
@@ -26,3 +27,6 @@ returns-clause-paced g c =
 
 pub returns-clause-allocates : goal.returns-clause-allocates
 returns-clause-allocates g c = λ e. c.keep-ended.ensures.allocates (one_result c.args.limit c.keep-ended.result (Err Memory) (sym c.status_of-status.ensures ∙ e))
+
+pub returns-clause-idle : goal.returns-clause-idle
+returns-clause-idle g c = λ refusal. c.keep-ended.ensures.unasked (refused_by c.args.limit c.keep-ended.result (subst IsRefusal c.status_of-status.ensures refusal))

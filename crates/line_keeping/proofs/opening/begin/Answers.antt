@@ -1,8 +1,8 @@
 use Rattle.std.proofs.Common.{inl, List, ℕ}
-use Rattle.journal_keeping.proofs.Begun.{looked_legal, looks_alone}
+use Rattle.journal_keeping.proofs.Begun.{looked_legal, looks_alone, untouched_first}
 use Rattle.journal_keeping.proofs.Counts.{on_ok, on_err}
 use Rattle.journal_keeping.proofs.Making.{each_some, each_err, kept_not_new, looked_first}
-use Rattle.line_keeping.proofs.KeptBegun.{begun_first, untouched_first}
+use Rattle.line_keeping.proofs.KeptBegun.{begun_first}
 use Rattle.line_keeping.proofs.Safety.{safe_first, safe_kept, grows_first}
 use Rattle.line_keeping.proofs.opening.begin.Goals as goal
 

@@ -1,25 +1,17 @@
-use Rattle.std.proofs.Common.{◌≡◌, inl, Bool, true, false, ℕ, List, Option, refl, sym, subst}
+use Rattle.std.proofs.Common.{◌≡◌, Bool, true, false, ℕ, List, Option, refl, subst}
 use Rattle.flow_io.specs.Windows.{WindowState}
 use Rattle.journal_disk.proofs.GoingOn.{looks_none}
 use Rattle.journal_keeping.proofs.Begun.{looks_alone, none_kept_on}
 use Rattle.journal_keeping.proofs.Counts.{if_some}
-use Rattle.journal_keeping.proofs.Making.{each_some}
-use Rattle.line_keeping.specs.Private.{ShowsStart, ShowsNone, NotBegun}
+use Rattle.line_keeping.specs.Private.{ShowsStart, ShowsNone}
 use Rattle.line_keeping.proofs.InputStart.{bare_shown, bare_behind}
 use Rattle.line_keeping.proofs.Safety.{safe_kept, grows_short}
-use Rattle.line_keeping.proofs.KeptBegun.{kept_begun, not_begun_disk, not_flow_kept, unread_kept, unwritten_disk}
+use Rattle.line_keeping.proofs.KeptBegun.{kept_begun, not_flow_kept, unread_kept}
 use Rattle.line_keeping.proofs.opening.begin_kept.Goals as goal
 
 -- what was seen of the input, through a window that was empty
 seen : (old : WindowState) (empty : WindowState) (new : WindowState) (rest after : Option (List ℕ)) (found known : Bool) → old ≡ empty → found ≡ known → ShowsStart old new rest after found → ShowsStart empty new rest after known
 seen old empty new rest after found known is same shows = subst (λ (w : WindowState). ShowsStart w new rest after known) is (subst (λ (b : Bool). ShowsStart old new rest after b) same shows)
-
-pub returns-in-Err-open_kept-clause-unwritten : goal.returns-in-Err-open_kept-clause-unwritten
-returns-in-Err-open_kept-clause-unwritten g c = unwritten_disk c.in-Err-open_kept.fault c.in-Err-open_kept.ensures.of_disk
-
-pub returns-in-Err-clause-refused : goal.returns-in-Err-clause-refused
-returns-in-Err-clause-refused g c = each_some (g.D.Disk.state c.args.disk.now).content _ (λ (held : List ℕ).
-    subst (NotBegun c.args.limit held (g.S.Source.rest c.args.source.now) (g.S.Source.rest c.args.source.now) (g.D.Disk.state c.args.disk.now)) (sym c.in-Err.ensures.refused) (inl refl))
 
 pub returns-in-Err-clause-safe : goal.returns-in-Err-clause-safe
 returns-in-Err-clause-safe g c = λ _ was old market holds.
@@ -27,7 +19,7 @@ returns-in-Err-clause-safe g c = λ _ was old market holds.
 
 pub returns-in-Err-open_kept-clause-refused : goal.returns-in-Err-open_kept-clause-refused
 returns-in-Err-open_kept-clause-refused g c =
-    if_some (g.D.Disk.state c.args.disk.now).content _ _ (λ (held : List ℕ) why. not_begun_disk c.args.limit held (g.S.Source.rest c.args.source.now) (g.D.Disk.state c.open_kept.new.disk) c.in-Err-open_kept.fault why) c.in-Err-open_kept.ensures.refused
+    if_some (g.D.Disk.state c.args.disk.now).content _ _ (λ (held : List ℕ) why. (why, refl)) c.in-Err-open_kept.ensures.refused
 
 pub returns-in-Err-open_kept-clause-safe : goal.returns-in-Err-open_kept-clause-safe
 returns-in-Err-open_kept-clause-safe g c = λ _ was old market holds. safe_kept c.args.limit (g.S.Source.rest c.args.source.now) (g.D.Disk.state c.args.disk.now) (g.D.Disk.state c.open_kept.new.disk) was old market holds (c.open_kept.ensures.moments was old market holds)

@@ -1,11 +1,12 @@
-use Rattle.std.proofs.Common.{inr, ℕ, List, length, ap, sym, subst, refl, arith}
+use Rattle.std.proofs.Common.{⊎_elim, inr, ℕ, List, length, ap, sym, subst, refl, arith}
 use Rattle.market_rules.specs.Market.{Market}
 use Rattle.journal_disk.proofs.GoingOn.{looks_none}
-use Rattle.journal_keeping.proofs.Begun.{looks_alone, none_new, same_fault}
+use Rattle.journal_keeping.proofs.Begun.{looks_alone, none_new}
+use Rattle.journal_keeping.proofs.Counts.{went_on}
 use Rattle.journal_keeping.proofs.Making.{each_some}
-use Rattle.line_keeping.specs.Private.{OpensInput, NotBegun}
+use Rattle.line_keeping.specs.Private.{OpensInput}
 use Rattle.line_keeping.proofs.Safety.{safe_kept}
-use Rattle.line_keeping.proofs.NewBegun.{stored_small, new_begun, new_safe, new_grows, near_start, behind_few, unwritten_input}
+use Rattle.line_keeping.proofs.NewBegun.{stored_small, new_begun, new_safe, new_grows, near_start, behind_few}
 use Rattle.line_keeping.proofs.opening.begin_new.Goals as goal
 
 pub returns-in-Err-clause-safe : goal.returns-in-Err-clause-safe
@@ -19,9 +20,6 @@ returns-in-Err-for_new-clause-safe g c = λ _ was old market holds.
 pub returns-in-Err-open_input-clause-safe : goal.returns-in-Err-open_input-clause-safe
 returns-in-Err-open_input-clause-safe g c = λ _ was old market holds.
     safe_kept c.args.limit (g.S.Source.rest c.args.source.now) (g.D.Disk.state c.args.disk.now) (g.D.Disk.state c.args.disk.now) was old market holds (looks_alone was old (g.D.Disk.state c.args.disk.now) (g.D.Disk.state c.args.disk.now) (looks_none (g.D.Disk.state c.args.disk.now) (g.met.D.Disk.is_disk c.args.disk.now)))
-
-pub returns-in-Err-open_input-clause-unwritten : goal.returns-in-Err-open_input-clause-unwritten
-returns-in-Err-open_input-clause-unwritten g c = unwritten_input c.args.limit (g.S.Source.rest c.args.source.now) (g.S.Source.rest c.open_input.new.source) c.in-Err-open_input.fault c.in-Err-open_input.ensures.refused
 
 pub make_disk-requires-clause-short : goal.make_disk-requires-clause-short
 make_disk-requires-clause-short g c =
@@ -49,8 +47,7 @@ pub returns-in-Err-make_disk-clause-refused : goal.returns-in-Err-make_disk-clau
 returns-in-Err-make_disk-clause-refused g c =
     let opened = c.in-Ok-open_input.ensures.opens in
     let near = near_start c.args.limit opened.before c.open_input.new.window (g.S.Source.rest c.args.source.now) (g.S.Source.rest c.open_input.new.source) opened.following (omega (arith, c.held-held.ensures.few, ap (λ (l : List ℕ). length l) c.held-held.ensures.held, opened.following.is_open.room)) in
-    each_some (g.D.Disk.state c.args.disk.now).content _ (λ (held : List ℕ).
-    subst (NotBegun c.args.limit held (g.S.Source.rest c.args.source.now) (g.S.Source.rest c.open_input.new.source) (g.D.Disk.state c.make_disk.new.disk)) (sym (same_fault c.in-Err-make_disk.fault _ c.in-Err-make_disk.ensures.refused)) (λ out. (refl, inr near)))
+    each_some (g.D.Disk.state c.args.disk.now).content _ (λ (held : List ℕ) out. (refl, inr near))
 
 pub returns-in-Err-make_disk-clause-taken : goal.returns-in-Err-make_disk-clause-taken
 returns-in-Err-make_disk-clause-taken g c = λ _. behind_few c.args.limit c.in-Ok-open_input.ensures.opens.before c.open_input.new.window (g.S.Source.rest c.args.source.now) (g.S.Source.rest c.open_input.new.source) c.in-Ok-open_input.ensures.opens.following
@@ -67,3 +64,7 @@ pub returns-in-Err-make_disk-clause-lengths : goal.returns-in-Err-make_disk-clau
 returns-in-Err-make_disk-clause-lengths g c =
     let opens = (subst (λ (l : List ℕ). OpensInput c.args.limit c.in-Ok-open_input.opened.market l c.open_input.new.window (g.S.Source.rest c.args.source.now) (g.S.Source.rest c.open_input.new.source)) (sym c.deref.ensures.value) c.in-Ok-open_input.ensures.opens) in
     λ _. new_grows c.args.limit c.in-Ok-open_input.opened.market c.deref.result.now c.open_input.new.window (g.S.Source.rest c.args.source.now) (g.S.Source.rest c.open_input.new.source) c.requires.few opens (g.D.Disk.state c.args.disk.now) (g.D.Disk.state c.make_disk.new.disk) c.version.result c.version.ensures.value c.requires.found c.make_disk.ensures.moments c.make_disk.ensures.lengths
+
+pub returns-in-Ok-make_disk-clause-disk_cause : goal.returns-in-Ok-make_disk-clause-disk_cause
+returns-in-Ok-make_disk-clause-disk_cause g c =
+    went_on _ _ (g.D.Disk.state c.args.disk.now).faults (g.D.Disk.state c.make_disk.new.disk).faults c.in-Ok-make_disk.ensures.cause (λ e. cc e) (λ fails. ⊎_elim (λ e. cc e) (λ e. cc e) fails)

@@ -1,12 +1,18 @@
-use Rattle.std.proofs.Common.{inr, ℕ, List, refl}
-use Rattle.journal_keeping.proofs.Begun.{same_fault}
-use Rattle.journal_keeping.proofs.Counts.{if_some, uncalled}
+use Rattle.std.proofs.Common.{◌≡◌, ⊎_elim, inl, inr, ℕ, List, IfSome, Result, Err, refl, ap, sym, subst, ◌∙◌}
+use Rattle.std.specs.Prelude.{⊤}
+use Rattle.file_units.specs.declared.input.TakeFault.TheVariants.{Broken}
+use Rattle.journal_keeping.specs.declared.fault.ServeFault.TheVariants as serve
+use Rattle.journal_keeping.specs.declared.fault.KeepFault.{KeepFault}
+use Rattle.journal_keeping.specs.Faults.{of_begin, kept_result}
+use Rattle.journal_keeping.specs.Ended.{IsRefusal}
+use Rattle.journal_keeping.proofs.Faults.{same_kept, same_begin, begin_read, begin_disk, begin_write, disk_begin, begin_refusal, went_read, went_write, went_disk, went_refused}
+use Rattle.journal_keeping.proofs.Counts.{if_some, uncalled, later_call, blames_alike}
 use Rattle.journal_keeping.proofs.Making.{each_some}
-use Rattle.journal_keeping.proofs.Whole.{refused_not_legal, asked_refused}
+use Rattle.line_keeping.specs.Ended.{ComesTo, LeavesNone}
 use Rattle.line_keeping.specs.Outputs.{output}
 use Rattle.line_keeping.proofs.NewBegun.{input_begins}
 use Rattle.line_keeping.proofs.Shown.{shown_more}
-use Rattle.line_keeping.proofs.Whole.{keeps_none, may_begin_again, comes_not_begun, refusal_alike, can_serve, none_begun, begun_known, keeps_served, comes_served, not_refusal, leaves_none, taken_few, grows_served}
+use Rattle.line_keeping.proofs.Whole.{keeps_none, may_begin_again, comes_not_begun, refused_not_legal, can_serve, none_begun, begun_known, keeps_served, comes_served, cut_wider, leaves_none, taken_few, grows_served}
 use Rattle.line_keeping.proofs.serving.serve_lines.Goals as goal
 
 -- ---- nothing was answered
@@ -22,33 +28,49 @@ returns-in-Err-clause-again g c = λ begin old market legal.
     let content = g.S.Source.rest c.args.source.now in
     let out = output g.K.Sink.held g.K.Sink.calls g.K.Sink.faults c.args.out.now in
     let is_disk = g.met.D.Disk.is_disk c.begin.new.disk in
-    may_begin_again c.args.limit content (Unit {0}) begin start end old market out out legal is_disk (keeps_none c.args.limit content (Unit {0}) begin start end old market out is_disk (c.in-Err.ensures.safe refl begin old market legal))
+    may_begin_again c.args.limit content ⊤ begin start end old market out out legal is_disk (keeps_none c.args.limit content ⊤ begin start end old market out is_disk (c.in-Err.ensures.safe refl begin old market legal))
 
 pub returns-in-Err-clause-lengths : goal.returns-in-Err-clause-lengths
 returns-in-Err-clause-lengths g c = each_some (g.D.Disk.state c.args.disk.now).content _ (λ (held : List ℕ). c.in-Err.ensures.lengths refl)
 
 pub returns-in-Err-clause-comes : goal.returns-in-Err-clause-comes
 returns-in-Err-clause-comes g c =
-    if_some (g.D.Disk.state c.args.disk.now).content _ _
+    subst (λ (f : KeepFault). IfSome (g.D.Disk.state c.args.disk.now).content (λ held. ComesTo c.args.limit held (g.S.Source.rest c.args.source.now) (g.S.Source.rest c.begin.new.source) (g.D.Disk.state c.begin.new.disk) (output g.K.Sink.held g.K.Sink.calls g.K.Sink.faults c.args.out.now) (output g.K.Sink.held g.K.Sink.calls g.K.Sink.faults c.args.out.now) (Err f))) (sym c.from.ensures)
+    (if_some (g.D.Disk.state c.args.disk.now).content _ _
     (λ (held : List ℕ) why. comes_not_begun c.args.limit held (g.S.Source.rest c.args.source.now) (g.S.Source.rest c.begin.new.source) (g.D.Disk.state c.begin.new.disk) (output g.K.Sink.held g.K.Sink.calls g.K.Sink.faults c.args.out.now) c.in-Err.fault why)
-    c.in-Err.ensures.refused
+    c.in-Err.ensures.refused)
 
 pub returns-in-Err-clause-legal : goal.returns-in-Err-clause-legal
-returns-in-Err-clause-legal g c = λ begin old market legal small refusal.
-    refused_not_legal begin c.args.limit (g.S.Source.rest c.args.source.now) (g.S.Source.rest c.begin.new.source) (g.D.Disk.state c.args.disk.now) (g.D.Disk.state c.begin.new.disk) old market c.in-Err.fault legal small
-    (if_some (g.D.Disk.state c.args.disk.now).content _ _
-    (λ (held : List ℕ) why. refusal_alike c.args.limit held (g.S.Source.rest c.args.source.now) (g.S.Source.rest c.begin.new.source) (g.D.Disk.state c.begin.new.disk) c.in-Err.fault why refusal)
-    c.in-Err.ensures.refused) refusal
+returns-in-Err-clause-legal g c = λ begin old market legal small.
+    subst (λ (f : KeepFault). ¬ IsRefusal (Err f)) (sym c.from.ensures)
+    (refused_not_legal begin c.args.limit (g.S.Source.rest c.args.source.now) (g.S.Source.rest c.begin.new.source) (g.D.Disk.state c.args.disk.now) (g.D.Disk.state c.begin.new.disk) old market c.in-Err.fault legal small c.in-Err.ensures.refused)
 
 pub returns-in-Err-clause-untouched : goal.returns-in-Err-clause-untouched
 returns-in-Err-clause-untouched g c =
     if_some (g.D.Disk.state c.args.disk.now).content _ _ (λ (held : List ℕ) looks. λ none. let it = looks none in (it.1, it.2, refl)) c.in-Err.ensures.untouched
 
 pub returns-in-Err-clause-unasked : goal.returns-in-Err-clause-unasked
-returns-in-Err-clause-unasked g c = λ refusal. (asked_refused _ c.in-Err.fault c.in-Err.ensures.unasked refusal, refl)
+returns-in-Err-clause-unasked g c = λ refusal.
+    let of = begin_refusal c.in-Err.fault (subst (λ (f : KeepFault). IsRefusal (Err f)) c.from.ensures refusal) in
+    (c.in-Err.ensures.unasked of.0 (ap Err of.1), refl)
+
+pub returns-in-Err-clause-disk_cause : goal.returns-in-Err-clause-disk_cause
+returns-in-Err-clause-disk_cause g c =
+    blames_alike _ _ (g.D.Disk.state c.args.disk.now).faults (g.D.Disk.state c.begin.new.disk).faults
+    (λ fails. ap Err (c.from.ensures ∙ disk_begin c.in-Err.fault (⊎_elim (λ e. inl (same_begin c.in-Err.fault _ e)) (λ e. inr (same_begin c.in-Err.fault _ e)) fails)))
+    (λ e. ⊎_elim (λ is. inl (ap Err is)) (λ is. inr (ap Err is)) (begin_disk c.in-Err.fault (sym c.from.ensures ∙ same_kept c.from.result _ e)))
+    c.in-Err.ensures.disk_cause
+
+pub returns-in-Err-clause-source_cause : goal.returns-in-Err-clause-source_cause
+returns-in-Err-clause-source_cause g c =
+    blames_alike _ _ (g.S.Source.faults c.args.source.now) (g.S.Source.faults c.begin.new.source)
+    (λ e. ap Err (c.from.ensures ∙ ap of_begin (same_begin c.in-Err.fault _ e)))
+    (λ e. ap Err (begin_read c.in-Err.fault (sym c.from.ensures ∙ same_kept c.from.result _ e)))
+    c.in-Err.ensures.source_cause
 
 pub returns-in-Err-clause-out_cause : goal.returns-in-Err-clause-out_cause
-returns-in-Err-clause-out_cause g c = uncalled _ (g.K.Sink.faults c.args.out.now) (λ is. c.in-Err.ensures.unwritten (same_fault c.in-Err.fault _ is))
+returns-in-Err-clause-out_cause g c =
+    uncalled _ (g.K.Sink.faults c.args.out.now) (λ e. begin_write c.in-Err.fault (sym c.from.ensures ∙ same_kept c.from.result _ e))
 
 -- ---- lines were answered
 
@@ -70,7 +92,8 @@ returns-in-Ok-clause-keeps g c = λ begin old market legal.
     let b = c.in-Ok.ensures.begun in
     let desk = c.in-Ok.begun.desk in
     let known = begun_known start begin old market legal c.args.limit content mid b.begin b.before desk.writer.session desk.entries desk.writer.appender b.starts (input_begins c.args.limit b.before c.in-Ok.begun.window content after b.following) b.begun in
-    keeps_served c.args.limit content after left c.in-Ok.begun.window b.begin b.before b.following c.serve_on.result begin start mid end old market desk.writer.session desk.entries desk.writer.appender out later known (b.moments begin old market legal) c.serve_on.ensures.goes
+    cut_wider c.args.limit content (c.serve_on.result ≡ Err (Broken serve.Write)) _ (λ e. c.kept.ensures ∙ ap kept_result e) begin start end old market out later
+    (keeps_served c.args.limit content after left c.in-Ok.begun.window b.begin b.before b.following c.serve_on.result begin start mid end old market desk.writer.session desk.entries desk.writer.appender out later known (b.moments begin old market legal) c.serve_on.ensures.goes)
 
 pub returns-in-Ok-clause-again : goal.returns-in-Ok-clause-again
 returns-in-Ok-clause-again g c = λ begin old market legal.
@@ -108,19 +131,22 @@ returns-in-Ok-clause-comes g c =
     let later = output g.K.Sink.held g.K.Sink.calls g.K.Sink.faults c.serve_on.new.out in
     let b = c.in-Ok.ensures.begun in
     let desk = c.in-Ok.begun.desk in
-    if_some start.content _ _
+    subst (λ (r : Result ⊤ KeepFault). IfSome start.content (λ held. ComesTo c.args.limit held (g.S.Source.rest c.args.source.now) (g.S.Source.rest c.serve_on.new.source) end out later r)) (sym c.kept.ensures)
+    (if_some start.content _ _
     (λ (held : List ℕ) begun. comes_served c.args.limit held (g.S.Source.rest c.args.source.now) mid b.begin b.before desk.writer.session desk.entries desk.writer.appender begun b.starts (g.S.Source.rest c.begin.new.source) (g.S.Source.rest c.serve_on.new.source)
     c.in-Ok.begun.window b.following end out later c.serve_on.result c.serve_on.ensures.goes)
-    b.begun
+    b.begun)
 
 pub returns-in-Ok-clause-legal : goal.returns-in-Ok-clause-legal
-returns-in-Ok-clause-legal g c = λ begin old market legal small refusal. absurd (let on = c.serve_on.ensures.goes in not_refusal _ _ _ _ on.read on.line c.serve_on.result on.reads refusal)
+returns-in-Ok-clause-legal g c = λ begin old market legal small refusal. went_refused c.serve_on.result (subst IsRefusal c.kept.ensures refusal)
 
 pub returns-in-Ok-clause-unasked : goal.returns-in-Ok-clause-unasked
-returns-in-Ok-clause-unasked g c = λ refusal. absurd (let on = c.serve_on.ensures.goes in not_refusal _ _ _ _ on.read on.line c.serve_on.result on.reads refusal)
+returns-in-Ok-clause-unasked g c = λ refusal. absurd (went_refused c.serve_on.result (subst IsRefusal c.kept.ensures refusal))
 
 pub returns-in-Ok-clause-left : goal.returns-in-Ok-clause-left
-returns-in-Ok-clause-left g c = let on = c.serve_on.ensures.goes in leaves_none _ _ _ _ on.read on.line c.serve_on.result on.reads
+returns-in-Ok-clause-left g c =
+    let on = c.serve_on.ensures.goes in
+    subst (λ (r : Result ⊤ KeepFault). LeavesNone r (g.S.Source.rest c.serve_on.new.source)) (sym c.kept.ensures) (leaves_none _ _ _ _ on.read on.line c.serve_on.result on.reads)
 
 pub returns-in-Ok-clause-taken : goal.returns-in-Ok-clause-taken
 returns-in-Ok-clause-taken g c =
@@ -138,3 +164,17 @@ returns-in-Ok-clause-made g c =
     let b = c.in-Ok.ensures.begun in
     let on = c.serve_on.ensures.goes in
     each_some (g.D.Disk.state c.args.disk.now).content _ (λ (held : List ℕ) new. inr (shown_more c.args.limit (g.S.Source.rest c.args.source.now) (g.S.Source.rest c.begin.new.source) (g.S.Source.rest c.serve_on.new.source) on.taken b.shown on.takes))
+
+pub returns-in-Ok-clause-disk_cause : goal.returns-in-Ok-clause-disk_cause
+returns-in-Ok-clause-disk_cause g c =
+    later_call _ _ (g.D.Disk.state c.args.disk.now).faults (g.D.Disk.state c.begin.new.disk).faults (g.D.Disk.state c.serve_on.new.disk).faults c.in-Ok.ensures.disk_cause (λ fails. ⊎_elim (λ e. cc e) (λ e. cc e) fails)
+    (blames_alike _ _ (g.D.Disk.state c.begin.new.disk).faults (g.D.Disk.state c.serve_on.new.disk).faults (λ e. c.kept.ensures ∙ ap kept_result e) (λ e. went_disk c.serve_on.result (sym c.kept.ensures ∙ e)) c.serve_on.ensures.disk_cause)
+
+pub returns-in-Ok-clause-source_cause : goal.returns-in-Ok-clause-source_cause
+returns-in-Ok-clause-source_cause g c =
+    later_call _ _ (g.S.Source.faults c.args.source.now) (g.S.Source.faults c.begin.new.source) (g.S.Source.faults c.serve_on.new.source) c.in-Ok.ensures.source_cause (λ e. cc e)
+    (blames_alike _ _ (g.S.Source.faults c.begin.new.source) (g.S.Source.faults c.serve_on.new.source) (λ e. c.kept.ensures ∙ ap kept_result e) (λ e. went_read c.serve_on.result (sym c.kept.ensures ∙ e)) c.serve_on.ensures.source_cause)
+
+pub returns-in-Ok-clause-out_cause : goal.returns-in-Ok-clause-out_cause
+returns-in-Ok-clause-out_cause g c =
+    blames_alike _ _ (g.K.Sink.faults c.args.out.now) (g.K.Sink.faults c.serve_on.new.out) (λ e. c.kept.ensures ∙ ap kept_result e) (λ e. went_write c.serve_on.result (sym c.kept.ensures ∙ e)) c.serve_on.ensures.out_cause

@@ -6,7 +6,7 @@ use Rattle.input_lines.specs.Finding.{Finds}
 use Rattle.input_lines.specs.declared.lines.Next.{Next}
 use Rattle.line_keeping.specs.Outputs.{output}
 use Rattle.line_keeping.proofs.Going.{gone_none}
-use Rattle.line_keeping.proofs.Turning.{few_lines, still_kept, line_turn, long_turn, end_turn, limit_turn, read_turn, line_broken, long_broken, last_found, last_long}
+use Rattle.line_keeping.proofs.Turning.{few_lines, still_kept, line_turn, long_turn, end_turn, limit_turn, read_turn, line_broken, long_broken, last_found, last_broken, last_long, last_long_broken}
 use Rattle.line_keeping.proofs.Reaching.{reach_end, reach_line, reaches_more, reaches_on, line_size}
 use Rattle.line_keeping.proofs.serving.serve_on.Goals as goal
 
@@ -78,13 +78,19 @@ pub returns-in-Err-answer_line-clause-goes : goal.returns-in-Err-answer_line-cla
 returns-in-Err-answer_line-clause-goes g c = line_broken c.args.window.now (g.S.Source.rest c.args.source.now) c.args.desk.now.writer.session c.args.desk.now.entries c.args.desk.now.writer.appender (g.D.Disk.state c.args.disk.now) (output g.K.Sink.held g.K.Sink.calls g.K.Sink.faults c.args.out.now) c.lines.window (g.S.Source.rest c.lines.source) c.lines.desk.writer.session c.lines.desk.entries c.lines.desk.writer.appender c.lines.desk.lines (g.D.Disk.state c.lines.disk) (output g.K.Sink.held g.K.Sink.calls g.K.Sink.faults c.lines.out) c.lines.invariant.0 c.next_line.new.window (g.S.Source.rest c.next_line.new.source) c.in-Line.size c.held.result.now c.held.ensures.held c.held.ensures.few (subst (λ (n : Next). Finds c.lines.window c.next_line.new.window (g.S.Source.rest c.lines.source) (g.S.Source.rest c.next_line.new.source) n) c.in-Line.is c.in-Ok.ensures.finds) (g.D.Disk.state c.answer_line.new.disk) (output g.K.Sink.held g.K.Sink.calls g.K.Sink.faults c.answer_line.new.out) c.in-Err-answer_line.fault c.in-Err-answer_line.ensures.broken
 
 pub returns-in-Err-answer_long-clause-goes : goal.returns-in-Err-answer_long-clause-goes
-returns-in-Err-answer_long-clause-goes g c = long_broken c.args.window.now (g.S.Source.rest c.args.source.now) c.args.desk.now.writer.session c.args.desk.now.entries c.args.desk.now.writer.appender (g.D.Disk.state c.args.disk.now) (output g.K.Sink.held g.K.Sink.calls g.K.Sink.faults c.args.out.now) c.lines.window (g.S.Source.rest c.lines.source) c.lines.desk.writer.session c.lines.desk.entries c.lines.desk.writer.appender c.lines.desk.lines (g.D.Disk.state c.lines.disk) (output g.K.Sink.held g.K.Sink.calls g.K.Sink.faults c.lines.out) c.lines.invariant.0 c.next_line.new.window (g.S.Source.rest c.next_line.new.source) c.held-held.result.now c.held-held.ensures.held c.held-held.ensures.few (g.met.D.Disk.is_disk c.lines.disk) (subst (λ (n : Next). Finds c.lines.window c.next_line.new.window (g.S.Source.rest c.lines.source) (g.S.Source.rest c.next_line.new.source) n) c.in-Long.is c.in-Ok.ensures.finds) (output g.K.Sink.held g.K.Sink.calls g.K.Sink.faults c.answer_long.new.out) c.in-Err-answer_long.fault c.in-Err-answer_long.ensures.refuses
+returns-in-Err-answer_long-clause-goes g c = long_broken c.args.window.now (g.S.Source.rest c.args.source.now) c.args.desk.now.writer.session c.args.desk.now.entries c.args.desk.now.writer.appender (g.D.Disk.state c.args.disk.now) (output g.K.Sink.held g.K.Sink.calls g.K.Sink.faults c.args.out.now) c.lines.window (g.S.Source.rest c.lines.source) c.lines.desk.writer.session c.lines.desk.entries c.lines.desk.writer.appender c.lines.desk.lines (g.D.Disk.state c.lines.disk) (output g.K.Sink.held g.K.Sink.calls g.K.Sink.faults c.lines.out) c.lines.invariant.0 c.next_line.new.window (g.S.Source.rest c.next_line.new.source) c.held-held.result.now c.held-held.ensures.held c.held-held.ensures.few (g.met.D.Disk.is_disk c.lines.disk) (subst (λ (n : Next). Finds c.lines.window c.next_line.new.window (g.S.Source.rest c.lines.source) (g.S.Source.rest c.next_line.new.source) n) c.in-Long.is c.in-Ok.ensures.finds) (output g.K.Sink.held g.K.Sink.calls g.K.Sink.faults c.answer_long.new.out) c.in-Err-answer_long.ensures.refuses
 
-pub returns-in-Last-clause-goes : goal.returns-in-Last-clause-goes
-returns-in-Last-clause-goes g c = last_found c.args.window.now (g.S.Source.rest c.args.source.now) c.args.desk.now.writer.session c.args.desk.now.entries c.args.desk.now.writer.appender (g.D.Disk.state c.args.disk.now) (output g.K.Sink.held g.K.Sink.calls g.K.Sink.faults c.args.out.now) c.lines.window (g.S.Source.rest c.lines.source) c.lines.desk.writer.session c.lines.desk.entries c.lines.desk.writer.appender c.lines.desk.lines (g.D.Disk.state c.lines.disk) (output g.K.Sink.held g.K.Sink.calls g.K.Sink.faults c.lines.out) c.lines.invariant.0 c.next_line.new.window (g.S.Source.rest c.next_line.new.source) c.held-in-Last.result.now c.held-in-Last.ensures.held (subst (λ (n : Next). Finds c.lines.window c.next_line.new.window (g.S.Source.rest c.lines.source) (g.S.Source.rest c.next_line.new.source) n) c.in-Last.is c.in-Ok.ensures.finds) c.answer_line-in-Last.new.self.writer.session c.answer_line-in-Last.new.self.entries c.answer_line-in-Last.new.self.writer.appender (g.D.Disk.state c.answer_line-in-Last.new.disk) (output g.K.Sink.held g.K.Sink.calls g.K.Sink.faults c.answer_line-in-Last.new.out) c.answer_line-in-Last.result c.answer_line-in-Last.ensures.answers c.answer_line-in-Last.ensures.broken
+pub returns-in-Ok-answer_line-2-clause-goes : goal.returns-in-Ok-answer_line-2-clause-goes
+returns-in-Ok-answer_line-2-clause-goes g c = last_found c.args.window.now (g.S.Source.rest c.args.source.now) c.args.desk.now.writer.session c.args.desk.now.entries c.args.desk.now.writer.appender (g.D.Disk.state c.args.disk.now) (output g.K.Sink.held g.K.Sink.calls g.K.Sink.faults c.args.out.now) c.lines.window (g.S.Source.rest c.lines.source) c.lines.desk.writer.session c.lines.desk.entries c.lines.desk.writer.appender c.lines.desk.lines (g.D.Disk.state c.lines.disk) (output g.K.Sink.held g.K.Sink.calls g.K.Sink.faults c.lines.out) c.lines.invariant.0 c.next_line.new.window (g.S.Source.rest c.next_line.new.source) c.held-in-Last.result.now c.held-in-Last.ensures.held (subst (λ (n : Next). Finds c.lines.window c.next_line.new.window (g.S.Source.rest c.lines.source) (g.S.Source.rest c.next_line.new.source) n) c.in-Last.is c.in-Ok.ensures.finds) (g.D.Disk.state c.answer_line-in-Last.new.disk) (output g.K.Sink.held g.K.Sink.calls g.K.Sink.faults c.answer_line-in-Last.new.out) c.answer_line-in-Last.new.self.writer.session c.answer_line-in-Last.new.self.entries c.answer_line-in-Last.new.self.writer.appender c.in-Ok-answer_line-2.ensures.answers
 
-pub returns-in-LongLast-clause-goes : goal.returns-in-LongLast-clause-goes
-returns-in-LongLast-clause-goes g c = last_long c.args.window.now (g.S.Source.rest c.args.source.now) c.args.desk.now.writer.session c.args.desk.now.entries c.args.desk.now.writer.appender (g.D.Disk.state c.args.disk.now) (output g.K.Sink.held g.K.Sink.calls g.K.Sink.faults c.args.out.now) c.lines.window (g.S.Source.rest c.lines.source) c.lines.desk.writer.session c.lines.desk.entries c.lines.desk.writer.appender c.lines.desk.lines (g.D.Disk.state c.lines.disk) (output g.K.Sink.held g.K.Sink.calls g.K.Sink.faults c.lines.out) c.lines.invariant.0 c.next_line.new.window (g.S.Source.rest c.next_line.new.source) (g.met.D.Disk.is_disk c.lines.disk) (subst (λ (n : Next). Finds c.lines.window c.next_line.new.window (g.S.Source.rest c.lines.source) (g.S.Source.rest c.next_line.new.source) n) c.in-LongLast.is c.in-Ok.ensures.finds) (output g.K.Sink.held g.K.Sink.calls g.K.Sink.faults c.answer_long-in-LongLast.new.out) c.answer_long-in-LongLast.result c.answer_long-in-LongLast.ensures.refuses
+pub returns-in-Err-answer_line-2-clause-goes : goal.returns-in-Err-answer_line-2-clause-goes
+returns-in-Err-answer_line-2-clause-goes g c = last_broken c.args.window.now (g.S.Source.rest c.args.source.now) c.args.desk.now.writer.session c.args.desk.now.entries c.args.desk.now.writer.appender (g.D.Disk.state c.args.disk.now) (output g.K.Sink.held g.K.Sink.calls g.K.Sink.faults c.args.out.now) c.lines.window (g.S.Source.rest c.lines.source) c.lines.desk.writer.session c.lines.desk.entries c.lines.desk.writer.appender c.lines.desk.lines (g.D.Disk.state c.lines.disk) (output g.K.Sink.held g.K.Sink.calls g.K.Sink.faults c.lines.out) c.lines.invariant.0 c.next_line.new.window (g.S.Source.rest c.next_line.new.source) c.held-in-Last.result.now c.held-in-Last.ensures.held (subst (λ (n : Next). Finds c.lines.window c.next_line.new.window (g.S.Source.rest c.lines.source) (g.S.Source.rest c.next_line.new.source) n) c.in-Last.is c.in-Ok.ensures.finds) (g.D.Disk.state c.answer_line-in-Last.new.disk) (output g.K.Sink.held g.K.Sink.calls g.K.Sink.faults c.answer_line-in-Last.new.out) c.in-Err-answer_line-2.fault c.in-Err-answer_line-2.ensures.broken
+
+pub returns-in-Ok-answer_long-2-clause-goes : goal.returns-in-Ok-answer_long-2-clause-goes
+returns-in-Ok-answer_long-2-clause-goes g c = last_long c.args.window.now (g.S.Source.rest c.args.source.now) c.args.desk.now.writer.session c.args.desk.now.entries c.args.desk.now.writer.appender (g.D.Disk.state c.args.disk.now) (output g.K.Sink.held g.K.Sink.calls g.K.Sink.faults c.args.out.now) c.lines.window (g.S.Source.rest c.lines.source) c.lines.desk.writer.session c.lines.desk.entries c.lines.desk.writer.appender c.lines.desk.lines (g.D.Disk.state c.lines.disk) (output g.K.Sink.held g.K.Sink.calls g.K.Sink.faults c.lines.out) c.lines.invariant.0 c.next_line.new.window (g.S.Source.rest c.next_line.new.source) (g.met.D.Disk.is_disk c.lines.disk) (subst (λ (n : Next). Finds c.lines.window c.next_line.new.window (g.S.Source.rest c.lines.source) (g.S.Source.rest c.next_line.new.source) n) c.in-LongLast.is c.in-Ok.ensures.finds) (output g.K.Sink.held g.K.Sink.calls g.K.Sink.faults c.answer_long-in-LongLast.new.out) c.in-Ok-answer_long-2.ensures.refuses
+
+pub returns-in-Err-answer_long-2-clause-goes : goal.returns-in-Err-answer_long-2-clause-goes
+returns-in-Err-answer_long-2-clause-goes g c = last_long_broken c.args.window.now (g.S.Source.rest c.args.source.now) c.args.desk.now.writer.session c.args.desk.now.entries c.args.desk.now.writer.appender (g.D.Disk.state c.args.disk.now) (output g.K.Sink.held g.K.Sink.calls g.K.Sink.faults c.args.out.now) c.lines.window (g.S.Source.rest c.lines.source) c.lines.desk.writer.session c.lines.desk.entries c.lines.desk.writer.appender c.lines.desk.lines (g.D.Disk.state c.lines.disk) (output g.K.Sink.held g.K.Sink.calls g.K.Sink.faults c.lines.out) c.lines.invariant.0 c.next_line.new.window (g.S.Source.rest c.next_line.new.source) (g.met.D.Disk.is_disk c.lines.disk) (subst (λ (n : Next). Finds c.lines.window c.next_line.new.window (g.S.Source.rest c.lines.source) (g.S.Source.rest c.next_line.new.source) n) c.in-LongLast.is c.in-Ok.ensures.finds) (output g.K.Sink.held g.K.Sink.calls g.K.Sink.faults c.answer_long-in-LongLast.new.out) c.in-Err-answer_long-2.ensures.refuses
 
 pub returns-in-Err-clause-lengths : goal.returns-in-Err-clause-lengths
 returns-in-Err-clause-lengths g c = λ count yet. reach_end c.args.window.now (g.S.Source.rest c.args.source.now) c.args.desk.now.writer.session c.args.desk.now.entries c.args.desk.now.writer.appender (g.D.Disk.state c.args.disk.now) (output g.K.Sink.held g.K.Sink.calls g.K.Sink.faults c.args.out.now) c.lines.window (g.S.Source.rest c.lines.source) c.lines.desk.writer.session c.lines.desk.entries c.lines.desk.writer.appender c.lines.desk.lines (g.D.Disk.state c.lines.disk) (output g.K.Sink.held g.K.Sink.calls g.K.Sink.faults c.lines.out) c.lines.invariant.0 c.lines.invariant.5 count yet
@@ -92,8 +98,11 @@ returns-in-Err-clause-lengths g c = λ count yet. reach_end c.args.window.now (g
 pub returns-in-Err-answer_long-clause-lengths : goal.returns-in-Err-answer_long-clause-lengths
 returns-in-Err-answer_long-clause-lengths g c = λ count yet. reach_end c.args.window.now (g.S.Source.rest c.args.source.now) c.args.desk.now.writer.session c.args.desk.now.entries c.args.desk.now.writer.appender (g.D.Disk.state c.args.disk.now) (output g.K.Sink.held g.K.Sink.calls g.K.Sink.faults c.args.out.now) c.lines.window (g.S.Source.rest c.lines.source) c.lines.desk.writer.session c.lines.desk.entries c.lines.desk.writer.appender c.lines.desk.lines (g.D.Disk.state c.lines.disk) (output g.K.Sink.held g.K.Sink.calls g.K.Sink.faults c.lines.out) c.lines.invariant.0 c.lines.invariant.5 count yet
 
-pub returns-in-LongLast-clause-lengths : goal.returns-in-LongLast-clause-lengths
-returns-in-LongLast-clause-lengths g c = λ count yet. reach_end c.args.window.now (g.S.Source.rest c.args.source.now) c.args.desk.now.writer.session c.args.desk.now.entries c.args.desk.now.writer.appender (g.D.Disk.state c.args.disk.now) (output g.K.Sink.held g.K.Sink.calls g.K.Sink.faults c.args.out.now) c.lines.window (g.S.Source.rest c.lines.source) c.lines.desk.writer.session c.lines.desk.entries c.lines.desk.writer.appender c.lines.desk.lines (g.D.Disk.state c.lines.disk) (output g.K.Sink.held g.K.Sink.calls g.K.Sink.faults c.lines.out) c.lines.invariant.0 c.lines.invariant.5 count yet
+pub returns-in-Ok-answer_long-2-clause-lengths : goal.returns-in-Ok-answer_long-2-clause-lengths
+returns-in-Ok-answer_long-2-clause-lengths g c = λ count yet. reach_end c.args.window.now (g.S.Source.rest c.args.source.now) c.args.desk.now.writer.session c.args.desk.now.entries c.args.desk.now.writer.appender (g.D.Disk.state c.args.disk.now) (output g.K.Sink.held g.K.Sink.calls g.K.Sink.faults c.args.out.now) c.lines.window (g.S.Source.rest c.lines.source) c.lines.desk.writer.session c.lines.desk.entries c.lines.desk.writer.appender c.lines.desk.lines (g.D.Disk.state c.lines.disk) (output g.K.Sink.held g.K.Sink.calls g.K.Sink.faults c.lines.out) c.lines.invariant.0 c.lines.invariant.5 count yet
+
+pub returns-in-Err-answer_long-2-clause-lengths : goal.returns-in-Err-answer_long-2-clause-lengths
+returns-in-Err-answer_long-2-clause-lengths g c = λ count yet. reach_end c.args.window.now (g.S.Source.rest c.args.source.now) c.args.desk.now.writer.session c.args.desk.now.entries c.args.desk.now.writer.appender (g.D.Disk.state c.args.disk.now) (output g.K.Sink.held g.K.Sink.calls g.K.Sink.faults c.args.out.now) c.lines.window (g.S.Source.rest c.lines.source) c.lines.desk.writer.session c.lines.desk.entries c.lines.desk.writer.appender c.lines.desk.lines (g.D.Disk.state c.lines.disk) (output g.K.Sink.held g.K.Sink.calls g.K.Sink.faults c.lines.out) c.lines.invariant.0 c.lines.invariant.5 count yet
 
 pub returns-in-End-clause-lengths : goal.returns-in-End-clause-lengths
 returns-in-End-clause-lengths g c = λ count yet. reach_end c.args.window.now (g.S.Source.rest c.args.source.now) c.args.desk.now.writer.session c.args.desk.now.entries c.args.desk.now.writer.appender (g.D.Disk.state c.args.disk.now) (output g.K.Sink.held g.K.Sink.calls g.K.Sink.faults c.args.out.now) c.lines.window (g.S.Source.rest c.lines.source) c.lines.desk.writer.session c.lines.desk.entries c.lines.desk.writer.appender c.lines.desk.lines (g.D.Disk.state c.lines.disk) (output g.K.Sink.held g.K.Sink.calls g.K.Sink.faults c.lines.out) c.lines.invariant.0 c.lines.invariant.5 count yet
@@ -108,8 +117,14 @@ returns-in-Err-answer_line-clause-lengths g c = λ count yet.
     reach_line c.args.window.now (g.S.Source.rest c.args.source.now) c.args.desk.now.writer.session c.args.desk.now.entries c.args.desk.now.writer.appender (g.D.Disk.state c.args.disk.now) (output g.K.Sink.held g.K.Sink.calls g.K.Sink.faults c.args.out.now) c.lines.window (g.S.Source.rest c.lines.source) c.lines.desk.writer.session c.lines.desk.entries c.lines.desk.writer.appender c.lines.desk.lines (g.D.Disk.state c.lines.disk) (output g.K.Sink.held g.K.Sink.calls g.K.Sink.faults c.lines.out) c.lines.invariant.0 c.lines.invariant.5 count c.in-Line.size (g.S.Source.rest c.next_line.new.source) f.joined f.past (g.D.Disk.state c.answer_line.new.disk) f.is.6 f.takes (omega (arith, f.is.2)) f.within (g.met.D.Disk.is_disk c.lines.disk)
     (reach_wider _ _ (g.D.Disk.state c.lines.disk) (g.D.Disk.state c.answer_line.new.disk) (omega (arith, size)) c.in-Err-answer_line.ensures.lengths) yet
 
-pub returns-in-Last-clause-lengths : goal.returns-in-Last-clause-lengths
-returns-in-Last-clause-lengths g c = λ count yet.
+pub returns-in-Ok-answer_line-2-clause-lengths : goal.returns-in-Ok-answer_line-2-clause-lengths
+returns-in-Ok-answer_line-2-clause-lengths g c = λ count yet.
     let f = (subst (λ (n : Next). Finds c.lines.window c.next_line.new.window (g.S.Source.rest c.lines.source) (g.S.Source.rest c.next_line.new.source) n) c.in-Last.is c.in-Ok.ensures.finds) in
     reach_line c.args.window.now (g.S.Source.rest c.args.source.now) c.args.desk.now.writer.session c.args.desk.now.entries c.args.desk.now.writer.appender (g.D.Disk.state c.args.disk.now) (output g.K.Sink.held g.K.Sink.calls g.K.Sink.faults c.args.out.now) c.lines.window (g.S.Source.rest c.lines.source) c.lines.desk.writer.session c.lines.desk.entries c.lines.desk.writer.appender c.lines.desk.lines (g.D.Disk.state c.lines.disk) (output g.K.Sink.held g.K.Sink.calls g.K.Sink.faults c.lines.out) c.lines.invariant.0 c.lines.invariant.5 count (length c.held-in-Last.result.now) (g.S.Source.rest c.next_line.new.source) f.joined f.past (g.D.Disk.state c.answer_line-in-Last.new.disk) f.is.5 f.takes (omega (arith, ap length (c.held-in-Last.ensures.held ∙ f.is.0))) f.within (g.met.D.Disk.is_disk c.lines.disk)
-    c.answer_line-in-Last.ensures.lengths yet
+    c.in-Ok-answer_line-2.ensures.lengths yet
+
+pub returns-in-Err-answer_line-2-clause-lengths : goal.returns-in-Err-answer_line-2-clause-lengths
+returns-in-Err-answer_line-2-clause-lengths g c = λ count yet.
+    let f = (subst (λ (n : Next). Finds c.lines.window c.next_line.new.window (g.S.Source.rest c.lines.source) (g.S.Source.rest c.next_line.new.source) n) c.in-Last.is c.in-Ok.ensures.finds) in
+    reach_line c.args.window.now (g.S.Source.rest c.args.source.now) c.args.desk.now.writer.session c.args.desk.now.entries c.args.desk.now.writer.appender (g.D.Disk.state c.args.disk.now) (output g.K.Sink.held g.K.Sink.calls g.K.Sink.faults c.args.out.now) c.lines.window (g.S.Source.rest c.lines.source) c.lines.desk.writer.session c.lines.desk.entries c.lines.desk.writer.appender c.lines.desk.lines (g.D.Disk.state c.lines.disk) (output g.K.Sink.held g.K.Sink.calls g.K.Sink.faults c.lines.out) c.lines.invariant.0 c.lines.invariant.5 count (length c.held-in-Last.result.now) (g.S.Source.rest c.next_line.new.source) f.joined f.past (g.D.Disk.state c.answer_line-in-Last.new.disk) f.is.5 f.takes (omega (arith, ap length (c.held-in-Last.ensures.held ∙ f.is.0))) f.within (g.met.D.Disk.is_disk c.lines.disk)
+    c.in-Err-answer_line-2.ensures.lengths yet

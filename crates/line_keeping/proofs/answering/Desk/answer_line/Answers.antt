@@ -6,7 +6,7 @@ use Rattle.order_text.specs.Lines.{Alone, OfLadder}
 use Rattle.journal_disk.proofs.Lengths.{reach_wider}
 use Rattle.line_keeping.specs.Outputs.{output}
 use Rattle.line_keeping.proofs.Keeping.{commands_none, commands_more, breaks_by}
-use Rattle.line_keeping.proofs.Lines.{on_both, if_err, line_some, at_market, nothing_at, ladder_few, line_none, line_refused, line_asked, line_broke, line_unread, line_unwritten, ok_refused, err_refused}
+use Rattle.line_keeping.proofs.Lines.{on_both, if_err, line_some, at_market, nothing_at, ladder_few, line_none, line_refused, line_asked, line_broke, line_unread, line_unwritten}
 use Rattle.line_keeping.proofs.Served.{on_ok}
 use Rattle.line_keeping.proofs.answering.Desk.answer_line.Goals as goal
 
@@ -82,23 +82,19 @@ returns-in-Ok-Many-clause-broken g c =
     (OfLadder (map command_in c.in-Ok-Many.commands)) (g.D.Disk.state c.answer_commands.new.disk) (output g.K.Sink.held g.K.Sink.calls g.K.Sink.faults c.answer_commands.new.out) fault ((λ long. omega (arith, long, c.requires.short)), asks) (rw c.as_slice.ensures at broke))
     c.answer_commands.ensures.broken
 
-pub returns-in-Err-NoCommand-clause-answers : goal.returns-in-Err-NoCommand-clause-answers
-returns-in-Err-NoCommand-clause-answers g c =
+pub returns-in-Ok-clause-answers : goal.returns-in-Ok-clause-answers
+returns-in-Ok-clause-answers g c =
     let market = c.args.self.now.writer.session in
     let says = nothing_at market c.version.result c.tickers.result.now c.args.line.now (c.version.ensures.value ∙ ap (λ (m : Market). m.version) c.market-market.ensures.value) (c.tickers.ensures.value ∙ ap (λ (m : Market). m.tickers) c.market-market.ensures.value) (rw c.in-Err-NoCommand.field-0-is at c.in-Err-NoCommand.ensures.asked) in
-    rw (c.refuse.ensures.same.0, c.refuse.ensures.same.2) (on_ok c.refuse.result _ _
-    (λ gained. line_refused (c.args.self.now.lines + 1) c.args.line.now market c.args.self.now.entries c.args.self.now.writer.appender (g.D.Disk.state c.args.disk.now) (output g.K.Sink.held g.K.Sink.calls g.K.Sink.faults c.args.out.now)
-    (output g.K.Sink.held g.K.Sink.calls g.K.Sink.faults c.refuse.new.out) (g.met.D.Disk.is_disk c.args.disk.now) (inr says) gained)
-    (ok_refused (c.args.self.now.lines + 1) c.refuse.result _ _ c.refuse.ensures.refuses))
+    rw (c.in-Ok.ensures.same.0, c.in-Ok.ensures.same.2) (line_refused (c.args.self.now.lines + 1) c.args.line.now market c.args.self.now.entries c.args.self.now.writer.appender (g.D.Disk.state c.args.disk.now) (output g.K.Sink.held g.K.Sink.calls g.K.Sink.faults c.args.out.now)
+    (output g.K.Sink.held g.K.Sink.calls g.K.Sink.faults c.refuse.new.out) (g.met.D.Disk.is_disk c.args.disk.now) (inr says) c.in-Ok.ensures.refuses)
 
-pub returns-in-Err-NoCommand-clause-broken : goal.returns-in-Err-NoCommand-clause-broken
-returns-in-Err-NoCommand-clause-broken g c =
+pub returns-in-Err-clause-broken : goal.returns-in-Err-clause-broken
+returns-in-Err-clause-broken g c =
     let market = c.args.self.now.writer.session in
     let says = nothing_at market c.version.result c.tickers.result.now c.args.line.now (c.version.ensures.value ∙ ap (λ (m : Market). m.version) c.market-market.ensures.value) (c.tickers.ensures.value ∙ ap (λ (m : Market). m.tickers) c.market-market.ensures.value) (rw c.in-Err-NoCommand.field-0-is at c.in-Err-NoCommand.ensures.asked) in
-    if_err c.refuse.result _ _
-    (λ fault refused. line_unwritten (c.args.self.now.lines + 1) c.args.line.now market c.args.self.now.entries c.args.self.now.writer.appender (g.D.Disk.state c.args.disk.now) (output g.K.Sink.held g.K.Sink.calls g.K.Sink.faults c.args.out.now)
-    (output g.K.Sink.held g.K.Sink.calls g.K.Sink.faults c.refuse.new.out) fault (g.met.D.Disk.is_disk c.args.disk.now) (inr says) refused)
-    (err_refused (c.args.self.now.lines + 1) c.refuse.result _ _ c.refuse.ensures.refuses)
+    line_unwritten (c.args.self.now.lines + 1) c.args.line.now market c.args.self.now.entries c.args.self.now.writer.appender (g.D.Disk.state c.args.disk.now) (output g.K.Sink.held g.K.Sink.calls g.K.Sink.faults c.args.out.now)
+    (output g.K.Sink.held g.K.Sink.calls g.K.Sink.faults c.refuse.new.out) (g.met.D.Disk.is_disk c.args.disk.now) (inr says) c.in-Err.ensures.refuses
 
 pub returns-in-Err-Memory-clause-broken : goal.returns-in-Err-Memory-clause-broken
 returns-in-Err-Memory-clause-broken g c =
