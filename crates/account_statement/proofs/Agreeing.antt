@@ -3,16 +3,21 @@ use Rattle.std.proofs.Common.{◌≡◌, ℕ, List, [], ◌∷◌, ◌++◌, len
 use Rattle.std.proofs.lemmas.List.{append-nil}
 use Rattle.wire_records.specs.Records.{Record}
 use Rattle.wire_records.specs.Versions.{IsReadAs}
-use Rattle.wire_records.specs.Commands.{Command, Answer, Plain, Batch}
+use Rattle.wire_records.specs.Commands.{Command, RunBatch, Answer, Plain, Batch}
 use Rattle.wire_records.specs.declared.command.BodyFault.{BodyFault}
+use Rattle.wire_records.specs.declared.reply.Refusal.{Refusal}
+use Rattle.wire_records.specs.declared.reply.Reply.{Reply}
+use Rattle.wire_records.specs.declared.reply.Reply.TheVariants.{Refused}
 use Rattle.wire_records.proofs.Readings.{reading_unique}
 use Rattle.flow_orders.specs.Outcomes.{Clearing, Outcome, Cleared, Skipped, IsAdmissibleOutcome, IsAdmissibleClearing}
 use Rattle.journal_records.specs.Replies.{EncodesAnswer}
 use Rattle.journal_records.proofs.Encoded.{answer_unique}
 use Rattle.market_rules.specs.Market.{Market, IsConsistent, start_prices}
-use Rattle.market_rules.specs.Step.{Serves, ServesRead}
+use Rattle.market_rules.specs.Step.{Serves, ServesRead, refusal_of}
 use Rattle.market_rules.proofs.LawProofs.{batch_of}
 use Rattle.batch_audit.specs.Legal.{IsLegalPair}
+use Rattle.batch_audit.specs.Judging.{Changes, IsChangeOf}
+use Rattle.batch_audit.specs.declared.change.Change.{Change}
 use Rattle.statement_rules.specs.Views.{Event, Clears, Skips, event_if, is_there, seen, seen_plain, own_fills}
 use Rattle.statement_rules.specs.Holdings.{Holding, after, after_all, IsHeld}
 use Rattle.statement_rules.specs.Statements.{event_lines, lines_from}
@@ -50,6 +55,18 @@ seen_is s m c (Batch batch (Cleared k)) n consistent held serves =
     ap (λ fills. event_if (is_there m s.account) (Clears batch k.prices fills)) (own_fills_are s.account m (holding_of s) k consistent held right)
     ∙ ap (λ b. event_if b (Clears batch k.prices (fills_for k.fills s.orders))) (sym held.opened)
 seen_is s m c (Batch batch (Skipped k)) n consistent held serves = ap (λ b. event_if b (Skips batch)) (sym held.opened)
+
+-- without events nothing is written, and nothing changes
+pub nothing_told : (events : List Event) (s : Statement) (text : List ℕ) → events ≡ [] → Tells events s s text text
+nothing_told events s text none = record {
+  account = refl;
+  after = alike_same (after_all (holding_of s) events) (holding_of s) (sym (ap (after_all (holding_of s)) none));
+  text = sym (ap (λ l. text ++ lines_from (holding_of s) l) none ∙ append-nil text);
+}
+
+-- an outcome is no refusal
+outcome_is_no_reply : (batch : ℕ) (o : Outcome) (refusal : Refusal) → ◌≡◌ {A = Answer Outcome} (Batch batch o) (Plain (Refused refusal)) → ⊥
+outcome_is_no_reply batch o refusal same = cc
 
 module _ (m : Market) (pair : Record × Record) (old : Statement) (consistent : IsConsistent m) (agrees : Agrees m old) where
   -- a valid entry's record is read as it is in its step
@@ -107,13 +124,53 @@ module _ (m : Market) (pair : Record × Record) (old : Statement) (consistent : 
       same : legal.step.read ≡ Err why
       same = same_read (Err why) next legal reads
 
--- without events nothing is written, and nothing changes
-pub nothing_told : (events : List Event) (s : Statement) (text : List ℕ) → events ≡ [] → Tells events s s text text
-nothing_told events s text none = record {
-  account = refl;
-  after = alike_same (after_all (holding_of s) events) (holding_of s) (sym (ap (after_all (holding_of s)) none));
-  text = sym (ap (λ l. text ++ lines_from (holding_of s) l) none ∙ append-nil text);
-}
+  -- what a valid entry's record is read as
+  read_as : (change : Change) (is : IsChangeOf m pair change) (read : Result Command BodyFault) → is.legal.step.read ≡ read → IsReadAs m.version pair.0 read
+  read_as change is read same = subst (IsReadAs m.version pair.0) same is.legal.step.encoded
+
+  module _ (change : Change) (is : IsChangeOf m pair change) (c : Command)
+      (reads : (m : Market) (read : Result Command BodyFault) (n : Market) → Changes m read change n → read ≡ Ok c) where
+    -- the entry's command is the one that its record is read as
+    pub command_read : IsReadAs m.version pair.0 (Ok c)
+    command_read = read_as change is (Ok c) (reads m is.legal.step.read is.new is.changes)
+
+    -- some market answers the entry's command so
+    pub command_served : (reply : Reply) → EncodesAnswer pair.1 (Plain reply) → IsServed old c (Plain reply)
+    command_served reply encodes = is_served c (Plain reply) (is.new, is.legal) command_read encodes
+
+  -- an entry without a command of its own, or with one for a batch that was held, has no lines
+  pub is_silent : (text : List ℕ) (change : Change) (reply : Reply) (is : IsChangeOf m pair change)
+      → ((m : Market) (read : Result Command BodyFault) (n : Market) → Changes m read change n → (c : Command) → read ≡ Ok c → (budget : ℕ) × (c ≡ RunBatch budget))
+      → EncodesAnswer pair.1 (Plain reply) → (next : Market) (legal : IsLegalPair m pair next) → IsTold m pair old old text text next legal
+  is_silent text change reply is none encodes =
+      by is.legal.step.read (read_as change is is.legal.step.read refl) (none m is.legal.step.read is.new is.changes)
+    where
+      unseen : (c : Command) → (budget : ℕ) × (c ≡ RunBatch budget) → seen_by old c (Plain reply) ≡ []
+      unseen c (budget, same) = ap (λ x. seen_by old x (Plain reply)) same
+
+      by : (read : Result Command BodyFault) → IsReadAs m.version pair.0 read → ((c : Command) → read ≡ Ok c → (budget : ℕ) × (c ≡ RunBatch budget))
+          → (next : Market) (legal : IsLegalPair m pair next) → IsTold m pair old old text text next legal
+      by (Err why) reads batch = is_not_told text why reads
+      by (Ok c) reads batch = is_told old text text c (Plain reply) reads encodes (nothing_told (seen_by old c (Plain reply)) old text (unseen c (batch c refl)))
+
+  module _ (change : Change) (is : IsChangeOf m pair change) (batch : ℕ) (o : Outcome) (encodes : EncodesAnswer pair.1 (Batch batch o)) where
+    -- an entry whose reply is an outcome has a command
+    pub outcome_read : (c : Command) × IsReadAs m.version pair.0 (Ok c)
+    outcome_read = by is.legal.step.read (read_as change is is.legal.step.read refl) is.legal.step.served
+      where
+        by : (read : Result Command BodyFault) → IsReadAs m.version pair.0 read → ServesRead IsAdmissibleOutcome m read is.legal.answer is.new
+            → (c : Command) × IsReadAs m.version pair.0 (Ok c)
+        by (Ok c) reads served = (c, reads)
+        by (Err why) reads served = absurd (outcome_is_no_reply batch o (refusal_of why) (sym (same_answer (Batch batch o) is.new is.legal encodes) ∙ served.0))
+
+    -- some market answers that command so
+    pub outcome_served : IsServed old outcome_read.0 (Batch batch o)
+    outcome_served = is_served outcome_read.0 (Batch batch o) (is.new, is.legal) outcome_read.1 encodes
+
+    -- the statement takes the outcome
+    pub outcome_told : (new : Statement) (before now : List ℕ) → Tells (seen_by old outcome_read.0 (Batch batch o)) old new before now
+        → (next : Market) (legal : IsLegalPair m pair next) → IsTold m pair old new before now next legal
+    outcome_told new before now tells = is_told new before now outcome_read.0 (Batch batch o) outcome_read.1 encodes tells
 
 -- what is appended to an empty text is appended to any text
 pub told_after : (m : Market) (pair : Record × Record) (old new : Statement) (before empty text now : List ℕ) (next : Market) (legal : IsLegalPair m pair next)

@@ -48,6 +48,11 @@ event_of (event.Places number last place) = Places number last place.now
 event_of (event.Cancels number) = Cancels number
 event_of (event.Refuses command refusal) = Refuses (command_of command.now) refusal
 
+-- the events that a value of the code is: at most one
+abbrev pub events_of : Option seen.Event → List Event
+events_of None = []
+events_of (Some shown) = event_of shown ∷ []
+
 -- ---- the rates of own orders
 
 -- the rate that is listed under a number, or 0 if none is

@@ -64,9 +64,9 @@ impl Statement {
         match *event {
             Event::Adds(ticker) => self.add_asset(ticker)?,
             Event::Opens(_) => self.is_open = true,
-            Event::Deposits { asset, count } => self.change(asset, value_of(asset, count)),
-            Event::Withdraws { asset, count } => self.change(asset, -value_of(asset, count)),
-            Event::Credits { .. } => {}
+            Event::Deposits(asset, count) => self.change(asset, value_of(asset, count)),
+            Event::Withdraws(asset, count) => self.change(asset, -value_of(asset, count)),
+            Event::Credits(..) => {}
             Event::Places {
                 number,
                 last,

@@ -1,9 +1,9 @@
 //! What an account sees of a command with its answer.
-ghost use Rattle.std.specs.Prelude.{◌≡◌, ◌==◌, ◌&&◌, false, [], ◌∷◌, IfSome, IfNone};
+ghost use Rattle.std.specs.Prelude.{◌≡◌, ◌==◌, ◌&&◌, false};
 ghost use Rattle.wire_records.specs.Commands.{AddAsset, OpenAccount};
 ghost use Rattle.wire_records.specs.Views.{command_of};
-ghost use Rattle.statement_rules.specs.Views.{Opens, event_if, by_reply, seen_own, seen_plain};
-ghost use Rattle.account_statement.specs.Private.{event_of};
+ghost use Rattle.statement_rules.specs.Views.{Opens, Places, event_if, by_reply, seen_own, seen_plain};
+ghost use Rattle.account_statement.specs.Private.{event_of, events_of};
 
 use wire_records::{CommandView, PlaceView, Refusal, Reply};
 
@@ -15,18 +15,12 @@ pub(crate) enum Event<'a> {
     Adds(&'a [u8]),
     // The account is opened, under this number.
     Opens(u32),
-    Deposits {
-        asset: Option<u16>,
-        count: u64,
-    },
-    Withdraws {
-        asset: Option<u16>,
-        count: u64,
-    },
-    Credits {
-        asset: Option<u16>,
-        count: u64,
-    },
+    // The asset of a deposit, and its count.
+    Deposits(Option<u16>, u64),
+    // The asset of a withdrawal, and its count.
+    Withdraws(Option<u16>, u64),
+    // The asset of a credit that is set, and its count.
+    Credits(Option<u16>, u64),
     // An order is placed under this number.
     Places {
         number: u64,
@@ -57,8 +51,7 @@ fn number_in(answer: Reply) -> u64
 
 // Returns what is seen of an asset that is added.
 fn added(ticker: &[u8], answer: Reply) -> Option<Event<'_>>
-    ensures some { IfSome result (λ event. seen_plain 0 false (AddAsset ticker.now) answer ≡ event_of event ∷ []) }
-    ensures none { IfNone result (seen_plain 0 false (AddAsset ticker.now) answer ≡ []) }
+    ensures { seen_plain 0 false (AddAsset ticker.now) answer ≡ events_of result }
 {
     match answer {
         Reply::Done => Some(Event::Adds(ticker)),
@@ -71,8 +64,7 @@ fn added(ticker: &[u8], answer: Reply) -> Option<Event<'_>>
 
 // Returns what is seen of an account that is opened under a number: the opening, if it is this one.
 fn opening<'a>(number: u64, account: u32) -> Option<Event<'a>>
-    ensures some { IfSome result (λ event. event_if (number == account) (Opens account) ≡ event_of event ∷ []) }
-    ensures none { IfNone result (event_if (number == account) (Opens account) ≡ []) }
+    ensures { event_if (number == account) (Opens account) ≡ events_of result }
 {
     if number == u64::from(account) {
         return Some(Event::Opens(account));
@@ -82,8 +74,7 @@ fn opening<'a>(number: u64, account: u32) -> Option<Event<'a>>
 
 // Returns what is seen of an account that is opened.
 fn opened<'a>(account: u32, answer: Reply) -> Option<Event<'a>>
-    ensures some { IfSome result (λ event. seen_plain account false OpenAccount answer ≡ event_of event ∷ []) }
-    ensures none { IfNone result (seen_plain account false OpenAccount answer ≡ []) }
+    ensures { seen_plain account false OpenAccount answer ≡ events_of result }
 {
     match answer {
         Reply::Done => opening(0, account),
@@ -94,153 +85,95 @@ fn opened<'a>(account: u32, answer: Reply) -> Option<Event<'a>>
     }
 }
 
-// Returns whether a command that names an account is seen: this account is open, and is the one that is named.
-fn is_own(account: u32, is_open: bool, named: u32) -> bool
-    ensures { result ≡ (is_open && (named == account)) }
-{
-    is_open && named == account
+// A command that holds no batch, or that was refused, with its answer, and the account that looks at them.
+#[derive(Drop)]
+pub(crate) struct Sight<'a> {
+    pub(crate) account: u32,
+    pub(crate) is_open: bool,
+    pub(crate) command: &'a CommandView<'a>,
+    pub(crate) answer: Reply,
 }
 
-// Returns what is seen of a command, if it is the account's own: its refusal, or what it does.
-fn own<'a>(
-    is_own: bool,
-    command: &'a CommandView<'a>,
-    done: Event<'a>,
-    answer: Reply,
-) -> Option<Event<'a>>
-    ensures some { IfSome result (λ event. seen_own is_own (command_of command.now) (λ number. event_of done.entry) answer ≡ event_of event ∷ []) }
-    ensures none { IfNone result (seen_own is_own (command_of command.now) (λ number. event_of done.entry) answer ≡ []) }
-{
-    if !is_own {
-        return None;
+impl<'a> Sight<'a> {
+    // Returns what the account sees.
+    pub(crate) fn event(&self) -> Option<Event<'a>>
+        ensures { seen_plain self.now.account self.now.is_open (command_of self.now.command.now) self.now.answer ≡ events_of result }
+    {
+        match *self.command {
+            CommandView::AddAsset(ticker) => added(ticker, self.answer),
+            CommandView::OpenAccount => opened(self.account, self.answer),
+            CommandView::DepositMoney { account, ticks } => {
+                self.own(account, Event::Deposits(None, ticks))
+            }
+            CommandView::DepositAsset {
+                account,
+                asset,
+                units,
+            } => self.own(account, Event::Deposits(Some(asset), units)),
+            CommandView::WithdrawMoney { account, ticks } => {
+                self.own(account, Event::Withdraws(None, ticks))
+            }
+            CommandView::WithdrawAsset {
+                account,
+                asset,
+                units,
+            } => self.own(account, Event::Withdraws(Some(asset), units)),
+            CommandView::PlaceOrder(ref place) => self.placed(None, place),
+            CommandView::PlaceUntil { last, ref place } => self.placed(Some(last), place),
+            CommandView::CancelOrder { account, order } => {
+                self.own(account, Event::Cancels(order))
+            }
+            CommandView::RunBatch { .. } => None,
+            CommandView::SetMoneyCredit { account, ticks } => {
+                self.own(account, Event::Credits(None, ticks))
+            }
+            CommandView::SetUnitCredit {
+                account,
+                asset,
+                units,
+            } => self.own(account, Event::Credits(Some(asset), units)),
+        }
     }
-    match answer {
-        Reply::Done => Some(done),
-        Reply::Asset(_) => Some(done),
-        Reply::Account(_) => Some(done),
-        Reply::Order(_) => Some(done),
-        Reply::Refused(refusal) => Some(Event::Refuses { command, refusal }),
-    }
-}
 
-// Returns what an account sees of a command that holds no batch, or that was refused, by whether the account is open.
-pub(crate) fn seen<'a>(
-    account: u32,
-    is_open: bool,
-    command: &'a CommandView<'a>,
-    answer: Reply,
-) -> Option<Event<'a>>
-    ensures some { IfSome result (λ event. seen_plain account is_open (command_of command.now) answer ≡ event_of event ∷ []) }
-    ensures none { IfNone result (seen_plain account is_open (command_of command.now) answer ≡ []) }
-{
-    let number = number_in(answer);
-    match *command {
-        CommandView::AddAsset(ticker) => added(ticker, answer),
-        CommandView::OpenAccount => opened(account, answer),
-        CommandView::DepositMoney {
-            account: named,
-            ticks,
-        } => own(
-            is_own(account, is_open, named),
-            command,
-            Event::Deposits {
-                asset: None,
-                count: ticks,
-            },
-            answer,
-        ),
-        CommandView::DepositAsset {
-            account: named,
-            asset,
-            units,
-        } => own(
-            is_own(account, is_open, named),
-            command,
-            Event::Deposits {
-                asset: Some(asset),
-                count: units,
-            },
-            answer,
-        ),
-        CommandView::WithdrawMoney {
-            account: named,
-            ticks,
-        } => own(
-            is_own(account, is_open, named),
-            command,
-            Event::Withdraws {
-                asset: None,
-                count: ticks,
-            },
-            answer,
-        ),
-        CommandView::WithdrawAsset {
-            account: named,
-            asset,
-            units,
-        } => own(
-            is_own(account, is_open, named),
-            command,
-            Event::Withdraws {
-                asset: Some(asset),
-                count: units,
-            },
-            answer,
-        ),
-        CommandView::PlaceOrder(ref place) => own(
-            is_own(account, is_open, place.account()),
-            command,
+    // Returns what is seen of an order that is placed, if it is the account's own.
+    fn placed(&self, last: Option<u32>, place: &'a PlaceView<'a>) -> Option<Event<'a>>
+        ensures { seen_own (self.now.is_open && (place.now.account == self.now.account)) (command_of self.now.command.now)
+            (λ number. Places number last place.now) self.now.answer ≡ events_of result }
+    {
+        self.own(
+            place.account(),
             Event::Places {
-                number,
-                last: None,
+                number: number_in(self.answer),
+                last,
                 place,
             },
-            answer,
-        ),
-        CommandView::PlaceUntil { last, ref place } => own(
-            is_own(account, is_open, place.account()),
-            command,
-            Event::Places {
-                number,
-                last: Some(last),
-                place,
-            },
-            answer,
-        ),
-        CommandView::CancelOrder {
-            account: named,
-            order,
-        } => own(
-            is_own(account, is_open, named),
-            command,
-            Event::Cancels(order),
-            answer,
-        ),
-        CommandView::RunBatch { .. } => None,
-        CommandView::SetMoneyCredit {
-            account: named,
-            ticks,
-        } => own(
-            is_own(account, is_open, named),
-            command,
-            Event::Credits {
-                asset: None,
-                count: ticks,
-            },
-            answer,
-        ),
-        CommandView::SetUnitCredit {
-            account: named,
-            asset,
-            units,
-        } => own(
-            is_own(account, is_open, named),
-            command,
-            Event::Credits {
-                asset: Some(asset),
-                count: units,
-            },
-            answer,
-        ),
+        )
+    }
+
+    // Returns what is seen of a command that names an account, if that is this one: the refusal, or what the command does.
+    fn own(&self, named: u32, done: Event<'a>) -> Option<Event<'a>>
+        ensures { seen_own (self.now.is_open && (named == self.now.account)) (command_of self.now.command.now)
+            (λ number. event_of done.entry) self.now.answer ≡ events_of result }
+    {
+        if !self.is_own(named) {
+            return None;
+        }
+        match self.answer {
+            Reply::Done => Some(done),
+            Reply::Asset(_) => Some(done),
+            Reply::Account(_) => Some(done),
+            Reply::Order(_) => Some(done),
+            Reply::Refused(refusal) => Some(Event::Refuses {
+                command: self.command,
+                refusal,
+            }),
+        }
+    }
+
+    // Returns whether a command that names an account is seen: this account is open, and is the one that is named.
+    fn is_own(&self, named: u32) -> bool
+        ensures { result ≡ (self.now.is_open && (named == self.now.account)) }
+    {
+        self.is_open && named == self.account
     }
 }

@@ -7,8 +7,8 @@
 //!
 //! # Costs
 //!
-//! An entry that isn't the account's costs the reading of its two records. A command of the account's own costs its
-//! line; an order also a copy of its legs. A batch costs one pass over the prices and over the account's own live
+//! An entry is read when it is judged, and not again. One that isn't the account's costs a look at its command. A command of the
+//! account's own costs its line; an order also a copy of its legs. A batch costs one pass over the prices and over the account's own live
 //! orders, each of which is found among the published rates in as many steps as their count has bits. Memory is taken
 //! for the text if the list has no room, for a new asset or order of the account's own, and in a batch that cleared for
 //! a list of the prices, one of the account's own rates and one of the units that these bring.

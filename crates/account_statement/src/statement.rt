@@ -1,14 +1,18 @@
 //! A statement, and its public calls.
 ghost use Rattle.std.specs.Prelude.{◌≡◌, ◌≤◌, ◌<◌, ◌++◌, length, true, Some, None, IfOk, OnOk, OnErr, vec_capacity};
 ghost use Rattle.wire_records.specs.declared.version.Version.{Version};
+ghost use Rattle.journal_records.specs.Views.{answer_of};
+ghost use Rattle.journal_records.specs.Replies.{EncodesAnswer};
 ghost use Rattle.market_rules.specs.Market.{Market as market_value, empty_market};
 ghost use Rattle.batch_audit.specs.Legal.{IsLegalPair};
+ghost use Rattle.batch_audit.specs.Judging.{IsChangeOf};
 ghost use Rattle.statement_rules.specs.Holdings.{nothing};
 ghost use Rattle.statement_rules.specs.Statements.{reserved_balance, end_lines, asset_line};
 ghost use Rattle.account_statement.specs.Telling.{holding_of, Agrees, AllocatesCopy, IsTold};
 
 use crate::carried::{all_units, copied_tickers, has_account, money_in, own_book};
-use journal_records::PairView;
+use batch_audit::Change;
+use journal_records::{PairView, ReplyView};
 use market_core::Market;
 use order_book::Book;
 use pair_text::Text;
@@ -106,9 +110,9 @@ impl Statement {
     }
 
     /// Takes the next entry: appends the lines of what the account sees of it. The statement agrees with
-    /// the market before the entry, and the entry is a step of this market, as
-    /// [`Audit::explain`](batch_audit::Audit::explain) finds; afterwards the statement agrees with the market that the
-    /// step makes.
+    /// the market before the entry, `reply` is the answer that its second record encodes, and `change` is what
+    /// [`Audit::judge`](batch_audit::Audit::judge) returned for it over this market; afterwards the statement agrees with the
+    /// market that the step makes.
     ///
     /// Nothing is appended for an entry before the one that opened the account, for a command that names another account,
     /// for one that names none, except the opening and a batch that was held, and for a record that encodes no command.
@@ -118,10 +122,13 @@ impl Statement {
         &mut self,
         market: &Market,
         pair: &PairView<'_>,
+        reply: &ReplyView<'_>,
+        change: &Change<'_>,
         out: &mut Vec<u8>,
     ) -> Result<(), Memory>
         requires agrees { Agrees market.now self.old }
-        requires legal { (next : market_value) × IsLegalPair market.now pair.now next }
+        requires replied { EncodesAnswer pair.now.1 (answer_of reply.now) }
+        requires change { IsChangeOf market.now pair.now change.now }
         ensures account { self.new.account ≡ self.old.account }
         ensures told { OnOk result ((next : market_value) (legal : IsLegalPair market.now pair.now next)
             → IsTold market.now pair.now self.old self.new out.old.items out.new.items next legal) }
@@ -130,7 +137,7 @@ impl Statement {
         ensures room { vec_capacity out.old ≤ vec_capacity out.new }
     {
         let mut text = Text::following(out);
-        match self.tell(market, pair, &mut text) {
+        match self.tell(market, pair, reply, change, &mut text) {
             Ok(()) => {
                 *out = text.whole();
                 Ok(())

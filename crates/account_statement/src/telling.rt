@@ -3,8 +3,10 @@ ghost use Rattle.std.specs.Prelude.{◌≡◌, [], ◌∷◌, ◌++◌, true, On
 ghost use Rattle.wire_records.specs.Commands.{Plain};
 ghost use Rattle.wire_records.specs.Views.{command_of};
 ghost use Rattle.journal_records.specs.Views.{answer_of};
+ghost use Rattle.journal_records.specs.Replies.{EncodesAnswer};
 ghost use Rattle.market_rules.specs.Market.{Market as market_value};
 ghost use Rattle.batch_audit.specs.Legal.{IsLegalPair};
+ghost use Rattle.batch_audit.specs.Judging.{IsChangeOf};
 ghost use Rattle.statement_rules.specs.Views.{Clears, Skips, event_if};
 ghost use Rattle.statement_rules.specs.Statements.{event_lines};
 ghost use Rattle.account_statement.specs.Telling.{holding_of, Agrees, IsTold};
@@ -12,8 +14,9 @@ ghost use Rattle.account_statement.specs.Private.{event_of, seen_by, IsServed, T
 
 use crate::Statement;
 use crate::batch::own_part;
-use crate::event::{Event, seen};
-use journal_records::{ClearedView, PairView, ReplyView, SkippedView, reply};
+use crate::event::{Event, Sight};
+use batch_audit::Change;
+use journal_records::{ClearedView, PairView, ReplyView, SkippedView};
 use market_core::Market;
 use pair_text::Text;
 use statement_lines::{
@@ -27,10 +30,13 @@ impl Statement {
         &mut self,
         market: &Market,
         pair: &PairView<'_>,
+        reply: &ReplyView<'_>,
+        change: &Change<'_>,
         out: &mut Text,
     ) -> Result<(), Memory>
         requires agrees { Agrees market.now self.old }
-        requires legal { (next : market_value) × IsLegalPair market.now pair.now next }
+        requires replied { EncodesAnswer pair.now.1 (answer_of reply.now) }
+        requires change { IsChangeOf market.now pair.now change.now }
         ensures account { self.new.account ≡ self.old.account }
         ensures told { OnOk result ((next : market_value) (legal : IsLegalPair market.now pair.now next)
             → IsTold market.now pair.now self.old self.new out.old.text out.new.text next legal) }
@@ -39,29 +45,11 @@ impl Statement {
     {
         // Called for its contract: the market is consistent.
         let _consistent = market.accounts();
-        match market.read(&pair.asked()) {
-            Ok(command) => match reply(&pair.answered()) {
-                Some(answer) => self.tell_served(&command, &answer, out),
-                None => unreachable!(),
+        match reply {
+            ReplyView::Plain(reply) => match change.command() {
+                Some(command) => self.tell_plain(command, *reply, out),
+                None => Ok(()),
             },
-            Err(_) => Ok(()),
-        }
-    }
-
-    // Takes a command with its answer.
-    fn tell_served(
-        &mut self,
-        command: &CommandView<'_>,
-        answer: &ReplyView<'_>,
-        out: &mut Text,
-    ) -> Result<(), Memory>
-        requires { IsServed self.old (command_of command.now) (answer_of answer.now) }
-        ensures told { OnOk result (Tells (seen_by self.old (command_of command.now) (answer_of answer.now)) self.old self.new out.old.text out.new.text) }
-        ensures stays { OnErr result (self.new ≡ self.old) }
-        ensures before { out.new.before ≡ out.old.before }
-    {
-        match answer {
-            ReplyView::Plain(reply) => self.tell_plain(command, *reply, out),
             ReplyView::Cleared(view) => self.tell_cleared(view, out),
             ReplyView::Skipped(view) => self.tell_skipped(view, out),
         }
@@ -79,7 +67,13 @@ impl Statement {
         ensures stays { OnErr result (self.new ≡ self.old) }
         ensures before { out.new.before ≡ out.old.before }
     {
-        match seen(self.account, self.is_open, command, answer) {
+        let sight = Sight {
+            account: self.account,
+            is_open: self.is_open,
+            command,
+            answer,
+        };
+        match sight.event() {
             Some(event) => self.tell_event(&event, out),
             None => Ok(()),
         }
@@ -104,13 +98,13 @@ impl Statement {
         match *event {
             Event::Adds(_) => Ok(()),
             Event::Opens(account) => put_opening(account, out),
-            Event::Deposits { asset, count } => {
+            Event::Deposits(asset, count) => {
                 put_amount(b"deposit", &self.tickers, asset, count, out)
             }
-            Event::Withdraws { asset, count } => {
+            Event::Withdraws(asset, count) => {
                 put_amount(b"withdraw", &self.tickers, asset, count, out)
             }
-            Event::Credits { asset, count } => {
+            Event::Credits(asset, count) => {
                 put_amount(b"credit", &self.tickers, asset, count, out)
             }
             Event::Places {

@@ -7,6 +7,7 @@ use Rattle.wire_records.specs.Commands.{Command, RunBatch, Answer, Plain}
 use Rattle.wire_records.specs.Versions.{IsReadAs}
 use Rattle.wire_records.specs.Views.{command_of}
 use Rattle.wire_records.specs.declared.command.CommandView.{CommandView}
+use Rattle.wire_records.specs.declared.command.CommandView.TheVariants as view
 use Rattle.wire_records.specs.declared.command.BodyFault.{BodyFault}
 use Rattle.wire_records.specs.declared.reply.Reply.{Reply}
 use Rattle.wire_records.specs.declared.reply.Reply.TheVariants.{Refused}
@@ -22,7 +23,7 @@ use Rattle.market_rules.specs.Journal.{Step}
 use Rattle.market_core.specs.Expected.{IsExpected}
 use Rattle.market_rules.proofs.LawProofs.{plain_by_any, plain_commands_have_one_answer, one_refusal}
 use Rattle.market_rules.proofs.OneStep.{one_first}
-use Rattle.batch_audit.specs.Legal.{IsLegalPair}
+use Rattle.batch_audit.specs.Legal.{IsLegalPair, IsIllegalPair}
 use Rattle.batch_audit.specs.Judging.{IsAcceptedPlain, IsChangeOf, IsWeighed}
 use Rattle.batch_audit.specs.Private.{IsReadWeighed, IsAnswerWeighed, IsOutcomeFor}
 use Rattle.batch_outcome.specs.declared.outcome.Outcome as parts
@@ -63,10 +64,11 @@ module _ (m : Market) (c : Command) (none : (budget : ℕ) → ¬ (c ≡ RunBatc
       (expected.0, right_answer a is, subst (IsAcceptedPlain m (Ok c)) shows (record { is_read = refl; no_batch = none; accepted = accepted }))
 
   -- a refusal changes nothing
-  pub refused_answer : (a : Answer Outcome) (refusal : Refusal) → a ≡ Plain reply → reply ≡ Refused refusal → IsReadWeighed m (Ok c) a (Some change.Nothing)
-  refused_answer a refusal is refuses =
+  pub refused_answer : (seen : CommandView) → c ≡ command_of seen → (a : Answer Outcome) (refusal : Refusal) → a ≡ Plain reply → reply ≡ Refused refusal
+      → IsReadWeighed m (Ok c) a (Some (change.Refused seen))
+  refused_answer seen shows a refusal is refuses =
       let here = right_answer (Plain (Refused refusal)) (ap (λ r. Plain r) (sym refuses)) in
-      (expected.0, right_answer a is, (one_refusal m c refusal (Plain (Refused refusal)) expected.0 expected.0 here here).1)
+      (expected.0, right_answer a is, (ap Ok shows, (one_refusal m c refusal (Plain (Refused refusal)) expected.0 expected.0 here here).1))
 
 -- ---- records and entries
 
@@ -90,7 +92,7 @@ pair_weighed None old pair a encoded none = λ made legal.
     none made (subst (λ x. Step IsReadAs IsAdmissibleOutcome old pair.0 x made) same legal.step)
 
 -- a record that encodes no answer makes no valid entry
-pub no_answer : (old : Market) (pair : Record × Record) → ((a : Answer Outcome) → ¬ EncodesAnswer pair.1 a) → IsWeighed old pair None
+pub no_answer : (old : Market) (pair : Record × Record) → ((a : Answer Outcome) → ¬ EncodesAnswer pair.1 a) → IsIllegalPair old pair
 no_answer old pair none = λ made legal. none legal.answer legal.encoded
 
 -- ---- refusals
@@ -98,13 +100,13 @@ no_answer old pair none = λ made legal. none legal.answer legal.encoded
 -- a record that can't be served gets its refusal
 pub fault_weighed : (test : Bool) (old : Market) (why : BodyFault) (a : Answer Outcome) (refusal : Refusal) → refusal ≡ refusal_of why
     → IsTrue test ↔ (a ≡ Plain (Refused refusal)) → IsReadWeighed old (Err why) a (if test then Some change.Nothing else None)
-fault_weighed true old why a refusal is tests = (old, (tests.0 refl ∙ ap (λ r. Plain (Refused r)) is, refl), refl)
+fault_weighed true old why a refusal is tests = (old, (tests.0 refl ∙ ap (λ r. Plain (Refused r)) is, refl), ((why, refl), refl))
 fault_weighed false old why a refusal is tests = λ made gives. false≢true (tests.1 (gives.0 ∙ ap (λ r. Plain (Refused r)) (sym is)))
 
 -- a batch that is refused gets its refusal
 pub refused_weighed : (test : Bool) (old : Market) (budget : ℕ) (a : Answer Outcome) (refusal : Refusal) → FirstRefusal old (RunBatch budget) (Some refusal)
-    → IsTrue test ↔ (a ≡ Plain (Refused refusal)) → IsReadWeighed old (Ok (RunBatch budget)) a (if test then Some change.Nothing else None)
-refused_weighed true old budget a refusal first tests = (old, record { first = Some refusal; refused = first; answered = (tests.0 refl, refl) }, refl)
+    → IsTrue test ↔ (a ≡ Plain (Refused refusal)) → IsReadWeighed old (Ok (RunBatch budget)) a (if test then Some (change.Refused (view.RunBatch budget)) else None)
+refused_weighed true old budget a refusal first tests = (old, record { first = Some refusal; refused = first; answered = (tests.0 refl, refl) }, (refl, refl))
 refused_weighed false old budget a refusal first tests = λ made serves.
     let refuses : Serves IsAdmissibleOutcome old (RunBatch budget) (Plain (Refused refusal)) old = record { first = Some refusal; refused = first; answered = (refl, refl) } in
     false≢true (tests.1 (one_refusal old (RunBatch budget) refusal a old made refuses serves).0)
@@ -117,7 +119,7 @@ pub batch_weighed : (old : Market) (budget : ℕ) (a : Answer Outcome) (o : part
 batch_weighed old budget a o first more found = (
   after_batch old (outcome_of old.orders o),
   record { first = None; refused = first; answered = found.1 },
-  record { right = found.0; more = more; made = refl },
+  record { asks = (budget, refl); right = found.0; more = more; made = refl },
 )
 
 -- if there is nothing to settle, the answer is no admissible outcome
@@ -131,7 +133,11 @@ batch_not_due old budget a first none = λ made serves.
 module _ (old : Market) (pair : Record × Record) where
   -- nothing is changed
   pub nothing_made : IsChangeOf old pair change.Nothing → IsLegalPair old pair old
-  nothing_made is = subst (IsLegalPair old pair) is.changes is.legal
+  nothing_made is = subst (IsLegalPair old pair) is.changes.1 is.legal
+
+  -- a refusal is answered
+  pub refused_made : (seen : CommandView) → IsChangeOf old pair (change.Refused seen) → IsLegalPair old pair old
+  refused_made seen is = subst (IsLegalPair old pair) is.changes.1 is.legal
 
   -- a batch is settled
   pub batch_made : (o : parts.Outcome) → IsChangeOf old pair (change.Batch o) → IsLegalPair old pair (after_batch old (outcome_of old.orders o))
@@ -145,6 +151,22 @@ module _ (old : Market) (pair : Record × Record) where
       let there = subst (λ r. ServesRead IsAdmissibleOutcome old r is.legal.answer is.new) is.changes.is_read is.legal.step.served in
       let here = plain_by_any IsAdmissibleOutcome old c (Plain told) new serves in
       subst (IsLegalPair old pair) (plain_commands_have_one_answer old c is.legal.answer (Plain told) is.new new is.changes.no_batch there here).1 is.legal
+
+-- ---- the command of an entry
+
+ok_is : (c d : Command) → ◌≡◌ {A = Result Command BodyFault} (Ok c) (Ok d) → c ≡ d
+ok_is c d same = cc
+
+ok_is_no_err : (c : Command) (why : BodyFault) → ◌≡◌ {A = Result Command BodyFault} (Ok c) (Err why) → ⊥
+ok_is_no_err c why same = cc
+
+-- what is read as no command is no command for a batch either
+pub is_no_command : (read : Result Command BodyFault) → (why : BodyFault) × (read ≡ Err why) → (command : Command) → read ≡ Ok command → (budget : ℕ) × (command ≡ RunBatch budget)
+is_no_command read (why, faulty) command is = absurd (ok_is_no_err command why (sym is ∙ faulty))
+
+-- what is read as a command for a batch is that command
+pub is_batch_command : (read : Result Command BodyFault) → (budget : ℕ) × (read ≡ Ok (RunBatch budget)) → (command : Command) → read ≡ Ok command → (budget : ℕ) × (command ≡ RunBatch budget)
+is_batch_command read (budget, asks) command is = (budget, ok_is command (RunBatch budget) (sym is ∙ asks))
 
 -- ---- answers of the code
 

@@ -1,5 +1,5 @@
 -- What the audit of one entry returns, and what it makes of the audit's market.
-use Rattle.std.specs.Prelude.{◌≡◌, ◌<◌, ℕ, Option, Some, None, Result, Ok}
+use Rattle.std.specs.Prelude.{◌≡◌, ◌<◌, ℕ, Option, Some, None, Result, Ok, Err}
 use Rattle.wire_records.specs.Records.{Record}
 use Rattle.wire_records.specs.Commands.{RunBatch}
 use Rattle.wire_records.specs.Commands as commands
@@ -14,7 +14,7 @@ use Rattle.batch_audit.specs.Legal.{IsLegalPair, IsIllegalPair}
 use Rattle.batch_audit.specs.declared.audit.Legality.{Legality}
 use Rattle.batch_audit.specs.declared.audit.Legality.TheVariants.{Legal, Illegal}
 use Rattle.batch_audit.specs.declared.change.Change.{Change}
-use Rattle.batch_audit.specs.declared.change.Change.TheVariants.{Nothing, Command, Batch}
+use Rattle.batch_audit.specs.declared.change.Change.TheVariants.{Nothing, Refused, Command, Batch}
 
 -- a valid entry makes the new market, and an invalid one leaves the old
 abbrev pub IsJudged : Legality → Market → Record × Record → Market → Type 0
@@ -27,17 +27,20 @@ pub record IsAcceptedPlain (old : Market) (read : Result commands.Command BodyFa
   pub no_batch : (budget : ℕ) → ¬ (command ≡ RunBatch budget)
   pub accepted : FirstRefusal old command None
 
--- the market may settle this outcome, and settling it makes the new market
-pub record IsSettling (old : Market) (outcome : Outcome) (new : Market) : Type 0 where
+-- the record asks for a batch, the market may settle this outcome, and settling it makes the new market
+pub record IsSettling (old : Market) (read : Result commands.Command BodyFault) (outcome : Outcome) (new : Market) : Type 0 where
+  pub asks : (budget : ℕ) × (read ≡ Ok (RunBatch budget))
   pub right : MaySettle old outcome
   pub more : old.batches < most_batches
   pub made : new ≡ after_batch old (outcome_of old.orders outcome)
 
--- a change of the old market that makes the new one, by what a record is read as: none, that of its command, or that of a batch
+-- a change of the old market that makes the new one, by what a record is read as: none, where that is no command or a command is refused,
+-- that of the command, or that of a batch
 abbrev pub Changes : Market → Result commands.Command BodyFault → Change → Market → Type 0
-Changes old read Nothing new = new ≡ old
+Changes old read Nothing new = ((why : BodyFault) × (read ≡ Err why)) × (new ≡ old)
+Changes old read (Refused seen) new = (read ≡ Ok (command_of seen)) × (new ≡ old)
 Changes old read (Command seen) new = IsAcceptedPlain old read (command_of seen)
-Changes old read (Batch outcome) new = IsSettling old outcome new
+Changes old read (Batch outcome) new = IsSettling old read outcome new
 
 -- the entry is valid, and this is what it changes
 pub record IsChangeOf (old : Market) (pair : Record × Record) (change : Change) : Type 0 where

@@ -1,12 +1,14 @@
 //! The audit of one entry: whether it is valid, and its step.
 ghost use Rattle.std.specs.Prelude.{◌≡◌, ◌+◌, ◌^◌, ◌<◌, IfOk, OnOk, OnErr};
+ghost use Rattle.journal_records.specs.Views.{answer_of};
+ghost use Rattle.journal_records.specs.Replies.{EncodesAnswer};
 ghost use Rattle.market_rules.specs.Allocating.{RecordMayAllocate};
 
 use crate::change::Change;
 use crate::explaining::finding_of;
 use crate::finding::Finding;
 use crate::judging::judge_record;
-use journal_records::{PairView, reply};
+use journal_records::{PairView, ReplyView, reply};
 use market_core::Market;
 use std::alloc::Global;
 use std::marker::Model;
@@ -93,7 +95,25 @@ impl Audit {
         // Only a new asset, account or order, or a batch, may run out of memory, and only if no refusal holds.
         ensures wanted { OnErr result (RecordMayAllocate self.old pair.now.0) }
     {
-        match self.judge(pair)? {
+        match reply(&pair.answered()) {
+            None => Ok(Legality::Illegal),
+            Some(seen) => Ok(self.replied_pair(pair, &seen)?),
+        }
+    }
+
+    // Makes the step of an entry whose second record encodes this answer, as `pair` does.
+    fn replied_pair(
+        &mut self,
+        pair: &PairView<'_>,
+        seen: &ReplyView<'_>,
+    ) -> Result<Legality, Memory>
+        requires seen { EncodesAnswer pair.now.1 (answer_of seen.now) }
+        requires next { self.old.next_order + 1 < 2 ^ 64 }
+        ensures judged { IfOk result (λ legality. IsJudged legality self.old pair.now self.new) }
+        ensures stays { OnErr result (self.new ≡ self.old) }
+        ensures wanted { OnErr result (RecordMayAllocate self.old pair.now.0) }
+    {
+        match self.judge(pair, seen)? {
             None => Ok(Legality::Illegal),
             Some(change) => {
                 self.make(pair, change)?;
@@ -103,25 +123,27 @@ impl Audit {
     }
 
     /// Returns what the entry changes in the market, which stays as it is: `None` exactly if the entry is no step of
-    /// it, so exactly if [`Audit::pair`] returns `Illegal`. The number that the next order gets is below 2^64 - 1.
+    /// it, so exactly if [`Audit::pair`] returns `Illegal`. `seen` is the answer that the entry's second record encodes, as
+    /// [`reply`] finds it; an entry whose second record encodes none is invalid. The number that the next order gets is
+    /// below 2^64 - 1.
     ///
     /// It costs what the audit of the entry costs without the step. Memory is taken for the start prices of a batch,
     /// for the prices, rates and residuals of an admissible clearing, and for the walk of a skip what a search takes,
     /// without its trace.
-    pub fn judge<'a>(&mut self, pair: &PairView<'a>) -> Result<Option<Change<'a>>, Memory>
+    pub fn judge<'a>(
+        &mut self,
+        pair: &PairView<'a>,
+        seen: &ReplyView<'_>,
+    ) -> Result<Option<Change<'a>>, Memory>
+        requires seen { EncodesAnswer pair.now.1 (answer_of seen.now) }
         requires next { self.old.next_order + 1 < 2 ^ 64 }
         ensures weighed { IfOk result (IsWeighed self.old pair.now) }
         ensures stays { self.new ≡ self.old }
         // Memory may run out only at a record for which the audit of the entry may allocate.
         ensures wanted { OnErr result (RecordMayAllocate self.old pair.now.0) }
     {
-        match reply(&pair.answered()) {
-            None => Ok(None),
-            Some(seen) => {
-                let asked = pair.asked();
-                Ok(judge_record(self.alloc, &mut self.market, &asked, &seen)?)
-            }
-        }
+        let asked = pair.asked();
+        Ok(judge_record(self.alloc, &mut self.market, &asked, seen)?)
     }
 
     /// Makes the step of an entry that was judged over this market: `change` is what [`Audit::judge`] returned for it.
@@ -138,6 +160,7 @@ impl Audit {
     {
         match change {
             Change::Nothing => Ok(()),
+            Change::Refused(_) => Ok(()),
             Change::Command(command) => {
                 self.market.make(&command)?;
                 Ok(())

@@ -24,6 +24,17 @@ fn nothing_where<'a>(test: bool) -> Option<Change<'a>>
     if test { Some(Change::Nothing) } else { None }
 }
 
+// Returns that a batch with this budget is refused if the test holds, and else `None`: there is no step.
+fn refused_where<'a>(test: bool, budget: u32) -> Option<Change<'a>>
+    ensures { result ≡ (if test then Some (Change.Refused (CommandView.RunBatch budget)) else None) }
+{
+    if test {
+        Some(Change::Refused(CommandView::RunBatch { budget }))
+    } else {
+        None
+    }
+}
+
 // Returns the refusal in a reply, if it is one.
 fn refusal_in(reply: Reply) -> Option<Refusal>
     ensures some { IfSome result (λ refusal. reply ≡ Reply.Refused refusal) }
@@ -55,7 +66,7 @@ fn judge_plain<'a>(
         return None;
     }
     match refusal_in(expected) {
-        Some(_refusal) => Some(Change::Nothing),
+        Some(_refusal) => Some(Change::Refused(command)),
         None => Some(Change::Command(command)),
     }
 }
@@ -73,7 +84,8 @@ fn judge_batch<'a>(
     ensures wanted { OnErr result (MayAllocate market.old (RunBatch budget)) }
 {
     if let Err(refusal) = market.batch_allowed(budget) {
-        return Ok(nothing_where(is_plain(seen, Reply::Refused(refusal))));
+        let refused = is_plain(seen, Reply::Refused(refusal));
+        return Ok(refused_where(refused, budget));
     }
     match outcome_for(alloc, market, budget, seen)? {
         None => Ok(None),

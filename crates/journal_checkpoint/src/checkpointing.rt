@@ -4,7 +4,7 @@ ghost use Rattle.market_rules.specs.Market.{Market as market_value};
 ghost use Rattle.journal_checkpoint.specs.Checkpointing.{checkpointing};
 
 use batch_audit::{Audit, Change};
-use journal_records::PairView;
+use journal_records::{PairView, ReplyView};
 use journal_words::OnPair;
 use market_core::Market;
 use market_snapshot::write_market;
@@ -48,6 +48,7 @@ impl OnPair for Checkpointing {
         &mut self,
         audit: &mut Audit,
         pair: &PairView<'_>,
+        _reply: &ReplyView<'_>,
         change: Change<'_>,
         _pairs: u64,
         _text: &mut Vec<u8>,

@@ -7,7 +7,7 @@ ghost use Rattle.journal_words.specs.Words.{counting};
 
 use crate::on_pair::OnPair;
 use batch_audit::{Audit, Change};
-use journal_records::PairView;
+use journal_records::{PairView, ReplyView};
 use word_driver::{Halt, Memory, put_number};
 
 // The bytes of the longest line: three numbers of 20 digits, and 34 bytes between them.
@@ -80,6 +80,7 @@ impl OnPair for Counting {
         &mut self,
         audit: &mut Audit,
         pair: &PairView<'_>,
+        _reply: &ReplyView<'_>,
         change: Change<'_>,
         _pairs: u64,
         _text: &mut Vec<u8>,

@@ -9,7 +9,7 @@ use crate::counting::Counting;
 use crate::on_pair::OnPair;
 use batch_audit::{Audit, Change, Finding};
 use batch_certificate::Verdict;
-use journal_records::PairView;
+use journal_records::{PairView, ReplyView};
 use wire_records::Reply;
 use word_driver::{Halt, Memory, put_number, put_text};
 
@@ -134,11 +134,12 @@ impl OnPair for Explaining {
         &mut self,
         audit: &mut Audit,
         pair: &PairView<'_>,
+        reply: &ReplyView<'_>,
         change: Change<'_>,
         pairs: u64,
         text: &mut Vec<u8>,
     ) -> Result<(), Memory> {
-        self.counting.legal(audit, pair, change, pairs, text)
+        self.counting.legal(audit, pair, reply, change, pairs, text)
     }
 
     fn illegal(

@@ -1,5 +1,7 @@
 //! What is done with the entries of a journal.
 ghost use Rattle.std.specs.Prelude.{◌≡◌, ◌≤◌, ◌<◌, ◌+◌, ◌^◌, ℕ, [], Some, IfOk, OnOk, OnErr, vec_len, vec_capacity};
+ghost use Rattle.journal_records.specs.Views.{answer_of};
+ghost use Rattle.journal_records.specs.Replies.{EncodesAnswer};
 ghost use Rattle.market_rules.specs.Market.{Market};
 ghost use Rattle.batch_audit.specs.Legal.{IsIllegalPair};
 ghost use Rattle.batch_audit.specs.Judging.{IsChangeOf};
@@ -7,7 +9,7 @@ ghost use Rattle.journal_words.specs.Watching.{Watch, Illegal, SeesOne, Allocate
 ghost use Rattle.journal_words.specs.Private.{IsClosedBy};
 
 use batch_audit::{Audit, Change};
-use journal_records::PairView;
+use journal_records::{PairView, ReplyView};
 use word_driver::{Halt, Memory};
 
 /// What is done with each valid entry of a journal, with the first invalid one, and at the end. The text is put into a
@@ -33,15 +35,18 @@ pub trait OnPair {
     // The invariant is a proposition, so that a struct may hold it.
     ghost within_is_prop: { (state : Self) (market : Market) (pairs : ℕ) → IsProp (is_within state market pairs) };
 
-    /// Takes an entry that the audit has just judged valid: makes its change in the audit, and puts its text into the buffer.
+    /// Takes an entry that the audit has just judged valid: makes its change in the audit, and puts its text into the buffer. `reply` is
+    /// the answer that its second record encodes, and the change has its command, so no record needs to be read again.
     fn legal(
         &mut self,
         audit: &mut Audit,
         pair: &PairView<'_>,
+        reply: &ReplyView<'_>,
         change: Change<'_>,
         pairs: u64,
         text: &mut Vec<u8>,
     ) -> Result<(), Memory>
+        requires replied { EncodesAnswer pair.now.1 (answer_of reply.now) }
         requires change { IsChangeOf audit.old pair.now change }
         requires next { audit.old.next_order + 2 < 2 ^ 64 }
         requires within { is_within self.old audit.old pairs }

@@ -1,7 +1,10 @@
 //! The audit of a journal as a subcommand, with what is done with its entries.
-ghost use Rattle.std.specs.Prelude.{◌≡◌, ◌≤◌, ◌<◌, ◌+◌, ◌^◌, ◌↔◌, ℕ, List, [], length, IsTrue, OnOk, IfErr, Some, vec_len, vec_capacity};
+ghost use Rattle.std.specs.Prelude.{◌≡◌, ◌≤◌, ◌<◌, ◌+◌, ◌^◌, ◌↔◌, ℕ, List, [], length, IsTrue, IsErr, OnOk, IfErr, Some, vec_len, vec_capacity};
 ghost use Rattle.wire_records.specs.declared.version.Version.{Version};
+ghost use Rattle.journal_records.specs.Views.{answer_of};
+ghost use Rattle.journal_records.specs.Replies.{EncodesAnswer};
 ghost use Rattle.market_rules.specs.Market.{empty_market};
+ghost use Rattle.batch_audit.specs.Legal.{IsIllegalPair};
 ghost use Rattle.word_driver.specs.Private.{HaltsWith};
 ghost use Rattle.journal_words.specs.Watching.{SeesOne, over_pairs};
 ghost use Rattle.journal_words.specs.Private.{HasRoom};
@@ -9,7 +12,9 @@ ghost use Rattle.journal_words.specs.Private.{HasRoom};
 use crate::on_pair::OnPair;
 use batch_audit::Audit;
 use file_units::Prefix;
-use journal_records::{MOST_PAIR, PairFramed, PairView, is_overlong, journal_version, next_pair};
+use journal_records::{
+    MOST_PAIR, PairFramed, PairView, ReplyView, is_overlong, journal_version, next_pair, reply,
+};
 use market_core::Market;
 use std::alloc::Global;
 use word_driver::{Halt, ServesWord};
@@ -74,25 +79,67 @@ impl<P: OnPair + Drop> Pairs<P> {
             (record { market = self.old.audit; pairs = self.old.pairs; seen = P.seen self.old.on self.old.audit })
             (Some pair.now) halt text.new.items) }
     {
-        let change = match self.audit.judge(pair) {
+        match reply(&pair.answered()) {
+            Some(reply) => self.take_replied(pair, &reply, text),
+            None => self.reject(pair, text),
+        }
+    }
+
+    // Audits an entry whose second record encodes this answer, and hands it to `on`.
+    fn take_replied(
+        &mut self,
+        pair: &PairView<'_>,
+        reply: &ReplyView<'_>,
+        text: &mut Vec<u8>,
+    ) -> Result<(), Halt<P::Stop>>
+        requires replied { EncodesAnswer pair.now.1 (answer_of reply.now) }
+        requires next { self.old.audit.next_order + 2 < 2 ^ 64 }
+        requires few { self.old.pairs + 1 < 2 ^ 64 }
+        requires empty { text.old.items ≡ [] }
+        requires none { vec_len text.old ≡ 0 }
+        requires room { P.ROOM ≤ vec_capacity text.old }
+        ensures room { vec_capacity text.old ≤ vec_capacity text.new }
+        ensures seen { OnOk result (SeesOne P.watch
+            (record { market = self.old.audit; pairs = self.old.pairs; seen = P.seen self.old.on self.old.audit }) pair.now
+            (record { market = self.new.audit; pairs = self.new.pairs; seen = P.seen self.new.on self.new.audit }) text.new.items) }
+        ensures halted { IfErr result (λ halt. HaltsWith (over_pairs P.watch)
+            (record { market = self.old.audit; pairs = self.old.pairs; seen = P.seen self.old.on self.old.audit })
+            (Some pair.now) halt text.new.items) }
+    {
+        let change = match self.audit.judge(pair, reply) {
             Ok(Some(change)) => change,
-            Ok(None) => {
-                return match self.on.illegal(&mut self.audit, pair, self.pairs, text) {
-                    Ok(why) => Err(Halt::Stopped(why)),
-                    Err(_) => Err(Halt::Memory),
-                };
-            }
+            Ok(None) => return self.reject(pair, text),
             Err(_) => return Err(Halt::Memory),
         };
         match self
             .on
-            .legal(&mut self.audit, pair, change, self.pairs, text)
+            .legal(&mut self.audit, pair, reply, change, self.pairs, text)
         {
             Ok(()) => {}
             Err(_) => return Err(Halt::Memory),
         }
         self.pairs += 1;
         Ok(())
+    }
+
+    // Hands the first invalid entry to `on`, and stops there.
+    fn reject(&mut self, pair: &PairView<'_>, text: &mut Vec<u8>) -> Result<(), Halt<P::Stop>>
+        requires illegal { IsIllegalPair self.old.audit pair.now }
+        requires next { self.old.audit.next_order + 1 < 2 ^ 64 }
+        requires few { self.old.pairs + 1 < 2 ^ 64 }
+        requires empty { text.old.items ≡ [] }
+        requires none { vec_len text.old ≡ 0 }
+        requires room { P.ROOM ≤ vec_capacity text.old }
+        ensures room { vec_capacity text.old ≤ vec_capacity text.new }
+        ensures stops { IsErr result }
+        ensures halted { IfErr result (λ halt. HaltsWith (over_pairs P.watch)
+            (record { market = self.old.audit; pairs = self.old.pairs; seen = P.seen self.old.on self.old.audit })
+            (Some pair.now) halt text.new.items) }
+    {
+        match self.on.illegal(&mut self.audit, pair, self.pairs, text) {
+            Ok(why) => Err(Halt::Stopped(why)),
+            Err(_) => Err(Halt::Memory),
+        }
     }
 }
 

@@ -5,7 +5,7 @@ ghost use Rattle.journal_words.specs.Words.{telling};
 use crate::on_pair::OnPair;
 use batch_audit::{Audit, Change};
 use batch_report::report_pair;
-use journal_records::PairView;
+use journal_records::{PairView, ReplyView};
 use word_driver::{Halt, Memory};
 
 /// Writes the lines of each valid entry.
@@ -33,6 +33,7 @@ impl OnPair for Telling {
         &mut self,
         audit: &mut Audit,
         pair: &PairView<'_>,
+        _reply: &ReplyView<'_>,
         change: Change<'_>,
         pairs: u64,
         text: &mut Vec<u8>,

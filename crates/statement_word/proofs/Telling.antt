@@ -92,9 +92,9 @@ pub carried : (number other : ℕ) (m n : Market) (kept later : Option Statement
 carried number other m n kept later named moved same of =
     subst (λ (k : ℕ). IsOf k n later) (sym named) (subst (λ (k : Market). IsOf number k later) (sym moved) (subst (λ (o : Option Statement). IsOf number m o) (sym same) of))
 
--- a valid entry is one in an equal market
-pub legal_at : (m at : Market) (pair : Record × Record) (change : Change) → at ≡ m → IsChangeOf m pair change → (next : Market) × IsLegalPair at pair next
-legal_at m at pair change moved is = (is.new, subst (λ (k : Market). IsLegalPair k pair is.new) (sym moved) is.legal)
+-- a change of a market is one of an equal market
+pub change_at : (m at : Market) (pair : Record × Record) (change : Change) → at ≡ m → IsChangeOf m pair change → IsChangeOf at pair change
+change_at m at pair change moved is = subst (λ (k : Market). IsChangeOf k pair change) (sym moved) is
 
 -- the lines of an entry were written, and its change made
 pub pair_done : (number other : ℕ) (m at next : Market) (pair : Record × Record) (kept : Option Statement) (text : List ℕ) (pairs : ℕ) → other ≡ number → at ≡ m

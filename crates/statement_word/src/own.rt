@@ -5,14 +5,18 @@ ghost use Rattle.market_rules.specs.Market.{Market as market_value, empty_market
 ghost use Rattle.flow_accounts.specs.Balances.{IsAccount};
 ghost use Rattle.statement_rules.specs.Statements.{carried_lines};
 ghost use Rattle.account_statement.specs.Telling.{AllocatesCopy};
+ghost use Rattle.journal_records.specs.Views.{answer_of};
+ghost use Rattle.journal_records.specs.Replies.{EncodesAnswer};
 ghost use Rattle.batch_audit.specs.Legal.{IsLegalPair};
+ghost use Rattle.batch_audit.specs.Judging.{IsChangeOf};
 ghost use Rattle.journal_words.specs.Private.{IsClosedBy};
 ghost use Rattle.statement_word.specs.Stating.{stating};
 ghost use Rattle.statement_word.specs.Private.{IsOf, HasTold};
 
 use crate::no_statement::NoStatement;
 use account_statement::Statement;
-use journal_records::PairView;
+use batch_audit::Change;
+use journal_records::{PairView, ReplyView};
 use market_core::Market;
 use std::alloc::Global;
 use word_driver::{Halt, Memory};
@@ -81,16 +85,19 @@ impl Own {
         }
     }
 
-    // Takes a valid entry: puts the lines of what the account sees of it into the buffer, which is empty. After `Memory` the statement is
-    // unchanged.
+    // Takes a valid entry, with its reply and what it changes: puts the lines of what the account sees of it into the buffer, which is
+    // empty. After `Memory` the statement is unchanged.
     pub(crate) fn tell(
         &mut self,
         market: &Market,
         pair: &PairView<'_>,
+        reply: &ReplyView<'_>,
+        change: &Change<'_>,
         text: &mut Vec<u8>,
     ) -> Result<(), Memory>
         requires is_of { IsOf self.old.number market.now self.old.statement }
-        requires legal { (next : market_value) × IsLegalPair market.now pair.now next }
+        requires replied { EncodesAnswer pair.now.1 (answer_of reply.now) }
+        requires change { IsChangeOf market.now pair.now change.now }
         requires empty { text.old.items ≡ [] }
         ensures number { self.new.number ≡ self.old.number }
         ensures told { OnOk result ((next : market_value) (legal : IsLegalPair market.now pair.now next)
@@ -99,7 +106,7 @@ impl Own {
         ensures room { vec_capacity text.old ≤ vec_capacity text.new }
     {
         match &mut self.statement {
-            Some(statement) => statement.pair(market, pair, text),
+            Some(statement) => statement.pair(market, pair, reply, change, text),
             None => {
                 // Called for its contract: the market is consistent.
                 let _consistent = market.version();

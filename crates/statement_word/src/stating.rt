@@ -8,7 +8,7 @@ use crate::no_statement::NoStatement;
 use crate::own::Own;
 use batch_audit::{Audit, Change};
 use history_words::OnHistory;
-use journal_records::PairView;
+use journal_records::{PairView, ReplyView};
 use journal_words::OnPair;
 use market_core::Market;
 use std::alloc::Global;
@@ -84,11 +84,12 @@ impl OnPair for Stating {
         &mut self,
         audit: &mut Audit,
         pair: &PairView<'_>,
+        reply: &ReplyView<'_>,
         change: Change<'_>,
         _pairs: u64,
         text: &mut Vec<u8>,
     ) -> Result<(), Memory> {
-        match self.own.tell(audit.market(), pair, text) {
+        match self.own.tell(audit.market(), pair, reply, &change, text) {
             Ok(()) => {}
             Err(_) => return Err(Memory),
         }

@@ -7,8 +7,8 @@ use Rattle.batch_audit.proofs.judging.judge_batch.Goals as goal
 
 pub returns-in-Err-clause-weighed : goal.returns-in-Err-clause-weighed
 returns-in-Err-clause-weighed c =
-    subst (IsReadWeighed c.args.market.now (Ok (RunBatch c.args.budget)) (answer_of c.args.seen.now)) (sym c.nothing_where.ensures)
-    (refused_weighed c.is_plain.result c.args.market.now c.args.budget (answer_of c.args.seen.now) c.in-Err.refusal c.in-Err.ensures.first c.is_plain.ensures)
+    subst (IsReadWeighed c.args.market.now (Ok (RunBatch c.args.budget)) (answer_of c.args.seen.now)) (sym c.refused_where.ensures)
+    (refused_weighed c.is_plain-refused.result c.args.market.now c.args.budget (answer_of c.args.seen.now) c.in-Err.refusal c.in-Err.ensures.first c.is_plain-refused.ensures)
 
 pub returns-in-None-clause-weighed : goal.returns-in-None-clause-weighed
 returns-in-None-clause-weighed c =

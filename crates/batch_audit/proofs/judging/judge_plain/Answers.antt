@@ -17,5 +17,5 @@ returns-in-None c =
 
 pub returns-in-Some : goal.returns-in-Some
 returns-in-Some c =
-    refused_answer c.args.market.now (command_of c.args.command) c.requires.no_batch c.expected-expected.result c.expected-expected.ensures (answer_of c.args.seen.now) c.in-Some._refusal
+    refused_answer c.args.market.now (command_of c.args.command) c.requires.no_batch c.expected-expected.result c.expected-expected.ensures c.args.command refl (answer_of c.args.seen.now) c.in-Some._refusal
     (c.is_plain.ensures.0 c.if-not-is_plain.false) c.in-Some.ensures.some

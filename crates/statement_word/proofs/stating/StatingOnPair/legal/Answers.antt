@@ -1,7 +1,7 @@
 use Rattle.std.proofs.Common.{refl}
 use Rattle.wire_records.specs.declared.version.Version.TheVariants.{One}
 use Rattle.market_rules.specs.Market.{empty_market}
-use Rattle.statement_word.proofs.Telling.{carried, legal_at, pair_done}
+use Rattle.statement_word.proofs.Telling.{carried, change_at, pair_done}
 use Rattle.statement_word.proofs.stating.StatingOnPair.legal.Goals as goal
 
 pub tell-requires-clause-is_of : goal.tell-requires-clause-is_of
@@ -9,8 +9,8 @@ tell-requires-clause-is_of c =
     let own = c.args.self.now.own in
     carried own.number own.number c.args.audit.now c.market.result.now own.statement own.statement refl c.market.ensures.value refl c.requires.within
 
-pub tell-requires-clause-legal : goal.tell-requires-clause-legal
-tell-requires-clause-legal c = legal_at c.args.audit.now c.market.result.now c.args.pair.now c.args.change c.market.ensures.value c.requires.change
+pub tell-requires-clause-change : goal.tell-requires-clause-change
+tell-requires-clause-change c = change_at c.args.audit.now c.market.result.now c.args.pair.now c.args.change c.market.ensures.value c.requires.change
 
 pub returns-in-Err-clause-stays : goal.returns-in-Err-clause-stays
 returns-in-Err-clause-stays c =
