@@ -36,8 +36,8 @@ abbrev pub curves_of : Ladder → List Terms
 curves_of l = map curve_of (segments_of l)
 
 -- a segment's order as it is placed: nothing is filled, and there is no last batch
-abbrev pub order_of : ℕ → ℕ → List Entry → Segment → Order
-order_of number account row s = record {
+abbrev pub segment_order : ℕ → ℕ → List Entry → Segment → Order
+segment_order number account row s = record {
   number = number;
   account = account;
   low = price_of_ticks s.low;

@@ -4,7 +4,7 @@ ghost use Rattle.demand_curve.specs.Demand.{IsWithin, most_rate};
 ghost use Rattle.flow_orders.specs.Orders.{most_ticks, IsFrom1To};
 ghost use Rattle.curve_ladder.specs.declared.faults.LadderFault.{LadderFault};
 ghost use Rattle.curve_ladder.specs.Ladders.{IsLadder, most_points};
-ghost use Rattle.curve_ladder.specs.Faults.{FailsFirstAt, IsFaultOf, HasConsistentPriceAt, HasConsistentRateAt, HasConsistentPrices, HasConsistentRates};
+ghost use Rattle.curve_ladder.specs.Faults.{FailsFirstAt, IsLadderFault, HasConsistentPriceAt, HasConsistentRateAt, HasConsistentPrices, HasConsistentRates};
 
 use crate::points::Point;
 use flow_orders::{MOST_RATE, MOST_TICKS};
@@ -37,7 +37,7 @@ pub enum LadderFault {
 /// Costs at most two passes over the points, and none if their number is wrong.
 pub fn ladder_fault(points: &[Point], turns: u32) -> Option<LadderFault>
     ensures exact { (fault : Option LadderFault) → (result ≡ fault)
-        ↔ IsFaultOf (record { points = points.now; turns = turns }) fault }
+        ↔ IsLadderFault (record { points = points.now; turns = turns }) fault }
     ensures lawful { IsNone result ↔ IsLadder (record { points = points.now; turns = turns }) }
 {
     if points.len() < LEAST_POINTS || points.len() > MOST_POINTS {

@@ -4,7 +4,7 @@ ghost use Rattle.std.specs.List.{AllWithin};
 ghost use Rattle.flow_orders.specs.Orders.{price_of_ticks};
 ghost use Rattle.flow_orders.specs.Trades.{trades};
 ghost use Rattle.curve_ladder.specs.Segments.{segments_of};
-ghost use Rattle.curve_ladder.specs.Totals.{IsOrderOf, AreAllThere, AreAscending, AreRoundings, total_of, IsNearValue};
+ghost use Rattle.curve_ladder.specs.Totals.{IsOrderOf, AreAllThere, AreAscending, AreRoundings, ladder_total, IsNearValue};
 ghost use Rattle.curve_ladder.specs.Private.{AreBefore};
 
 use crate::ladder::Ladder;
@@ -43,7 +43,7 @@ impl Ladder {
         requires one_rate_each { length rates.now ≡ length orders.now }
         requires roundings { AreRoundings prices.now (trades orders.now rates.now) }
         ensures there { IsSome result ↔ AreAllThere self.now first orders.now }
-        ensures total { IfSome result (λ x. x ≡ total_of self.now first orders.now rates.now) }
+        ensures total { IfSome result (λ x. x ≡ ladder_total self.now first orders.now rates.now) }
         ensures near { IfSome result (IsNearValue self.now first orders.now prices.now) }
     {
         let place = place_from(orders, first);

@@ -9,7 +9,7 @@ use Rattle.market_snapshot.specs.Checkpoints.{checkpoint_magic}
 use Rattle.encode_word.specs.declared.stop.EncodeStop.{EncodeStop}
 use Rattle.encode_word.specs.declared.stop.EncodeStop.TheVariants.{NoCheckpoint}
 use Rattle.encode_word.specs.Starts.{known_after, IsCut}
-use Rattle.encode_word.specs.Encoding.{LinesTo, EncodesLines, Encodes, EncodesInto, EncodesShort}
+use Rattle.encode_word.specs.Encoding.{LinesTo, EncodesLines, EncodesInput, EncodesInto, EncodesShort}
 use Rattle.encode_word.proofs.Starting.{magic_uncut, one_start, start_unkept, start_uncut, cut_alike, before_alike}
 use Rattle.encode_word.proofs.LinesTo.{lines_one, lines_some, to_alike, into_alike, short_alike}
 
@@ -22,7 +22,7 @@ module _ (version : Version) where
       lines_one version (known_after b.start) More b.lines ended other x y (subst (λ (lines : List ℕ). LinesTo version (known_after b.start) More lines ended x) one.1 here) b.comes
 
   -- considered bytes result in one end
-  pub encodes_one : (More : Type 0) (bytes : List ℕ) (ended other : Ended EncodeStop) (x y : List ℕ) → Encodes version More bytes ended x → Encodes version More bytes other y → (ended ≡ other) × (x ≡ y)
+  pub encodes_one : (More : Type 0) (bytes : List ℕ) (ended other : Ended EncodeStop) (x y : List ℕ) → EncodesInput version More bytes ended x → EncodesInput version More bytes other y → (ended ≡ other) × (x ≡ y)
   encodes_one More bytes ended other x y (inl a) (inl b) = one_of_lines More bytes ended other x y a b
   encodes_one More bytes ended other x y (inl a) (inr (inl b)) = absurd (start_unkept version More bytes a.start a.lines a.begins b.0)
   encodes_one More bytes ended other x y (inl a) (inr (inr b)) = absurd (start_uncut version More bytes a.start a.lines a.begins b.0)
@@ -65,7 +65,7 @@ cut_or_not More (inl more) bytes =
 
 module _ (version : Version) where
   -- if it isn't cut, nothing is before the lines, or a checkpoint begins, perhaps of a market of the version
-  some_uncut : (More : Type 0) → More ⊎ (¬ More) → (bytes : List ℕ) → (IsCut More bytes → ⊥) → ((ended : Ended EncodeStop) (text : List ℕ) → ¬ Encodes version More bytes ended text) → ⊥
+  some_uncut : (More : Type 0) → More ⊎ (¬ More) → (bytes : List ℕ) → (IsCut More bytes → ⊥) → ((ended : Ended EncodeStop) (text : List ℕ) → ¬ EncodesInput version More bytes ended text) → ⊥
   some_uncut More more bytes uncut none =
       elim (begins_or_not checkpoint_magic bytes) [
         | inl magic ↦
@@ -78,7 +78,7 @@ module _ (version : Version) where
       ]
 
   -- considered bytes result in some end
-  pub encodes_some : (More : Type 0) → More ⊎ (¬ More) → (bytes : List ℕ) → ((ended : Ended EncodeStop) (text : List ℕ) → ¬ Encodes version More bytes ended text) → ⊥
+  pub encodes_some : (More : Type 0) → More ⊎ (¬ More) → (bytes : List ℕ) → ((ended : Ended EncodeStop) (text : List ℕ) → ¬ EncodesInput version More bytes ended text) → ⊥
   encodes_some More more bytes none =
       elim (cut_or_not More more bytes) [
         | inl cut ↦ none (Err TooLong) [] (inr (inr (cut, refl, refl)))
@@ -87,7 +87,7 @@ module _ (version : Version) where
 
   -- what they result in depends only on whether the input has more
   module _ (P Q : Type 0) (same : P ↔ Q) (bytes : List ℕ) where
-    pub encodes_alike : (ended : Ended EncodeStop) (text : List ℕ) → Encodes version P bytes ended text → Encodes version Q bytes ended text
+    pub encodes_alike : (ended : Ended EncodeStop) (text : List ℕ) → EncodesInput version P bytes ended text → EncodesInput version Q bytes ended text
     encodes_alike ended text (inl lines) =
         inl (record { start = lines.start; lines = lines.lines; begins = before_alike version P Q same bytes lines.start lines.lines lines.begins; comes = to_alike version (known_after lines.start) P Q same lines.lines ended text lines.comes })
     encodes_alike ended text (inr (inl unkept)) = inr (inl unkept)

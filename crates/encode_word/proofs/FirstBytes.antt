@@ -11,19 +11,19 @@ use Rattle.word_driver.specs.Ended.{Ended}
 use Rattle.market_rules.specs.Market.{Market}
 use Rattle.market_snapshot.specs.Checkpoints.{checkpoint_magic, checkpoint_bytes, HasCheckpointMagic}
 use Rattle.order_text.specs.Lines.{SaysNothing}
-use Rattle.line_records.specs.Lines.{IsPiece, ended_by_feeds, AreLines, AreFirst, Say, encode_commands}
+use Rattle.line_records.specs.Lines.{HasNoFeed, ended_by_feeds, AreLines, AreFirst, Say, encode_commands}
 use Rattle.line_records.proofs.Pieces.{ended_lines, line_or_piece, empty_piece}
 use Rattle.line_records.proofs.OneReadings.{before_next}
 use Rattle.encode_word.specs.declared.stop.EncodeStop.{EncodeStop}
 use Rattle.encode_word.specs.declared.stop.EncodeStop.TheVariants.{NoCommand}
-use Rattle.encode_word.specs.Starts.{known_after, IsCut, BeginsKept, IsBefore}
-use Rattle.encode_word.specs.Encoding.{LinesTo, Encodes, EncodesInto, EncodesShort}
+use Rattle.encode_word.specs.Starts.{known_after, IsCut, BeginsKept, PrecedesLines}
+use Rattle.encode_word.specs.Encoding.{LinesTo, EncodesInput, EncodesInto, EncodesShort}
 use Rattle.encode_word.proofs.LinesTo.{EncodeEnds}
 use Rattle.encode_word.proofs.Encoding.{begins_or_not}
 use Rattle.encode_word.proofs.NoLine.{no_line}
 
 -- the magic of a checkpoint has no line feed
-magic_piece : IsPiece checkpoint_magic
+magic_piece : HasNoFeed checkpoint_magic
 magic_piece (k, inside, is) = at k inside is
   where
     at : (k : ℕ) → k < 8 → get_or checkpoint_magic k 10 ≡ 10 → ⊥
@@ -65,8 +65,8 @@ taken bytes first rest whole = ap (take (length first)) whole ∙ take_at first 
 parts : (bytes : List ℕ) (read more : List (List ℕ)) (last : List ℕ) → bytes ≡ ended_by_feeds (read ++ more) ++ last → bytes ≡ ended_by_feeds read ++ (ended_by_feeds more ++ last)
 parts bytes read more last whole = whole ∙ ap (λ xs. xs ++ last) (flat_map-append ended_lines.encode read more) ∙ append_assoc (ended_by_feeds read) (ended_by_feeds more) last
 
-first_pieces : (read more : List (List ℕ)) → All IsPiece (read ++ more) → All IsPiece read
-first_pieces read more pieces = subst (All IsPiece) (take_at read more (length read) refl) (All-take IsPiece (length read) (read ++ more) pieces)
+first_pieces : (read more : List (List ℕ)) → All HasNoFeed (read ++ more) → All HasNoFeed read
+first_pieces read more pieces = subst (All HasNoFeed) (take_at read more (length read) refl) (All-take HasNoFeed (length read) (read ++ more) pieces)
 
 module _ (version : Version) where
   abbrev text_of : List Command → List ℕ
@@ -74,19 +74,19 @@ module _ (version : Version) where
 
   -- what first bytes result in if more follow, whatever it is
   abbrev pub ComeIfMore : List ℕ → List ℕ → Type 0
-  ComeIfMore first text = (next : ℕ) (more : List ℕ) → (ended : Ended EncodeStop) × Encodes version (length first < length (first ++ next ∷ more)) (take (length first) (first ++ next ∷ more)) ended text
+  ComeIfMore first text = (next : ℕ) (more : List ℕ) → (ended : Ended EncodeStop) × EncodesInput version (length first < length (first ++ next ∷ more)) (take (length first) (first ++ next ∷ more)) ended text
 
-  if_more : (first text : List ℕ) → ((Longer : Type 0) → Longer → (ended : Ended EncodeStop) × Encodes version Longer first ended text) → ComeIfMore first text
+  if_more : (first text : List ℕ) → ((Longer : Type 0) → Longer → (ended : Ended EncodeStop) × EncodesInput version Longer first ended text) → ComeIfMore first text
   if_more first text come = λ next more.
       let some = come (length first < length (first ++ next ∷ more)) (omega (arith, length-append first (next ∷ more))) in
-      (some.0, subst (λ (xs : List ℕ). Encodes version (length first < length (first ++ next ∷ more)) xs some.0 text) (sym (taken (first ++ next ∷ more) first (next ∷ more) refl)) some.1)
+      (some.0, subst (λ (xs : List ℕ). EncodesInput version (length first < length (first ++ next ∷ more)) xs some.0 text) (sym (taken (first ++ next ∷ more) first (next ∷ more) refl)) some.1)
 
   -- without bytes it isn't seen yet whether a checkpoint begins
   pub no_bytes : ComeIfMore [] []
   no_bytes = if_more [] [] (λ Longer longer. (Err TooLong, inr (inr ((longer, omega arith, (checkpoint_magic, refl)), refl, refl))))
 
   -- ended lines result in the records that they ask for
-  lines_come : (known read tickers : List (List ℕ)) (commands : List Command) → All IsPiece read → Say version known read commands tickers → (Longer : Type 0) → Longer → LinesTo version known Longer (ended_by_feeds read) (Err TooLong) (text_of commands)
+  lines_come : (known read tickers : List (List ℕ)) (commands : List Command) → All HasNoFeed read → Say version known read commands tickers → (Longer : Type 0) → Longer → LinesTo version known Longer (ended_by_feeds read) (Err TooLong) (text_of commands)
   lines_come known read tickers commands pieces say Longer longer = record {
     bad = None;
     commands = commands;
@@ -103,7 +103,7 @@ module _ (version : Version) where
   }
 
   -- the first lines after a checkpoint
-  kept_first : (bytes : List ℕ) (market : Market) (lines : List ℕ) → BeginsKept version bytes market lines → (read more tickers : List (List ℕ)) (last : List ℕ) (commands : List Command) → lines ≡ ended_by_feeds (read ++ more) ++ last → All IsPiece (read ++ more)
+  kept_first : (bytes : List ℕ) (market : Market) (lines : List ℕ) → BeginsKept version bytes market lines → (read more tickers : List (List ℕ)) (last : List ℕ) (commands : List Command) → lines ≡ ended_by_feeds (read ++ more) ++ last → All HasNoFeed (read ++ more)
       → Say version market.tickers read commands tickers → (n : ℕ) × ComeIfMore (take n bytes) (text_of commands)
   kept_first bytes market lines kept read more tickers last commands whole pieces say =
       let encoded = ended_by_feeds read in
@@ -122,7 +122,7 @@ module _ (version : Version) where
       )
 
   -- some first lines without a checkpoint
-  plain_first : (bytes : List ℕ) → ¬ HasCheckpointMagic bytes → (line : List ℕ) (read more tickers : List (List ℕ)) (last : List ℕ) (commands : List Command) → bytes ≡ ended_by_feeds ((line ∷ read) ++ more) ++ last → All IsPiece ((line ∷ read) ++ more)
+  plain_first : (bytes : List ℕ) → ¬ HasCheckpointMagic bytes → (line : List ℕ) (read more tickers : List (List ℕ)) (last : List ℕ) (commands : List Command) → bytes ≡ ended_by_feeds ((line ∷ read) ++ more) ++ last → All HasNoFeed ((line ∷ read) ++ more)
       → Say version [] (line ∷ read) commands tickers → (n : ℕ) × ComeIfMore (take n bytes) (text_of commands)
   plain_first bytes plain line read more tickers last commands whole pieces say =
       let first = ended_by_feeds (line ∷ read) in
@@ -145,7 +145,7 @@ module _ (version : Version) where
   -- ---- the magic alone
 
   -- a piece of no checkpoint's magic results in it
-  piece_comes : (piece : List ℕ) → IsPiece piece → ¬ HasCheckpointMagic piece → (Longer : Type 0) → Longer → ¬ IsCut Longer piece → Encodes version Longer piece (Err TooLong) (text_of [])
+  piece_comes : (piece : List ℕ) → HasNoFeed piece → ¬ HasCheckpointMagic piece → (Longer : Type 0) → Longer → ¬ IsCut Longer piece → EncodesInput version Longer piece (Err TooLong) (text_of [])
   piece_comes piece is plain Longer longer uncut = inl (record {
     start = None;
     lines = piece;
@@ -157,7 +157,7 @@ module _ (version : Version) where
         lines = [];
         read = [];
         tickers = [];
-        split = record { ended = []; last = piece; whole = refl; pieces = All-nil IsPiece; piece = is; all = inl (refl, inl longer) };
+        split = record { ended = []; last = piece; whole = refl; pieces = All-nil HasNoFeed; piece = is; all = inl (refl, inl longer) };
         say = (refl, refl);
         stops = refl;
       };
@@ -167,7 +167,7 @@ module _ (version : Version) where
   })
 
   -- so does one line that is a part of a checkpoint's magic, whether it is ended or not: it is blank, or no command
-  part_comes : (More : Type 0) (bytes line rest : List ℕ) → checkpoint_magic ≡ line ++ rest → AreLines More bytes (line ∷ []) → ¬ HasCheckpointMagic bytes → ¬ IsCut More bytes → (ended : Ended EncodeStop) × EncodeEnds More None ended → (ended : Ended EncodeStop) × Encodes version More bytes ended (text_of [])
+  part_comes : (More : Type 0) (bytes line rest : List ℕ) → checkpoint_magic ≡ line ++ rest → AreLines More bytes (line ∷ []) → ¬ HasCheckpointMagic bytes → ¬ IsCut More bytes → (ended : Ended EncodeStop) × EncodeEnds More None ended → (ended : Ended EncodeStop) × EncodesInput version More bytes ended (text_of [])
   part_comes More bytes [] rest e split plain uncut ends = (
     ends.0,
     inl (record {
@@ -208,14 +208,14 @@ module _ (version : Version) where
 
   -- some first bytes result in it if more follow, or all bytes do
   abbrev pub GetsFirst : Type 0 → List ℕ → List ℕ → Type 0
-  GetsFirst More bytes text = ((n : ℕ) × ComeIfMore (take n bytes) text) ⊎ ((ended : Ended EncodeStop) × Encodes version More bytes ended text)
+  GetsFirst More bytes text = ((n : ℕ) × ComeIfMore (take n bytes) text) ⊎ ((ended : Ended EncodeStop) × EncodesInput version More bytes ended text)
 
   -- first bytes that result in it
-  first_gets : (More : Type 0) (bytes first rest : List ℕ) → bytes ≡ first ++ rest → ((Longer : Type 0) → Longer → (ended : Ended EncodeStop) × Encodes version Longer first ended (text_of [])) → GetsFirst More bytes (text_of [])
+  first_gets : (More : Type 0) (bytes first rest : List ℕ) → bytes ≡ first ++ rest → ((Longer : Type 0) → Longer → (ended : Ended EncodeStop) × EncodesInput version Longer first ended (text_of [])) → GetsFirst More bytes (text_of [])
   first_gets More bytes first rest whole come = inl (length first, subst (λ (xs : List ℕ). ComeIfMore xs (text_of [])) (sym (taken bytes first rest whole)) (if_more first (text_of []) come))
 
   -- all bytes are a part of a checkpoint's magic, and there are no more
-  part_gets : (More : Type 0) (bytes rest : List ℕ) → checkpoint_magic ≡ bytes ++ rest → IsPiece bytes → ¬ HasCheckpointMagic bytes → ¬ IsCut More bytes → ¬ More → (ended : Ended EncodeStop) × Encodes version More bytes ended (text_of [])
+  part_gets : (More : Type 0) (bytes rest : List ℕ) → checkpoint_magic ≡ bytes ++ rest → HasNoFeed bytes → ¬ HasCheckpointMagic bytes → ¬ IsCut More bytes → ¬ More → (ended : Ended EncodeStop) × EncodesInput version More bytes ended (text_of [])
   part_gets More [] rest e piece plain uncut no_more = (
     Ok tt,
     inl (record {
@@ -229,7 +229,7 @@ module _ (version : Version) where
           lines = [];
           read = [];
           tickers = [];
-          split = record { ended = []; last = []; whole = refl; pieces = All-nil IsPiece; piece = empty_piece; all = inl (refl, inr refl) };
+          split = record { ended = []; last = []; whole = refl; pieces = All-nil HasNoFeed; piece = empty_piece; all = inl (refl, inr refl) };
           say = (refl, refl);
           stops = refl;
         };
@@ -239,7 +239,7 @@ module _ (version : Version) where
     }),
   )
   part_gets More (x ∷ bytes) rest e piece plain uncut no_more =
-      part_comes More (x ∷ bytes) (x ∷ bytes) rest e (record { ended = []; last = x ∷ bytes; whole = refl; pieces = All-nil IsPiece; piece = piece; all = inr (refl, no_more, λ none. absurd cc) }) plain uncut (Ok tt, inl (no_more, refl))
+      part_comes More (x ∷ bytes) (x ∷ bytes) rest e (record { ended = []; last = x ∷ bytes; whole = refl; pieces = All-nil HasNoFeed; piece = piece; all = inr (refl, no_more, λ none. absurd cc) }) plain uncut (Ok tt, inl (no_more, refl))
 
   -- a part of a magic that isn't all of it has fewer bytes
   few_bytes : (bytes rest : List ℕ) → checkpoint_magic ≡ bytes ++ rest → ¬ HasCheckpointMagic bytes → length bytes < 8
@@ -248,7 +248,7 @@ module _ (version : Version) where
 
   module _ (More : Type 0) (bytes : List ℕ) (plain : ¬ HasCheckpointMagic bytes) (uncut : ¬ IsCut More bytes) where
     -- the bytes begin with a line that is ended
-    line_gets : (line rest : List ℕ) → IsPiece line → bytes ≡ (line ++ 10 ∷ []) ++ rest → GetsFirst More bytes (text_of [])
+    line_gets : (line rest : List ℕ) → HasNoFeed line → bytes ≡ (line ++ 10 ∷ []) ++ rest → GetsFirst More bytes (text_of [])
     line_gets line rest piece whole =
         let ended = line ++ 10 ∷ [] in
         let longer_whole = whole ∙ append_assoc line (10 ∷ []) rest in
@@ -258,12 +258,12 @@ module _ (version : Version) where
           | inl part ↦
               first_gets More bytes ended rest whole (λ Longer longer.
               part_comes Longer ended line part.0 part.1
-              (record { ended = line ∷ []; last = []; whole = sym (append-nil (ended_by_feeds (line ∷ [])) ∙ append-nil ended); pieces = All-cons IsPiece line [] piece (All-nil IsPiece); piece = empty_piece; all = inl (refl, inl longer) })
+              (record { ended = line ∷ []; last = []; whole = sym (append-nil (ended_by_feeds (line ∷ [])) ∙ append-nil ended); pieces = All-cons HasNoFeed line [] piece (All-nil HasNoFeed); piece = empty_piece; all = inl (refl, inl longer) })
               (λ magic. plain (subst HasCheckpointMagic (sym whole) (magic_on ended rest magic))) (feed_uncut Longer ended (Contains-push line 10)) (Err TooLong, inr (longer, refl)))
         ]
 
     -- they have no line feed
-    piece_gets : IsPiece bytes → GetsFirst More bytes (text_of [])
+    piece_gets : HasNoFeed bytes → GetsFirst More bytes (text_of [])
     piece_gets piece =
         elim (begins_or_not bytes checkpoint_magic) [
           | inr other ↦ first_gets More bytes bytes [] (sym (append-nil bytes)) (λ Longer longer. (Err TooLong, piece_comes bytes piece plain Longer longer (λ cut. other cut.2)))
@@ -277,14 +277,14 @@ module _ (version : Version) where
   -- ---- what the first lines ask for
 
   -- lines that are ended
-  cut : (More : Type 0) (bytes : List ℕ) (start : Option Market) (lines : List ℕ) → IsBefore version More bytes start lines → (read more tickers : List (List ℕ)) (last : List ℕ) (commands : List Command) → lines ≡ ended_by_feeds (read ++ more) ++ last → All IsPiece (read ++ more)
+  cut : (More : Type 0) (bytes : List ℕ) (start : Option Market) (lines : List ℕ) → PrecedesLines version More bytes start lines → (read more tickers : List (List ℕ)) (last : List ℕ) (commands : List Command) → lines ≡ ended_by_feeds (read ++ more) ++ last → All HasNoFeed (read ++ more)
       → Say version (known_after start) read commands tickers → GetsFirst More bytes (text_of commands)
   cut More bytes (Some market) lines before read more tickers last commands whole pieces say = inl (kept_first bytes market lines before read more tickers last commands whole pieces say)
   cut More bytes None lines before [] more tickers last commands whole pieces say = subst (λ (cs : List Command). GetsFirst More bytes (text_of cs)) (sym say.0) (magic_gets More bytes before.0 before.1)
   cut More bytes None lines before (line ∷ read) more tickers last commands whole pieces say = inl (plain_first bytes before.0 line read more tickers last commands (sym before.2 ∙ whole) pieces say)
 
   -- all lines, or those before the last
-  gets_after : (More : Type 0) (bytes : List ℕ) (start : Option Market) (lines : List ℕ) → IsBefore version More bytes start lines → (commands : List Command) (first : AreFirst version (known_after start) More lines commands) (more : List (List ℕ)) → first.lines ≡ first.read ++ more
+  gets_after : (More : Type 0) (bytes : List ℕ) (start : Option Market) (lines : List ℕ) → PrecedesLines version More bytes start lines → (commands : List Command) (first : AreFirst version (known_after start) More lines commands) (more : List (List ℕ)) → first.lines ≡ first.read ++ more
       → first.lines ≡ first.split.ended ++ first.split.last ∷ [] → ¬ More → GetsFirst More bytes (text_of commands)
   gets_after More bytes start lines before commands first [] prefix all short = inr (
     Ok tt,
@@ -303,14 +303,14 @@ module _ (version : Version) where
   )
   gets_after More bytes start lines before commands first (line ∷ more) prefix all short =
       let rest = before_last first.read first.split.ended line first.split.last more (sym prefix ∙ all) in
-      cut More bytes start lines before first.read rest.0 first.tickers first.split.last commands (first.split.whole ∙ ap (λ xs. ended_by_feeds xs ++ first.split.last) rest.1) (subst (All IsPiece) rest.1 first.split.pieces) first.say
+      cut More bytes start lines before first.read rest.0 first.tickers first.split.last commands (first.split.whole ∙ ap (λ xs. ended_by_feeds xs ++ first.split.last) rest.1) (subst (All HasNoFeed) rest.1 first.split.pieces) first.say
 
-  gets_by : (More : Type 0) (bytes : List ℕ) (start : Option Market) (lines : List ℕ) → IsBefore version More bytes start lines → (commands : List Command) → AreFirst version (known_after start) More lines commands → GetsFirst More bytes (text_of commands)
+  gets_by : (More : Type 0) (bytes : List ℕ) (start : Option Market) (lines : List ℕ) → PrecedesLines version More bytes start lines → (commands : List Command) → AreFirst version (known_after start) More lines commands → GetsFirst More bytes (text_of commands)
   gets_by More bytes start lines before commands first =
       elim first.split.all [
         | inl ended ↦
             let same : first.split.ended ≡ first.read ++ first.more = sym ended.0 ∙ first.prefix in
-            cut More bytes start lines before first.read first.more first.tickers first.split.last commands (first.split.whole ∙ ap (λ xs. ended_by_feeds xs ++ first.split.last) same) (subst (All IsPiece) same first.split.pieces) first.say
+            cut More bytes start lines before first.read first.more first.tickers first.split.last commands (first.split.whole ∙ ap (λ xs. ended_by_feeds xs ++ first.split.last) same) (subst (All HasNoFeed) same first.split.pieces) first.say
         | inr last ↦ gets_after More bytes start lines before commands first first.more first.prefix last.0 last.1
       ]
 

@@ -12,12 +12,12 @@ use Rattle.wire_records.specs.declared.version.Version.{Version}
 use Rattle.word_driver.specs.Ended.{Ended}
 use Rattle.market_rules.specs.Market.{Market}
 use Rattle.market_snapshot.specs.Checkpoints.{checkpoint_magic, checkpoint_bytes, HasCheckpointMagic}
-use Rattle.line_records.specs.Lines.{ended_by_feeds, AreLines, AreRead, AreFirst, StopsAt}
+use Rattle.line_records.specs.Lines.{ended_by_feeds, AreLines, AreRead, AreFirst, StopsAtLine}
 use Rattle.line_records.proofs.OneReadings.{first_is_a_prefix}
 use Rattle.line_records.proofs.Pieces.{lines_after}
 use Rattle.encode_word.specs.declared.stop.EncodeStop.{EncodeStop}
-use Rattle.encode_word.specs.Starts.{known_after, IsCut, BeginsKept, IsBefore}
-use Rattle.encode_word.specs.Encoding.{LinesTo, Encodes}
+use Rattle.encode_word.specs.Starts.{known_after, IsCut, BeginsKept, PrecedesLines}
+use Rattle.encode_word.specs.Encoding.{LinesTo, EncodesInput}
 use Rattle.encode_word.proofs.Starting.{kept_magic, magic_uncut, one_start}
 
 -- a text begins with another
@@ -53,7 +53,7 @@ cut_in More Longer longer first later (more, few, (rest, e)) = (longer, omega (a
 
 module _ (version : Version) (known : List (List ℕ)) where
   -- the lines that were read are first ones
-  read_first : (tickers read lines : List (List ℕ)) (bad : Option ℕ) → StopsAt version tickers read lines bad → (more : List (List ℕ)) × (lines ≡ read ++ more)
+  read_first : (tickers read lines : List (List ℕ)) (bad : Option ℕ) → StopsAtLine version tickers read lines bad → (more : List (List ℕ)) × (lines ≡ read ++ more)
   read_first tickers read lines None stops = ([], stops ∙ sym (append-nil read))
   read_first tickers read lines (Some number) stops = (stops.0 ∷ stops.1, stops.2)
 
@@ -86,23 +86,23 @@ module _ (version : Version) (known : List (List ℕ)) where
 
 module _ (version : Version) (More Longer : Type 0) (longer : Longer) (more : More ⊎ (¬ More)) (first later : List ℕ) where
   -- without a checkpoint
-  plain_begins : (ended other : Ended EncodeStop) (text begun : List ℕ) → ¬ HasCheckpointMagic first → ¬ IsCut Longer first → LinesTo version [] Longer first other begun → Encodes version More (first ++ later) ended text → Begins text begun
+  plain_begins : (ended other : Ended EncodeStop) (text begun : List ℕ) → ¬ HasCheckpointMagic first → ¬ IsCut Longer first → LinesTo version [] Longer first other begun → EncodesInput version More (first ++ later) ended text → Begins text begun
   plain_begins ended other text begun plain uncut part (inl all) = by all.start all.lines all.begins all.comes
     where
-      by : (start : Option Market) (lines : List ℕ) → IsBefore version More (first ++ later) start lines → LinesTo version (known_after start) More lines ended text → Begins text begun
+      by : (start : Option Market) (lines : List ℕ) → PrecedesLines version More (first ++ later) start lines → LinesTo version (known_after start) More lines ended text → Begins text begun
       by None lines before comes = lines_begin version [] More Longer longer more first later ended other text begun (subst (λ (xs : List ℕ). LinesTo version [] More xs ended text) before.2 comes) part
       by (Some market) lines before comes = absurd (elim (magic_in Longer longer first later (kept_magic version (first ++ later) market lines before)) [ inl magic ↦ plain magic | inr cut ↦ uncut cut ])
   plain_begins ended other text begun plain uncut part (inr (inl unkept)) = absurd (elim (magic_in Longer longer first later unkept.0.0) [ inl magic ↦ plain magic | inr cut ↦ uncut cut ])
   plain_begins ended other text begun plain uncut part (inr (inr cut)) = absurd (uncut (cut_in More Longer longer first later cut.0))
 
   -- after a checkpoint
-  kept_begins : (ended other : Ended EncodeStop) (text begun : List ℕ) (market : Market) (lines : List ℕ) → BeginsKept version first market lines → LinesTo version market.tickers Longer lines other begun → Encodes version More (first ++ later) ended text → Begins text begun
+  kept_begins : (ended other : Ended EncodeStop) (text begun : List ℕ) (market : Market) (lines : List ℕ) → BeginsKept version first market lines → LinesTo version market.tickers Longer lines other begun → EncodesInput version More (first ++ later) ended text → Begins text begun
   kept_begins ended other text begun market lines kept part encodes = by encodes
     where
       all : BeginsKept version (first ++ later) market (lines ++ later)
       all = (kept.0, kept.1, ap (λ xs. xs ++ later) kept.2 ∙ append_assoc (checkpoint_bytes market) lines later)
 
-      by : Encodes version More (first ++ later) ended text → Begins text begun
+      by : EncodesInput version More (first ++ later) ended text → Begins text begun
       by (inl whole) =
           let one = one_start version More (first ++ later) whole.start (Some market) whole.lines (lines ++ later) whole.begins all in
           let here = subst (λ (start : Option Market). LinesTo version (known_after start) More whole.lines ended text) one.0 whole.comes in
@@ -110,10 +110,10 @@ module _ (version : Version) (More Longer : Type 0) (longer : Longer) (more : Mo
       by (inr (inl unkept)) = absurd (unkept.0.1 market (lines ++ later) all)
       by (inr (inr cut)) = absurd (magic_uncut More (first ++ later) (kept_magic version (first ++ later) market (lines ++ later) all) cut.0)
 
-  pub first_begins : (ended other : Ended EncodeStop) (text begun : List ℕ) → Encodes version More (first ++ later) ended text → Encodes version Longer first other begun → Begins text begun
+  pub first_begins : (ended other : Ended EncodeStop) (text begun : List ℕ) → EncodesInput version More (first ++ later) ended text → EncodesInput version Longer first other begun → Begins text begun
   first_begins ended other text begun all (inl part) = by part.start part.lines part.begins part.comes
     where
-      by : (start : Option Market) (lines : List ℕ) → IsBefore version Longer first start lines → LinesTo version (known_after start) Longer lines other begun → Begins text begun
+      by : (start : Option Market) (lines : List ℕ) → PrecedesLines version Longer first start lines → LinesTo version (known_after start) Longer lines other begun → Begins text begun
       by None lines before comes = plain_begins ended other text begun before.0 before.1 (subst (λ (xs : List ℕ). LinesTo version [] Longer xs other begun) before.2 comes) all
       by (Some market) lines before comes = kept_begins ended other text begun market lines before comes all
   first_begins ended other text begun all (inr (inl unkept)) = (text, ap (λ xs. xs ++ text) (sym unkept.2))

@@ -5,7 +5,7 @@ use Rattle.wire_records.specs.declared.version.Version.{Version}
 use Rattle.market_rules.specs.Market.{Market}
 use Rattle.market_snapshot.specs.Checkpoints.{checkpoint_magic, checkpoint_bytes, IsCheckpoint, HasCheckpointMagic}
 use Rattle.market_snapshot.proofs.OneMarket.{one_market}
-use Rattle.encode_word.specs.Starts.{IsCut, BeginsKept, BeginsUnkept, IsBefore}
+use Rattle.encode_word.specs.Starts.{IsCut, BeginsKept, BeginsUnkept, PrecedesLines}
 
 -- a checkpoint begins with its magic
 made_magic : (market : Market) → (rest : List ℕ) × (checkpoint_bytes market ≡ checkpoint_magic ++ rest)
@@ -27,7 +27,7 @@ magic_uncut More bytes (rest, whole) cut = omega (arith, cut.1, ap length whole,
 
 module _ (version : Version) where
   -- one thing is before the lines, and one list of bytes after it
-  pub one_start : (More : Type 0) (bytes : List ℕ) (start other : Option Market) (lines more : List ℕ) → IsBefore version More bytes start lines → IsBefore version More bytes other more → (start ≡ other) × (lines ≡ more)
+  pub one_start : (More : Type 0) (bytes : List ℕ) (start other : Option Market) (lines more : List ℕ) → PrecedesLines version More bytes start lines → PrecedesLines version More bytes other more → (start ≡ other) × (lines ≡ more)
   one_start More bytes None None lines more a b = (refl, a.2 ∙ sym b.2)
   one_start More bytes None (Some market) lines more a b = absurd (a.0 (kept_magic version bytes market more b))
   one_start More bytes (Some market) None lines more a b = absurd (b.0 (kept_magic version bytes market lines a))
@@ -36,11 +36,11 @@ module _ (version : Version) where
       (ap Some one.0, one.1)
 
   -- and no unkept checkpoint then, nor is the input cut
-  pub start_unkept : (More : Type 0) (bytes : List ℕ) (start : Option Market) (lines : List ℕ) → IsBefore version More bytes start lines → BeginsUnkept version bytes → ⊥
+  pub start_unkept : (More : Type 0) (bytes : List ℕ) (start : Option Market) (lines : List ℕ) → PrecedesLines version More bytes start lines → BeginsUnkept version bytes → ⊥
   start_unkept More bytes None lines before unkept = before.0 unkept.0
   start_unkept More bytes (Some market) lines before unkept = unkept.1 market lines before
 
-  pub start_uncut : (More : Type 0) (bytes : List ℕ) (start : Option Market) (lines : List ℕ) → IsBefore version More bytes start lines → IsCut More bytes → ⊥
+  pub start_uncut : (More : Type 0) (bytes : List ℕ) (start : Option Market) (lines : List ℕ) → PrecedesLines version More bytes start lines → IsCut More bytes → ⊥
   start_uncut More bytes None lines before cut = before.1 cut
   start_uncut More bytes (Some market) lines before cut = magic_uncut More bytes (kept_magic version bytes market lines before) cut
 
@@ -60,6 +60,6 @@ module _ (version : Version) where
     pub cut_alike : IsCut P bytes → IsCut Q bytes
     cut_alike cut = (same.0 cut.0, cut.1, cut.2)
 
-    pub before_alike : (start : Option Market) (lines : List ℕ) → IsBefore version P bytes start lines → IsBefore version Q bytes start lines
+    pub before_alike : (start : Option Market) (lines : List ℕ) → PrecedesLines version P bytes start lines → PrecedesLines version Q bytes start lines
     before_alike None lines before = (before.0, λ cut. before.1 (same.1 cut.0, cut.1, cut.2), before.2)
     before_alike (Some market) lines before = before

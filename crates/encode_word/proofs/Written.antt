@@ -14,25 +14,25 @@ use Rattle.wire_records.specs.declared.version.Version.{Version}
 use Rattle.word_driver.specs.declared.fault.Fault.TheVariants as fault
 use Rattle.word_driver.specs.Ended.{Ended}
 use Rattle.word_driver.specs.Does.{Determines, Meets}
-use Rattle.line_records.specs.Lines.{IsPiece, AreFirst, encode_commands}
+use Rattle.line_records.specs.Lines.{HasNoFeed, AreFirst, encode_commands}
 use Rattle.line_records.specs.Encoded.{HasEncoded}
 use Rattle.line_records.proofs.Pieces.{lines_after, told}
 use Rattle.encode_word.specs.declared.stop.EncodeStop.{EncodeStop}
 use Rattle.encode_word.specs.declared.stop.EncodeStop.TheVariants as stop
 use Rattle.encode_word.specs.Starts.{known_after, IsCut, BeginsUnkept}
-use Rattle.encode_word.specs.Encoding.{LinesTo, LinesInto, LinesShort, Encodes, EncodesInto, EncodesShort}
-use Rattle.encode_word.specs.Tasks.{encoding}
-use Rattle.encode_word.specs.Private.{FindsStart, EncodesAll, Ends}
+use Rattle.encode_word.specs.Encoding.{LinesTo, LinesInto, LinesShort, EncodesInput, EncodesInto, EncodesShort}
+use Rattle.encode_word.specs.Tasks.{encode_task}
+use Rattle.encode_word.specs.Private.{FindsLines, EncodesAll, EndsEncoding}
 use Rattle.encode_word.proofs.LinesTo.{EncodeEnds}
 use Rattle.encode_word.proofs.Encoding.{encodes_one, encodes_alike, encodes_into_alike, encodes_short_alike}
 
 -- nothing was written, since memory ran out
-pub ends_out : (Comes : Ended EncodeStop → List ℕ → Type 0) (Into Short : List ℕ → Type 0) (held : Option (List ℕ)) → Ends Comes Into Short (Err fault.Memory) held held
+pub ends_out : (Comes : Ended EncodeStop → List ℕ → Type 0) (Into Short : List ℕ → Type 0) (held : Option (List ℕ)) → EndsEncoding Comes Into Short (Err fault.Memory) held held
 ends_out Comes Into Short held = ([], inl refl, Grows-nothing held)
 
 -- what follows from what bytes result in, from their first lines, and of where memory may run out, follows of what was written
 module _ (Comes ComesTo : Ended EncodeStop → List ℕ → Type 0) (Into IntoThat Short ShortThat : List ℕ → Type 0) (to : (ended : Ended EncodeStop) (text : List ℕ) → Comes ended text → ComesTo ended text) (into : (text : List ℕ) → Into text → IntoThat text) (short : (text : List ℕ) → Short text → ShortThat text) where
-  pub ends_map : (ended : Ended EncodeStop) (before after : Option (List ℕ)) → Ends Comes Into Short ended before after → Ends ComesTo IntoThat ShortThat ended before after
+  pub ends_map : (ended : Ended EncodeStop) (before after : Option (List ℕ)) → EndsEncoding Comes Into Short ended before after → EndsEncoding ComesTo IntoThat ShortThat ended before after
   ends_map (Ok done) before after ends = (ends.0, to (Ok tt) ends.0 ends.1, ends.2)
   ends_map (Err fault.TooLong) before after ends = (ends.0, to (Err fault.TooLong) ends.0 ends.1, ends.2)
   ends_map (Err (fault.Stopped why)) before after ends = (ends.0, to (Err (fault.Stopped why)) ends.0 ends.1, ends.2)
@@ -47,7 +47,7 @@ module _ (Comes ComesTo : Ended EncodeStop → List ℕ → Type 0) (Into IntoTh
 
 module _ (version : Version) (known : List (List ℕ)) (More : Type 0) (bytes : List ℕ) where
   abbrev pub EndsLines : Ended EncodeStop → Option (List ℕ) → Option (List ℕ) → Type 0
-  EndsLines = Ends (LinesTo version known More bytes) (LinesInto version known More bytes) (LinesShort version known More bytes)
+  EndsLines = EndsEncoding (LinesTo version known More bytes) (LinesInto version known More bytes) (LinesShort version known More bytes)
 
   -- the magic and then the records were written
   all_written : (bad : Option ℕ) (ended : Ended EncodeStop) (before middle now : Option (List ℕ)) → Grows before middle (command_magic_of version) → HasEncoded version known More bytes bad middle now → EncodeEnds More bad ended
@@ -81,7 +81,7 @@ module _ (version : Version) (known : List (List ℕ)) (More : Type 0) (bytes : 
 -- the write of the magic failed
 pub none_written : (version : Version) (known : List (List ℕ)) (more : Bool) (bytes : List ℕ) (before now : Option (List ℕ)) → GrowsByPrefix before now (command_magic_of version) → EndsLines version known (IsTrue more) bytes (Err fault.Write) before now
 none_written version known more bytes before now cut =
-    let all = lines_after (IsTrue more) (told more) bytes bytes [] refl (All-nil IsPiece) in
+    let all = lines_after (IsTrue more) (told more) bytes bytes [] refl (All-nil HasNoFeed) in
     let first : AreFirst version known (IsTrue more) bytes [] = record { lines = [] ++ all.0; read = []; more = all.0; tickers = known; split = all.1; prefix = refl; say = (refl, refl) } in
     (command_magic_of version, record { commands = []; first = first; writes = sym (append-nil (command_magic_of version)) }, cut)
 
@@ -89,14 +89,14 @@ none_written version known more bytes before now cut =
 
 module _ (version : Version) (More : Type 0) (bytes : List ℕ) where
   abbrev pub EndsBytes : Ended EncodeStop → Option (List ℕ) → Option (List ℕ) → Type 0
-  EndsBytes = Ends (Encodes version More bytes) (EncodesInto version More bytes) (EncodesShort version More bytes)
+  EndsBytes = EndsEncoding (EncodesInput version More bytes) (EncodesInto version More bytes) (EncodesShort version More bytes)
 
   -- after what was found
-  pub found_written : (tickers : List (List ℕ)) (place : ℕ) → FindsStart version More bytes tickers place → (ended : Ended EncodeStop) (before now : Option (List ℕ)) → EndsLines version tickers More (drop place bytes) ended before now → EndsBytes ended before now
+  pub found_written : (tickers : List (List ℕ)) (place : ℕ) → FindsLines version More bytes tickers place → (ended : Ended EncodeStop) (before now : Option (List ℕ)) → EndsLines version tickers More (drop place bytes) ended before now → EndsBytes ended before now
   found_written tickers place (start, begins, are) ended before now ends =
       let lines = drop place bytes in
       let here = subst (λ known. EndsLines version known More lines ended before now) are ends in
-      ends_map (LinesTo version (known_after start) More lines) (Encodes version More bytes) (LinesInto version (known_after start) More lines) (EncodesInto version More bytes) (LinesShort version (known_after start) More lines) (EncodesShort version More bytes)
+      ends_map (LinesTo version (known_after start) More lines) (EncodesInput version More bytes) (LinesInto version (known_after start) More lines) (EncodesInto version More bytes) (LinesShort version (known_after start) More lines) (EncodesShort version More bytes)
       (λ end text to. inl (record { start = start; lines = lines; begins = begins; comes = to })) (λ text into. record { start = start; lines = lines; begins = begins; into = into })
       (λ text short. record { start = start; lines = lines; begins = begins; short = short }) ended before now here
 
@@ -107,7 +107,7 @@ module _ (version : Version) (More : Type 0) (bytes : List ℕ) where
   unkept_written unkept held = ([], inr (inl (unkept, refl, refl)), Grows-nothing held)
 
   -- if all was done, the input has no more
-  pub done_written : (text : List ℕ) → Encodes version More bytes (Ok tt) text → More → ⊥
+  pub done_written : (text : List ℕ) → EncodesInput version More bytes (Ok tt) text → More → ⊥
   done_written text (inl lines) more = ends_done lines.comes.bad lines.comes.ends
     where
       ends_done : (bad : Option ℕ) → EncodeEnds More bad (Ok tt) → ⊥
@@ -127,9 +127,9 @@ module _ (version : Version) (More : Type 0) (bytes : List ℕ) where
 -- ---- over what the source had
 
 module _ (version : Version) (limit : ℕ) (left : List ℕ) (after : Option (List ℕ)) (input : WholeInput) (whole : IsWholeInput limit left input) where
-  determines : (ended : Ended EncodeStop) (before now : Option (List ℕ)) → (text : List ℕ) × Encodes version (IsTrue input.more) input.bytes.items ended text × Grows before now text → Determines (encoding version) limit left ended before now
+  determines : (ended : Ended EncodeStop) (before now : Option (List ℕ)) → (text : List ℕ) × EncodesInput version (IsTrue input.more) input.bytes.items ended text × Grows before now text → Determines (encode_task version) limit left ended before now
   determines ended before now (text, encodes, written) =
-      let here = subst (λ (xs : List ℕ). Encodes version (limit < length left) xs ended text) whole.bytes (encodes_alike version (IsTrue input.more) (limit < length left) whole.more input.bytes.items ended text encodes) in
+      let here = subst (λ (xs : List ℕ). EncodesInput version (limit < length left) xs ended text) whole.bytes (encodes_alike version (IsTrue input.more) (limit < length left) whole.more input.bytes.items ended text encodes) in
       (text, here, written, λ other words comes. encodes_one version (limit < length left) (take limit left) other ended words text comes here)
 
   into : (text : List ℕ) → EncodesInto version (IsTrue input.more) input.bytes.items text → EncodesInto version (limit < length left) (take limit left) text
@@ -139,7 +139,7 @@ module _ (version : Version) (limit : ℕ) (left : List ℕ) (after : Option (Li
   short text so = subst (λ (xs : List ℕ). EncodesShort version (limit < length left) xs text) whole.bytes (encodes_short_alike version (IsTrue input.more) (limit < length left) whole.more input.bytes.items text so)
 
   -- by the end
-  meets : (ended : Ended EncodeStop) (before now : Option (List ℕ)) → EndsBytes version (IsTrue input.more) input.bytes.items ended before now → Meets (encoding version) limit left after ended before now
+  meets : (ended : Ended EncodeStop) (before now : Option (List ℕ)) → EndsBytes version (IsTrue input.more) input.bytes.items ended before now → Meets (encode_task version) limit left after ended before now
   meets (Ok done) before now ends = determines (Ok tt) before now ends
   meets (Err fault.TooLong) before now ends = determines (Err fault.TooLong) before now ends
   meets (Err (fault.Stopped why)) before now ends = determines (Err (fault.Stopped why)) before now ends
@@ -152,7 +152,7 @@ module _ (version : Version) (limit : ℕ) (left : List ℕ) (after : Option (Li
 
 module _ (version : Version) where
   pub meets_told : (told after : Option (List ℕ)) (limit : ℕ) (input : WholeInput) (ended : Ended EncodeStop) (before now : Option (List ℕ)) → IfSome told (λ left. IsWholeInput limit left input) → EndsBytes version (IsTrue input.more) input.bytes.items ended before now
-      → IfSome told (λ left. Meets (encoding version) limit left after ended before now)
+      → IfSome told (λ left. Meets (encode_task version) limit left after ended before now)
   meets_told None after limit input ended before now whole ends = tt
   meets_told (Some left) after limit input ended before now whole ends = meets version limit left after input whole ended before now ends
 

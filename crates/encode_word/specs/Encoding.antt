@@ -9,7 +9,7 @@ use Rattle.word_driver.specs.Ended.{Ended}
 use Rattle.line_records.specs.Lines.{AreRead, AreFirst, HaveNext, encode_commands}
 use Rattle.encode_word.specs.declared.stop.EncodeStop.{EncodeStop}
 use Rattle.encode_word.specs.declared.stop.EncodeStop.TheVariants.{NoCommand, NoCheckpoint}
-use Rattle.encode_word.specs.Starts.{known_after, IsCut, BeginsUnkept, IsBefore}
+use Rattle.encode_word.specs.Starts.{known_after, IsCut, BeginsUnkept, PrecedesLines}
 
 -- In a version, from the tickers on that are known before the first line.
 module _ (version : Version) (known : List (List ℕ)) where
@@ -40,13 +40,13 @@ module _ (version : Version) (More : Type 0) (bytes : List ℕ) where
   pub record EncodesLines (ended : Ended EncodeStop) (text : List ℕ) : Type 0 where
     pub start : Option Market
     pub lines : List ℕ
-    pub begins : IsBefore version More bytes start lines
+    pub begins : PrecedesLines version More bytes start lines
     pub comes : LinesTo version (known_after start) More lines ended text
 
   -- what the bytes result in: what their lines do; and nothing is written if they begin as a checkpoint and with one of no market of the
   -- version, or are cut within its magic
-  abbrev pub Encodes : Ended EncodeStop → List ℕ → Type 0
-  Encodes ended text =
+  abbrev pub EncodesInput : Ended EncodeStop → List ℕ → Type 0
+  EncodesInput ended text =
       EncodesLines ended text
       ⊎ (BeginsUnkept version bytes × (ended ≡ Err (Stopped NoCheckpoint)) × (text ≡ []))
       ⊎ (IsCut More bytes × (ended ≡ Err TooLong) × (text ≡ []))
@@ -55,12 +55,12 @@ module _ (version : Version) (More : Type 0) (bytes : List ℕ) where
   pub record EncodesInto (text : List ℕ) : Type 0 where
     pub start : Option Market
     pub lines : List ℕ
-    pub begins : IsBefore version More bytes start lines
+    pub begins : PrecedesLines version More bytes start lines
     pub into : LinesInto version (known_after start) More lines text
 
   -- The text is what the lines before one that isn't blank result in.
   pub record EncodesShort (text : List ℕ) : Type 0 where
     pub start : Option Market
     pub lines : List ℕ
-    pub begins : IsBefore version More bytes start lines
+    pub begins : PrecedesLines version More bytes start lines
     pub short : LinesShort version (known_after start) More lines text

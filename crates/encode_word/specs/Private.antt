@@ -12,20 +12,20 @@ use Rattle.encode_word.specs.declared.start.StartFault.{StartFault}
 use Rattle.encode_word.specs.declared.start.StartFault.TheVariants as fault
 use Rattle.encode_word.specs.declared.stop.EncodeStop.{EncodeStop}
 use Rattle.encode_word.specs.declared.stop.EncodeStop.TheVariants.{NoCommand, NoCheckpoint}
-use Rattle.encode_word.specs.Starts.{known_after, IsCut, BeginsKept, BeginsUnkept, IsBefore}
+use Rattle.encode_word.specs.Starts.{known_after, IsCut, BeginsKept, BeginsUnkept, PrecedesLines}
 
 module _ (version : Version) where
   -- a checkpoint of a market of the version, which ends at this place
-  abbrev pub FindsKept : List ℕ → Market → ℕ → Type 0
-  FindsKept bytes market place = BeginsKept version bytes market (drop place bytes)
+  abbrev pub FindsCheckpoint : List ℕ → Market → ℕ → Type 0
+  FindsCheckpoint bytes market place = BeginsKept version bytes market (drop place bytes)
 
   -- and these are the tickers of its market
   abbrev pub FindsAfter : List ℕ → List (List ℕ) → ℕ → Type 0
-  FindsAfter bytes tickers place = (market : Market) × FindsKept bytes market place × (tickers ≡ market.tickers)
+  FindsAfter bytes tickers place = (market : Market) × FindsCheckpoint bytes market place × (tickers ≡ market.tickers)
 
   -- the lines begin at this place, and these tickers are known before the first of them
-  abbrev pub FindsStart : Type 0 → List ℕ → List (List ℕ) → ℕ → Type 0
-  FindsStart More bytes tickers place = (start : Option Market) × IsBefore version More bytes start (drop place bytes) × (tickers ≡ known_after start)
+  abbrev pub FindsLines : Type 0 → List ℕ → List (List ℕ) → ℕ → Type 0
+  FindsLines More bytes tickers place = (start : Option Market) × PrecedesLines version More bytes start (drop place bytes) × (tickers ≡ known_after start)
 
   -- why no lines begin
   abbrev pub IsStartFault : Type 0 → List ℕ → StartFault → Type 0
@@ -47,12 +47,12 @@ module _ (version : Version) where
 
 -- What was written: by what bytes result in, what their first lines result in, and what was written when memory ran out.
 module _ (Comes : Ended EncodeStop → List ℕ → Type 0) (Into Short : List ℕ → Type 0) where
-  abbrev pub Ends : Ended EncodeStop → Option (List ℕ) → Option (List ℕ) → Type 0
-  Ends (Ok done) before after = (text : List ℕ) × Comes (Ok tt) text × Grows before after text
-  Ends (Err TooLong) before after = (text : List ℕ) × Comes (Err TooLong) text × Grows before after text
-  Ends (Err (Stopped why)) before after = (text : List ℕ) × Comes (Err (Stopped why)) text × Grows before after text
-  Ends (Err Write) before after = (text : List ℕ) × Into text × GrowsByPrefix before after text
-  Ends (Err Memory) before after = (text : List ℕ) × ((text ≡ []) ⊎ Short text) × Grows before after text
-  Ends (Err Read) before after = ⊥
-  Ends (Err NotFlow) before after = ⊥
-  Ends (Err (Torn place)) before after = ⊥
+  abbrev pub EndsEncoding : Ended EncodeStop → Option (List ℕ) → Option (List ℕ) → Type 0
+  EndsEncoding (Ok done) before after = (text : List ℕ) × Comes (Ok tt) text × Grows before after text
+  EndsEncoding (Err TooLong) before after = (text : List ℕ) × Comes (Err TooLong) text × Grows before after text
+  EndsEncoding (Err (Stopped why)) before after = (text : List ℕ) × Comes (Err (Stopped why)) text × Grows before after text
+  EndsEncoding (Err Write) before after = (text : List ℕ) × Into text × GrowsByPrefix before after text
+  EndsEncoding (Err Memory) before after = (text : List ℕ) × ((text ≡ []) ⊎ Short text) × Grows before after text
+  EndsEncoding (Err Read) before after = ⊥
+  EndsEncoding (Err NotFlow) before after = ⊥
+  EndsEncoding (Err (Torn place)) before after = ⊥

@@ -25,6 +25,6 @@ module _ (version : Version) where
 
   -- this is before the lines, nothing or the checkpoint of a market, and these are the bytes of the lines, after which the input may have
   -- more
-  abbrev pub IsBefore : Type 0 → List ℕ → Option Market → List ℕ → Type 0
-  IsBefore More bytes None lines = (¬ HasCheckpointMagic bytes) × (¬ IsCut More bytes) × (lines ≡ bytes)
-  IsBefore More bytes (Some market) lines = BeginsKept bytes market lines
+  abbrev pub PrecedesLines : Type 0 → List ℕ → Option Market → List ℕ → Type 0
+  PrecedesLines More bytes None lines = (¬ HasCheckpointMagic bytes) × (¬ IsCut More bytes) × (lines ≡ bytes)
+  PrecedesLines More bytes (Some market) lines = BeginsKept bytes market lines

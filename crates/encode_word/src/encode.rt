@@ -3,9 +3,9 @@ ghost use Rattle.std.specs.Prelude.{◌≡◌, ◌≤◌, Err, IsTrue, drop, len
 ghost use Rattle.flow_io.specs.Faults.{Blames};
 ghost use Rattle.flow_io.specs.Changes.{change};
 ghost use Rattle.word_driver.specs.Does.{Does};
-ghost use Rattle.encode_word.specs.Encoding.{LinesTo, LinesInto, LinesShort, Encodes, EncodesInto, EncodesShort};
-ghost use Rattle.encode_word.specs.Tasks.{encoding};
-ghost use Rattle.encode_word.specs.Private.{EncodesAll, Ends};
+ghost use Rattle.encode_word.specs.Encoding.{LinesTo, LinesInto, LinesShort, EncodesInput, EncodesInto, EncodesShort};
+ghost use Rattle.encode_word.specs.Tasks.{encode_task};
+ghost use Rattle.encode_word.specs.Private.{EncodesAll, EndsEncoding};
 
 use crate::start::{Start, StartFault, start_of};
 use crate::stop::EncodeStop;
@@ -46,7 +46,7 @@ fn write_file<K: Sink>(
     more: bool,
     out: &mut K,
 ) -> Result<(), Fault<EncodeStop>>
-    ensures ends { Ends (LinesTo version tickers (IsTrue more) lines.now) (LinesInto version tickers (IsTrue more) lines.now)
+    ensures ends { EndsEncoding (LinesTo version tickers (IsTrue more) lines.now) (LinesInto version tickers (IsTrue more) lines.now)
         (LinesShort version tickers (IsTrue more) lines.now) result (K.held out.old) (K.held out.new) }
     ensures cause { Blames (result ≡ Err Fault.Write) (K.faults out.old) (K.faults out.new) }
 {
@@ -56,7 +56,7 @@ fn write_file<K: Sink>(
     }
 }
 
-// Encodes the lines of considered bytes, after which the input has more or not.
+// EncodesInput the lines of considered bytes, after which the input has more or not.
 fn encode_bytes<K: Sink>(
     alloc: Global,
     version: Version,
@@ -64,7 +64,7 @@ fn encode_bytes<K: Sink>(
     more: bool,
     out: &mut K,
 ) -> Result<(), Fault<EncodeStop>>
-    ensures ends { Ends (Encodes version (IsTrue more) bytes.now) (EncodesInto version (IsTrue more) bytes.now)
+    ensures ends { EndsEncoding (EncodesInput version (IsTrue more) bytes.now) (EncodesInto version (IsTrue more) bytes.now)
         (EncodesShort version (IsTrue more) bytes.now) result (K.held out.old) (K.held out.new) }
     ensures cause { Blames (result ≡ Err Fault.Write) (K.faults out.old) (K.faults out.new) }
 {
@@ -95,7 +95,7 @@ pub fn encode_source<S: Source, K: Sink>(
     source: &mut S,
     out: &mut K,
 ) -> Result<(), Fault<EncodeStop>>
-    ensures does { Does (encoding version) limit result (change S.rest S.faults source.old source.new)
+    ensures does { Does (encode_task version) limit result (change S.rest S.faults source.old source.new)
         (change K.held K.faults out.old out.new) }
     // All is read before anything is written.
     ensures unread { result ≡ Err Fault.Read → out.new ≡ out.old }

@@ -3,7 +3,7 @@ ghost use Rattle.std.specs.Prelude.{◌≡◌, ◌≤◌, ◌↔◌, IfOk, IfErr
 ghost use Rattle.market_snapshot.specs.Checkpoints.{HasCheckpointMagic};
 ghost use Rattle.market_snapshot.specs.Answers.{WhereNotSound};
 ghost use Rattle.encode_word.specs.Starts.{IsCut, BeginsUnkept};
-ghost use Rattle.encode_word.specs.Private.{FindsKept, FindsAfter, FindsStart, IsStartFault};
+ghost use Rattle.encode_word.specs.Private.{FindsCheckpoint, FindsAfter, FindsLines, IsStartFault};
 
 use market_core::Market;
 use market_snapshot::{CHECKPOINT_MAGIC, SnapshotFault, read_market};
@@ -42,7 +42,7 @@ fn kept_market(
     bytes: &[u8],
 ) -> Result<(Market, usize), SnapshotFault>
     requires begins { HasCheckpointMagic bytes.now }
-    ensures kept { IfOk result (λ found. FindsKept version bytes.now found.0 found.1) }
+    ensures kept { IfOk result (λ found. FindsCheckpoint version bytes.now found.0 found.1) }
     ensures inside { IfOk result (λ found. found.1 ≤ length bytes.now) }
     ensures fault { IfErr result (λ fault. WhereNotSound fault (BeginsUnkept version bytes.now)) }
 {
@@ -107,7 +107,7 @@ pub(crate) fn start_of(
     bytes: &[u8],
     more: bool,
 ) -> Result<Start, StartFault>
-    ensures found { IfOk result (λ start. FindsStart version (IsTrue more) bytes.now start.tickers start.place) }
+    ensures found { IfOk result (λ start. FindsLines version (IsTrue more) bytes.now start.tickers start.place) }
     ensures inside { IfOk result (λ start. start.place ≤ length bytes.now) }
     ensures fault { IfErr result (IsStartFault version (IsTrue more) bytes.now) }
 {

@@ -13,14 +13,14 @@ use Rattle.flow_exchange.specs.Program.{ServesCall}
 use Rattle.flow_exchange.specs.Allocating.{MayRunOut}
 use Rattle.flow_exchange.specs.Running.{KeepsPace}
 use Rattle.flow_exchange.specs.Promising.{KeepsAll, Promises}
-use Rattle.flow_exchange.specs.Private.{Serves}
+use Rattle.flow_exchange.specs.Private.{FormServes}
 use Rattle.flow_exchange.proofs.Outcomes.{one_form}
 use Rattle.flow_exchange.proofs.HistoryOf.{is_kept_from}
 use Rattle.flow_exchange.proofs.CanonicallyKept.{keeps_runs, keeps_resumed, keeps_sample}
 
 -- the arguments are a form, which was done
 module _ (limit : ℕ) (words : List (List ℕ)) (form : Form) (status : Status) (source out : Change) (asks : Asks words form) where
-  pub serves_form : (notes : Change) → status ≢ answer.Usage → Serves form limit status source out → ((¬ Rose notes.faults notes.faults_after) → Grows notes.before notes.after (line_of status)) → GrowsByPrefix notes.before notes.after (line_of status) → ServesCall limit words status source out notes
+  pub serves_form : (notes : Change) → status ≢ answer.Usage → FormServes form limit status source out → ((¬ Rose notes.faults notes.faults_after) → Grows notes.before notes.after (line_of status)) → GrowsByPrefix notes.before notes.after (line_of status) → ServesCall limit words status source out notes
   serves_form notes asked serves noted cut = record {
     usage = (λ e. absurd (asked e), λ none. absurd (none form asks));
     does = λ other also. rw (one_form words other form also asks) serves.does;
@@ -28,7 +28,7 @@ module _ (limit : ℕ) (words : List (List ℕ)) (form : Form) (status : Status)
     cut = cut;
   }
 
-  pub wants_form : Serves form limit status source out → (other : Form) → Asks words other → MayRunOut other limit status source out
+  pub wants_form : FormServes form limit status source out → (other : Form) → Asks words other → MayRunOut other limit status source out
   wants_form serves other also = rw (one_form words other form also asks) serves.allocates
 
   pub paced_form : (form ≡ Run → KeepsPace limit status source out) → Asks words Run → KeepsPace limit status source out

@@ -6,7 +6,7 @@ use Rattle.wire_records.specs.declared.version.Version.{Version}
 use Rattle.encode_word.specs.declared.stop.EncodeStop.{EncodeStop}
 use Rattle.encode_word.specs.declared.stop.EncodeStop.TheVariants.{NoCommand, NoCheckpoint}
 use Rattle.encode_word.specs.Encoding.{EncodesInto, EncodesShort}
-use Rattle.encode_word.specs.Tasks.{encoding}
+use Rattle.encode_word.specs.Tasks.{encode_task}
 use Rattle.encode_word.proofs.FirstBytes.{ComeIfMore, GetsFirst, no_bytes, into_gets, short_gets}
 use Rattle.flow_exchange.specs.declared.form.Form.TheVariants.{Encode}
 use Rattle.flow_exchange.specs.Statuses.{ended_status, unencoded}
@@ -37,7 +37,7 @@ module _ (version : Version) where
   owns (NoCommand number) = tt
   owns NoCheckpoint = tt
 
-  pub encode_form : IsForm (encoding version) (Encode version) unencoded Unwritten
+  pub encode_form : IsForm (encode_task version) (Encode version) unencoded Unwritten
   encode_form = record {
     to = λ limit bytes ended text comes. (ended, comes, refl);
     so_far = λ limit bytes n text before after begun written same. ([], refl, rw same (Grows-nothing before));

@@ -10,7 +10,7 @@ use Rattle.exit_status.specs.declared.status.Status.{Status}
 use Rattle.exit_status.specs.declared.status.Status.TheVariants as answer
 use Rattle.flow_exchange.specs.Program.{Meets}
 use Rattle.flow_exchange.specs.Allocating.{RunsOut}
-use Rattle.flow_exchange.specs.Private.{Serves}
+use Rattle.flow_exchange.specs.Private.{FormServes}
 use Rattle.flow_exchange.proofs.Outcomes.{one_end}
 
 module _ (number orders limit : ℕ) where
@@ -37,7 +37,7 @@ module _ (number orders limit : ℕ) where
 
   does : (status : Status) (rest : Option (List ℕ)) (faults : ℕ) (out : Change) → status ≢ answer.ReadFault → ((bytes : List ℕ) → Meets (Sample number orders) limit bytes (Some bytes) status out.before out.after)
       → (status ≡ answer.NoMemory → (bytes : List ℕ) → RunsOut (Sample number orders) limit bytes (Some bytes) out.before out.after)
-      → Blames (status ≡ answer.WriteFault) out.faults out.faults_after → Serves (Sample number orders) limit status (still rest faults) out
+      → Blames (status ≡ answer.WriteFault) out.faults out.faults_after → FormServes (Sample number orders) limit status (still rest faults) out
   does status rest faults out not_read meets allocates writes = record {
     does = record {
       meets = told_meets status rest out.before out.after meets;
@@ -51,7 +51,7 @@ module _ (number orders limit : ℕ) where
 
   -- the line was written
   pub does_write : (line : List ℕ) (rest : Option (List ℕ)) (faults : ℕ) (out : Change) → Summarizes number orders line → Grows out.before out.after line → out.faults_after ≡ out.faults
-      → Serves (Sample number orders) limit answer.Done (still rest faults) out
+      → FormServes (Sample number orders) limit answer.Done (still rest faults) out
   does_write line rest faults out summary written quiet =
       does answer.Done rest faults out (λ e. absurd cc)
       (λ bytes. record {
@@ -64,14 +64,14 @@ module _ (number orders limit : ℕ) where
 
   -- a prefix of the line was written
   pub does_not_write : (line : List ℕ) (rest : Option (List ℕ)) (faults : ℕ) (out : Change) → Summarizes number orders line → GrowsByPrefix out.before out.after line → Blames (Unit {0}) out.faults out.faults_after
-      → Serves (Sample number orders) limit answer.WriteFault (still rest faults) out
+      → FormServes (Sample number orders) limit answer.WriteFault (still rest faults) out
   does_not_write line rest faults out summary written cause =
       does answer.WriteFault rest faults out (λ e. absurd cc)
       (λ bytes. record { read = λ e. absurd cc; write = λ e. (line, inr (answer.Done, (refl, summary)), written); memory = λ e. absurd cc; determined = λ r w m. absurd (w refl) })
       (λ e. absurd cc) (record { later = cause.later; rose = λ _. cause.rose tt; quiet = λ not. absurd (not refl) })
 
   -- there was no memory
-  pub does_not_fit : (rest held : Option (List ℕ)) (faults out_faults : ℕ) → Serves (Sample number orders) limit answer.NoMemory (still rest faults) (still held out_faults)
+  pub does_not_fit : (rest held : Option (List ℕ)) (faults out_faults : ℕ) → FormServes (Sample number orders) limit answer.NoMemory (still rest faults) (still held out_faults)
   does_not_fit rest held faults out_faults =
       does answer.NoMemory rest faults (still held out_faults) (λ e. absurd cc)
       (λ bytes. record { read = λ e. absurd cc; write = λ e. absurd cc; memory = λ e. ([], inl refl, Grows-nothing held); determined = λ r w m. absurd (m refl) })

@@ -18,9 +18,9 @@ use Rattle.exit_status.specs.declared.status.Status.{Status}
 use Rattle.exit_status.specs.declared.status.Status.TheVariants as answer
 use Rattle.exit_status.proofs.Own.{IsOwn}
 use Rattle.flow_exchange.specs.Statuses.{ended_status}
-use Rattle.flow_exchange.specs.Program.{ComesTo, ComesToIfMore, WritesSoFar, GetsTo, most_taken, left_by, Determines, Meets}
+use Rattle.flow_exchange.specs.Program.{ComesTo, ComesToIfMore, WritesSoFar, GetsTo, most_taken, left_of_source, Determines, Meets}
 use Rattle.flow_exchange.specs.Allocating.{LacksAt, RunsOut}
-use Rattle.flow_exchange.specs.Private.{Serves}
+use Rattle.flow_exchange.specs.Private.{FormServes}
 use Rattle.flow_exchange.proofs.IfMore.{comes_if_more, lacks_begins}
 use Rattle.flow_exchange.proofs.HistoryIfMore.{history_if_more, history_begins}
 use Rattle.flow_exchange.proofs.Outcomes.{one_end}
@@ -36,7 +36,7 @@ pub record IsForm {B : Type 0} (t : Task B) (form : Form) (own : B → Status) (
   pub out : (limit : ℕ) (bytes : List ℕ) (text : List ℕ) → t.Lacks limit bytes text → LacksAt form limit bytes text
   pub owns : (why : B) → IsOwn (own why)
   pub most : (limit : ℕ) → t.most_taken limit ≡ most_taken form limit
-  pub left : (bytes : List ℕ) → t.left bytes ≡ left_by form bytes
+  pub left : (bytes : List ℕ) → t.left bytes ≡ left_of_source form bytes
 
 -- what is known besides after a failed read, of a subcommand that writes as it reads: nothing
 abbrev pub Nothing : Option (List ℕ) → Option (List ℕ) → Type 0
@@ -64,7 +64,7 @@ module _ {U S B : Type 0} (w : Word U S B) (start : Version → S) (exact : IsEx
 
   pub word_form : ((limit : ℕ) (bytes : List ℕ) (n : ℕ) (text : List ℕ) → ComesToIfMore form (take n (take limit bytes)) text → WritesSoFar form (take n (take limit bytes)) text)
       → ((limit : ℕ) (bytes : List ℕ) (text : List ℕ) → (task w start).Lacks limit bytes text → LacksAt form limit bytes text) → ((why : B) → IsOwn (own why))
-      → ((limit : ℕ) → limit + 1 ≡ most_taken form limit) → ((bytes : List ℕ) → [] ≡ left_by form bytes) → IsForm (task w start) form own Nothing
+      → ((limit : ℕ) → limit + 1 ≡ most_taken form limit) → ((bytes : List ℕ) → [] ≡ left_of_source form bytes) → IsForm (task w start) form own Nothing
   word_form so_far out owns most left = record {
     to = to;
     so_far = λ limit bytes n text before after begins written known. (text, so_far limit bytes n text (if_more limit bytes n text begins), written);
@@ -88,7 +88,7 @@ module _ {S B : Type 0} (w : Word (Record × Record) S B) (begins : Beginning S)
 
   pub history_form : ((limit : ℕ) (bytes : List ℕ) (n : ℕ) (text : List ℕ) → ComesToIfMore form (take n (take limit bytes)) text → WritesSoFar form (take n (take limit bytes)) text)
       → ((limit : ℕ) (bytes : List ℕ) (text : List ℕ) → (over_history_from w begins).Lacks limit bytes text → LacksAt form limit bytes text) → ((why : HistoryStop B) → IsOwn (own why))
-      → ((limit : ℕ) → limit + 1 ≡ most_taken form limit) → ((bytes : List ℕ) → [] ≡ left_by form bytes) → IsForm (over_history_from w begins) form own Nothing
+      → ((limit : ℕ) → limit + 1 ≡ most_taken form limit) → ((bytes : List ℕ) → [] ≡ left_of_source form bytes) → IsForm (over_history_from w begins) form own Nothing
   history_form so_far out owns most left = record {
     to = to;
     so_far = λ limit bytes n text before after begun written known. (text, so_far limit bytes n text (begun_more limit bytes n text begun), written);
@@ -174,11 +174,11 @@ module _ {B : Type 0} (t : Task B) (form : Form) (limit : ℕ) (own : B → Stat
   not_asked (Err word.TooLong) e = absurd cc
   not_asked (Err (word.Stopped why)) e = subst IsOwn e (is.owns why)
 
-  left_told : (told rest : Option (List ℕ)) → IfSome told (λ bytes. rest ≡ Some (t.left bytes)) → IfSome told (λ bytes. rest ≡ Some (left_by form bytes))
+  left_told : (told rest : Option (List ℕ)) → IfSome told (λ bytes. rest ≡ Some (t.left bytes)) → IfSome told (λ bytes. rest ≡ Some (left_of_source form bytes))
   left_told None rest left = tt
   left_told (Some bytes) rest left = left ∙ ap (λ (xs : List ℕ). Some xs) (is.left bytes)
 
-  left_back : (told rest : Option (List ℕ)) (ended : Ended B) → OnOk ended (IfSome told (λ bytes. rest ≡ Some (t.left bytes))) → ended_status limit own ended ≡ answer.Done → IfSome told (λ bytes. rest ≡ Some (left_by form bytes))
+  left_back : (told rest : Option (List ℕ)) (ended : Ended B) → OnOk ended (IfSome told (λ bytes. rest ≡ Some (t.left bytes))) → ended_status limit own ended ≡ answer.Done → IfSome told (λ bytes. rest ≡ Some (left_of_source form bytes))
   left_back told rest (Ok done) left e = left_told told rest left
   left_back told rest (Err word.Write) left e = absurd cc
   left_back told rest (Err word.Read) left e = absurd cc
@@ -193,7 +193,7 @@ module _ {B : Type 0} (t : Task B) (form : Form) (limit : ℕ) (own : B → Stat
   wants_told None left before after so = tt
   wants_told (Some bytes) left before after (text, lacks, written) = (text, elim lacks [ inl none ↦ inl none | inr short ↦ inr (is.out limit bytes text short) ], written)
 
-  pub does : (ended : Ended B) (source out : Change) → (ended ≡ Err word.Read → Unread out.before out.after) → driver.Does t limit ended source out → Serves form limit (ended_status limit own ended) source out
+  pub does : (ended : Ended B) (source out : Change) → (ended ≡ Err word.Read → Unread out.before out.after) → driver.Does t limit ended source out → FormServes form limit (ended_status limit own ended) source out
   does ended source out unread done =
       let met = meets_told source.before source.after ended out.before out.after unread done.meets in
       let reads : Blames (ended_status limit own ended ≡ answer.ReadFault) source.faults source.faults_after = record {

@@ -13,7 +13,7 @@ use Rattle.flow_exchange.specs.Program.{Does}
 use Rattle.flow_exchange.specs.Allocating.{MayRunOut}
 
 -- What a form does, and where it may run out of memory.
-pub record Serves (form : Form) (limit : ℕ) (status : Status) (source out : Change) : Type 0 where
+pub record FormServes (form : Form) (limit : ℕ) (status : Status) (source out : Change) : Type 0 where
   pub does : Does form limit status source out
   pub allocates : MayRunOut form limit status source out
 

@@ -56,16 +56,16 @@ most_taken Checkpoint limit = limit + 1
 most_taken Resume limit = limit + 1
 
 -- what is left of the source if all was done
-abbrev pub left_by : Form → List ℕ → List ℕ
-left_by Run bytes = []
-left_by Audit bytes = []
-left_by Explain bytes = []
-left_by Report bytes = []
-left_by (Encode version) bytes = []
-left_by (Sample number orders) bytes = bytes
-left_by (Statement number) bytes = []
-left_by Checkpoint bytes = []
-left_by Resume bytes = []
+abbrev pub left_of_source : Form → List ℕ → List ℕ
+left_of_source Run bytes = []
+left_of_source Audit bytes = []
+left_of_source Explain bytes = []
+left_of_source Report bytes = []
+left_of_source (Encode version) bytes = []
+left_of_source (Sample number orders) bytes = bytes
+left_of_source (Statement number) bytes = []
+left_of_source Checkpoint bytes = []
+left_of_source Resume bytes = []
 
 -- what was written when only these bytes could be read: what they result in if more follow, and nothing by a form that reads all before it
 -- writes, or that reads nothing
@@ -105,7 +105,7 @@ pub record Does (form : Form) (limit : ℕ) (status : Status) (source out : Chan
   pub meets : IfSome source.before (λ bytes. Meets form limit bytes source.after status out.before out.after)
   -- How much of the source was taken, and what is left of it on Done.
   pub taken : TakesAtMost source.before source.after (most_taken form limit)
-  pub left : status ≡ Done → IfSome source.before (λ bytes. source.after ≡ Some (left_by form bytes))
+  pub left : status ≡ Done → IfSome source.before (λ bytes. source.after ≡ Some (left_of_source form bytes))
   -- The status is a read or write fault only if the count of that fault rose, and else the count is unchanged.
   pub reads : Blames (status ≡ ReadFault) source.faults source.faults_after
   pub writes : Blames (status ≡ WriteFault) out.faults out.faults_after

@@ -1,7 +1,7 @@
 //! `flow audit`: reads a history, and writes a line if its entries are valid.
 ghost use Rattle.std.specs.Prelude.{◌≢◌};
 ghost use Rattle.flow_io.specs.Changes.{change};
-ghost use Rattle.flow_exchange.specs.Private.{Serves};
+ghost use Rattle.flow_exchange.specs.Private.{FormServes};
 ghost use Rattle.flow_exchange.specs.declared.form.Form.TheVariants.{Audit};
 
 use crate::ending::pairs_status;
@@ -21,7 +21,7 @@ pub(crate) fn audit<S: Source, K: Sink>(
     out: &mut K,
 ) -> Status
     ensures asked { result ≢ Status.Usage }
-    ensures does { Serves Audit limit result (change S.rest S.faults source.old source.new)
+    ensures does { FormServes Audit limit result (change S.rest S.faults source.old source.new)
         (change K.held K.faults out.old out.new) }
 {
     let ended = go_history(alloc, limit, source, out, Counting::new());

@@ -1,7 +1,7 @@
 //! `flow checkpoint`: reads a history, and writes the checkpoint of the market at its end.
 ghost use Rattle.std.specs.Prelude.{◌≢◌};
 ghost use Rattle.flow_io.specs.Changes.{change};
-ghost use Rattle.flow_exchange.specs.Private.{Serves};
+ghost use Rattle.flow_exchange.specs.Private.{FormServes};
 ghost use Rattle.flow_exchange.specs.declared.form.Form.TheVariants.{Checkpoint};
 
 use crate::ending::pairs_status;
@@ -20,7 +20,7 @@ pub(crate) fn checkpoint<S: Source, K: Sink>(
     out: &mut K,
 ) -> Status
     ensures asked { result ≢ Status.Usage }
-    ensures does { Serves Checkpoint limit result (change S.rest S.faults source.old source.new)
+    ensures does { FormServes Checkpoint limit result (change S.rest S.faults source.old source.new)
         (change K.held K.faults out.old out.new) }
 {
     let ended = go_history(alloc, limit, source, out, Checkpointing::new(alloc));

@@ -1,7 +1,7 @@
 //! `flow encode`: reads lines of JSON, and writes a command file.
 ghost use Rattle.std.specs.Prelude.{◌≢◌};
 ghost use Rattle.flow_io.specs.Changes.{change};
-ghost use Rattle.flow_exchange.specs.Private.{Serves};
+ghost use Rattle.flow_exchange.specs.Private.{FormServes};
 ghost use Rattle.flow_exchange.specs.declared.form.Form.TheVariants.{Encode};
 
 use crate::ending::lines_status;
@@ -21,7 +21,7 @@ pub(crate) fn encode<S: Source, K: Sink>(
     out: &mut K,
 ) -> Status
     ensures asked { result ≢ Status.Usage }
-    ensures does { Serves (Encode version) limit result (change S.rest S.faults source.old source.new)
+    ensures does { FormServes (Encode version) limit result (change S.rest S.faults source.old source.new)
         (change K.held K.faults out.old out.new) }
 {
     let ended = encode_source(alloc, version, limit, source, out);

@@ -1,7 +1,7 @@
 //! `flow explain`: reads a history, and writes a line if its entries are valid, or on the first that isn't.
 ghost use Rattle.std.specs.Prelude.{◌≢◌};
 ghost use Rattle.flow_io.specs.Changes.{change};
-ghost use Rattle.flow_exchange.specs.Private.{Serves};
+ghost use Rattle.flow_exchange.specs.Private.{FormServes};
 ghost use Rattle.flow_exchange.specs.declared.form.Form.TheVariants.{Explain};
 
 use crate::ending::pairs_status;
@@ -19,7 +19,7 @@ pub(crate) fn explain<S: Source, K: Sink>(
     out: &mut K,
 ) -> Status
     ensures asked { result ≢ Status.Usage }
-    ensures does { Serves Explain limit result (change S.rest S.faults source.old source.new)
+    ensures does { FormServes Explain limit result (change S.rest S.faults source.old source.new)
         (change K.held K.faults out.old out.new) }
 {
     let ended = go_history(alloc, limit, source, out, Explaining::new());

@@ -1,7 +1,7 @@
 //! `flow report`: reads a history, and writes the text of its entries.
 ghost use Rattle.std.specs.Prelude.{◌≢◌};
 ghost use Rattle.flow_io.specs.Changes.{change};
-ghost use Rattle.flow_exchange.specs.Private.{Serves};
+ghost use Rattle.flow_exchange.specs.Private.{FormServes};
 ghost use Rattle.flow_exchange.specs.declared.form.Form.TheVariants.{Report};
 
 use crate::ending::pairs_status;
@@ -20,7 +20,7 @@ pub(crate) fn report<S: Source, K: Sink>(
     out: &mut K,
 ) -> Status
     ensures asked { result ≢ Status.Usage }
-    ensures does { Serves Report limit result (change S.rest S.faults source.old source.new)
+    ensures does { FormServes Report limit result (change S.rest S.faults source.old source.new)
         (change K.held K.faults out.old out.new) }
 {
     let ended = go_history(alloc, limit, source, out, Telling);

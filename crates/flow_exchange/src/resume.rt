@@ -1,7 +1,7 @@
 //! `flow resume`: reads a journal or a checkpoint followed by commands, and writes the entries of these commands.
 ghost use Rattle.std.specs.Prelude.{◌≢◌};
 ghost use Rattle.flow_io.specs.Changes.{change};
-ghost use Rattle.flow_exchange.specs.Private.{Serves};
+ghost use Rattle.flow_exchange.specs.Private.{FormServes};
 ghost use Rattle.flow_exchange.specs.declared.form.Form.TheVariants.{Resume};
 
 use crate::ending::resumed_status;
@@ -19,7 +19,7 @@ pub(crate) fn resume<S: Source, K: Sink>(
     out: &mut K,
 ) -> Status
     ensures asked { result ≢ Status.Usage }
-    ensures does { Serves Resume limit result (change S.rest S.faults source.old source.new)
+    ensures does { FormServes Resume limit result (change S.rest S.faults source.old source.new)
         (change K.held K.faults out.old out.new) }
 {
     let ended = resume_source(alloc, limit, source, out);

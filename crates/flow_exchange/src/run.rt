@@ -1,7 +1,7 @@
 //! `flow run`: reads a command file, and writes its journal.
 ghost use Rattle.std.specs.Prelude.{◌≢◌};
 ghost use Rattle.flow_io.specs.Changes.{change};
-ghost use Rattle.flow_exchange.specs.Private.{Serves};
+ghost use Rattle.flow_exchange.specs.Private.{FormServes};
 ghost use Rattle.flow_exchange.specs.Running.{KeepsPace, WritesInPieces};
 ghost use Rattle.flow_exchange.specs.declared.form.Form.TheVariants.{Run as run_form};
 
@@ -22,7 +22,7 @@ pub(crate) fn run<S: Source, K: Sink>(
     out: &mut K,
 ) -> Status
     ensures asked { result ≢ Status.Usage }
-    ensures does { Serves run_form limit result (change S.rest S.faults source.old source.new)
+    ensures does { FormServes run_form limit result (change S.rest S.faults source.old source.new)
         (change K.held K.faults out.old out.new) }
     ensures paced { KeepsPace limit result (change S.rest S.faults source.old source.new)
         (change K.held K.faults out.old out.new) }

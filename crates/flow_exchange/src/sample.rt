@@ -2,7 +2,7 @@
 ghost use Rattle.std.specs.Prelude.{◌≡◌, ◌≢◌, ◌≤◌, ℕ, List, Option};
 ghost use Rattle.flow_io.specs.Changes.{change};
 ghost use Rattle.flow_orders.specs.Orders.{most_orders};
-ghost use Rattle.flow_exchange.specs.Private.{Serves};
+ghost use Rattle.flow_exchange.specs.Private.{FormServes};
 ghost use Rattle.flow_exchange.specs.declared.form.Form.TheVariants.{Sample};
 
 use exit_status::Status;
@@ -17,7 +17,7 @@ pub(crate) fn sample<K: Sink>(alloc: Global, number: u64, orders: u32, out: &mut
     requires few { orders ≤ most_orders }
     ensures asked { result ≢ Status.Usage }
     // Whatever a source has left, and whatever its count of faults is, both are unchanged.
-    ensures does { (limit : ℕ) (rest : Option (List ℕ)) (faults : ℕ) → Serves (Sample number orders) limit result
+    ensures does { (limit : ℕ) (rest : Option (List ℕ)) (faults : ℕ) → FormServes (Sample number orders) limit result
         (record { before = rest; after = rest; faults = faults; faults_after = faults })
         (change K.held K.faults out.old out.new) }
 {

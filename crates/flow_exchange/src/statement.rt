@@ -1,7 +1,7 @@
 //! `flow statement NUMBER`: reads a history, and writes the statement of an account.
 ghost use Rattle.std.specs.Prelude.{◌≢◌};
 ghost use Rattle.flow_io.specs.Changes.{change};
-ghost use Rattle.flow_exchange.specs.Private.{Serves};
+ghost use Rattle.flow_exchange.specs.Private.{FormServes};
 ghost use Rattle.flow_exchange.specs.declared.form.Form.TheVariants.{Statement};
 
 use crate::ending::statement_status;
@@ -23,7 +23,7 @@ pub(crate) fn statement<S: Source, K: Sink>(
     out: &mut K,
 ) -> Status
     ensures asked { result ≢ Status.Usage }
-    ensures does { Serves (Statement number) limit result (change S.rest S.faults source.old source.new)
+    ensures does { FormServes (Statement number) limit result (change S.rest S.faults source.old source.new)
         (change K.held K.faults out.old out.new) }
 {
     let ended = go_history_from(alloc, limit, source, out, StatementOf { number });

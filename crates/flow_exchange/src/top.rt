@@ -2,7 +2,7 @@
 ghost use Rattle.std.specs.Prelude.{◌≡◌, ◌≢◌, ◌^◌, ℕ, List, map, string_bytes};
 ghost use Rattle.flow_io.specs.Changes.{change};
 ghost use Rattle.flow_exchange.specs.Forms.{Asks};
-ghost use Rattle.flow_exchange.specs.Private.{Serves};
+ghost use Rattle.flow_exchange.specs.Private.{FormServes};
 ghost use Rattle.flow_exchange.specs.Program.{ServesCall};
 ghost use Rattle.flow_exchange.specs.Promising.{Promises};
 ghost use Rattle.flow_exchange.specs.Running.{KeepsPace, WritesInPieces};
@@ -32,7 +32,7 @@ fn do_form<S: Source, K: Sink>(
 ) -> Status
     requires form { (words : List (List ℕ)) × Asks words form }
     ensures asked { result ≢ Status.Usage }
-    ensures does { Serves form limit result (change S.rest S.faults source.old source.new)
+    ensures does { FormServes form limit result (change S.rest S.faults source.old source.new)
         (change K.held K.faults out.old out.new) }
     ensures paced { form ≡ Form.Run → KeepsPace limit result (change S.rest S.faults source.old source.new)
         (change K.held K.faults out.old out.new) }

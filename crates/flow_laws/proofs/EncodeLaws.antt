@@ -25,8 +25,8 @@ use Rattle.line_records.specs.Lines.{encode_commands}
 use Rattle.line_records.proofs.Fitting.{commands_fit, no_tickers}
 use Rattle.encode_word.specs.declared.stop.EncodeStop.{EncodeStop}
 use Rattle.encode_word.specs.declared.stop.EncodeStop.TheVariants as stop
-use Rattle.encode_word.specs.Starts.{known_after, BeginsUnkept, IsBefore}
-use Rattle.encode_word.specs.Encoding.{EncodesLines, Encodes}
+use Rattle.encode_word.specs.Starts.{known_after, BeginsUnkept, PrecedesLines}
+use Rattle.encode_word.specs.Encoding.{EncodesLines, EncodesInput}
 use Rattle.encode_word.proofs.LinesTo.{EncodeEnds}
 use Rattle.exchange_session.specs.Journals.{Journals}
 use Rattle.session_resume.specs.declared.first.Origin.TheVariants.{Checkpoint}
@@ -59,7 +59,7 @@ file_of version most text cs each is fits =
     (file_read commands commands_readable (λ over. states_none-from_few over.0 [] (omega arith) over.1) most version (map record_of cs) tt each (rw (ap length file_equal) fits))
 
 -- the tickers that are known before the first line are tickers
-pub are_known : (version : Version) (More : Type 0) (bytes : List ℕ) (start : Option Market) (lines : List ℕ) → IsBefore version More bytes start lines → AreTickers (known_after start)
+pub are_known : (version : Version) (More : Type 0) (bytes : List ℕ) (start : Option Market) (lines : List ℕ) → PrecedesLines version More bytes start lines → AreTickers (known_after start)
 are_known version More bytes None lines before = no_tickers
 are_known version More bytes (Some market) lines before = before.0.consistent.tickers
 
@@ -124,7 +124,7 @@ pub encoded_is_resumed : EncodedIsResumed
 encoded_is_resumed version limit most bytes text checkpoint entries ended resumed_as market encoded kept is_one fits (end, resumes, is) =
     let cs = encoded.comes.commands in
     let fit = encoded_fit version (limit < length bytes) (take limit bytes) text ended encoded in
-    let before = subst (λ (start : Option Market). IsBefore version (limit < length bytes) (take limit bytes) start encoded.lines) kept encoded.begins in
+    let before = subst (λ (start : Option Market). PrecedesLines version (limit < length bytes) (take limit bytes) start encoded.lines) kept encoded.begins in
     let file_equal : text ≡ command_magic_of market.version ++ encode_all commands.units (map record_of cs) =
     encoded.comes.writes ∙ ap (λ (v : Version). command_magic_of v ++ encode_commands cs) (sym before.1) ∙ ap (λ xs. command_magic_of market.version ++ xs) (sym (flat_map-map encoding record_of cs))
     in
@@ -155,13 +155,13 @@ not_of_lines More (Some number) e = absurd cc
 not_of_lines More None (inl done) = absurd (let e = done.1 in cc)
 not_of_lines More None (inr long) = absurd (let e = long.1 in cc)
 
-bad_comes : (version : Version) (More : Type 0) (bytes text : List ℕ) → Encodes version More bytes bad text → BeginsUnkept version bytes × (text ≡ [])
+bad_comes : (version : Version) (More : Type 0) (bytes text : List ℕ) → EncodesInput version More bytes bad text → BeginsUnkept version bytes × (text ≡ [])
 bad_comes version More bytes text (inl encoded) = absurd (not_of_lines More encoded.comes.bad encoded.comes.ends)
 bad_comes version More bytes text (inr (inl unkept)) = (unkept.0, unkept.2)
 bad_comes version More bytes text (inr (inr cut)) = absurd (let e = cut.1 in cc)
 
 pub bad_before_lines : BadBeforeLines
 bad_before_lines version limit bytes text = (
-  λ (ended, comes, is). bad_comes version (limit < length bytes) (take limit bytes) text (subst (λ (e : Ended EncodeStop). Encodes version (limit < length bytes) (take limit bytes) e text) (is_bad limit ended is) comes),
+  λ (ended, comes, is). bad_comes version (limit < length bytes) (take limit bytes) text (subst (λ (e : Ended EncodeStop). EncodesInput version (limit < length bytes) (take limit bytes) e text) (is_bad limit ended is) comes),
   λ (unkept, none). (bad, inr (inl (unkept, refl, none)), refl),
 )

@@ -29,7 +29,7 @@ use Rattle.exit_status.specs.declared.status.Status.{Status}
 use Rattle.exit_status.specs.declared.status.Status.TheVariants as answer
 use Rattle.flow_exchange.specs.Statuses.{ended_status, unfit_status}
 use Rattle.flow_exchange.specs.Program.{ComesTo}
-use Rattle.flow_laws.specs.Laws.{NewRecords, GoesOn, EndAlike, GoOnAlike}
+use Rattle.flow_laws.specs.Laws.{NewRecords, IsWrittenAfter, EndAlike, GoOnAlike}
 use Rattle.flow_laws.proofs.CheckpointLaws.{checkpoints_of_histories, legal_journals_have_checkpoints}
 use Rattle.flow_laws.proofs.AuditLaws.{history_journal}
 use Rattle.flow_laws.proofs.Resumed.{goes_from}
@@ -46,7 +46,7 @@ new_one version rest records others (inl a) (inr b) = absurd (b.0 (encode_all co
 new_one version rest records others (inr a) (inl b) = absurd (a.0 (encode_all commands.units others ++ b.left) b.whole)
 new_one version rest records others (inr a) (inr b) = a.1 ∙ sym b.1
 
-text_one : (market : Market) (rest x y : List ℕ) → GoesOn market rest x → GoesOn market rest y → x ≡ y
+text_one : (market : Market) (rest x y : List ℕ) → IsWrittenAfter market rest x → IsWrittenAfter market rest y → x ≡ y
 text_one market rest x y a b =
     (continues_one market a.new b.new a.records b.records x y (new_one market.version rest a.records b.records a.are_new b.are_new) a.continues b.continues).1
 

@@ -10,7 +10,7 @@ use Rattle.word_driver.specs.Does.{Task, task}
 use Rattle.word_driver.specs.Laws.{IsExact, IsKept, HasNext}
 use Rattle.word_driver.proofs.OneEnds.{begun_is_a_prefix as word_prefix}
 use Rattle.word_driver.proofs.SomeEnds.{some_end}
-use Rattle.encode_word.specs.Encoding.{Encodes}
+use Rattle.encode_word.specs.Encoding.{EncodesInput}
 use Rattle.encode_word.proofs.Encoding.{begins_or_not}
 use Rattle.encode_word.proofs.Prefixes.{Begins}
 use Rattle.encode_word.proofs.Prefixes.{first_begins as lines_begin}
@@ -87,9 +87,9 @@ module _ (version : Version) where
       let first = take n (take limit bytes) in
       let later = drop n (take limit bytes) in
       let longer : length first < length (first ++ 0 ∷ []) = omega (arith, length-append first (0 ∷ [])) in
-      let here = subst (λ (xs : List ℕ). Encodes version (length first < length (first ++ 0 ∷ [])) xs part.0 begun) (take_at first (0 ∷ []) (length first) refl) part.1 in
+      let here = subst (λ (xs : List ℕ). EncodesInput version (length first < length (first ++ 0 ∷ [])) xs part.0 begun) (take_at first (0 ∷ []) (length first) refl) part.1 in
       lines_begin version (limit < length bytes) (length first < length (first ++ 0 ∷ [])) longer (more_or_not limit (length bytes)) first later all.0 part.0 text begun
-      (subst (λ (xs : List ℕ). Encodes version (limit < length bytes) xs all.0 text) (sym (take-append-drop n (take limit bytes))) all.1) here
+      (subst (λ (xs : List ℕ). EncodesInput version (limit < length bytes) xs all.0 text) (sym (take-append-drop n (take limit bytes))) all.1) here
 
 -- ---- all forms
 

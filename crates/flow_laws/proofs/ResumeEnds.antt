@@ -29,7 +29,7 @@ use Rattle.exit_status.specs.declared.status.Status.{Status}
 use Rattle.exit_status.specs.declared.status.Status.TheVariants as answer
 use Rattle.flow_exchange.specs.Statuses.{ended_status, unfit_status}
 use Rattle.flow_exchange.specs.Resuming.{ResumesTo}
-use Rattle.flow_laws.specs.Laws.{IsWholeInput, ResumptionsEnd}
+use Rattle.flow_laws.specs.Laws.{IsInput, ResumptionsEnd}
 use Rattle.flow_laws.proofs.Resumed.{none_continues}
 
 -- ---- the end that a status comes from
@@ -139,7 +139,7 @@ module _ (limit : ℕ) (bytes : List ℕ) where
   prefix = take limit bytes
 
   abbrev WholeInput : List ℕ → Type 0
-  WholeInput text = (market : Market) × (records : List Record) × (new : Market) × IsWholeInput limit bytes market records × Continues market records new text
+  WholeInput text = (market : Market) × (records : List Record) × (new : Market) × IsInput limit bytes market records × Continues market records new text
 
   done_first : (text : List ℕ) (first : First) → IsFirst prefix first → FirstComesTo More first (Ok tt) text → WholeInput text
   done_first text Neither stands comes = absurd (let no = comes.0 in cc)

@@ -32,7 +32,7 @@ use Rattle.exit_status.specs.declared.status.Status.TheVariants.{Done}
 use Rattle.flow_exchange.specs.Auditing.{legal_line}
 use Rattle.flow_exchange.specs.Program.{ComesTo}
 use Rattle.flow_exchange.proofs.CanonicallyKept.{are_own_kept, consistent_first}
-use Rattle.flow_laws.specs.Laws.{NewRecords, GoesOn, KeepsFirst, JoinsJournal, ResumptionsGoOn, ResumptionsKeepPromises}
+use Rattle.flow_laws.specs.Laws.{NewRecords, IsWrittenAfter, BeginsWithKept, JoinsJournal, ResumptionsGoOn, ResumptionsKeepPromises}
 use Rattle.flow_laws.proofs.ResumeCuts.{cut_into}
 use Rattle.flow_laws.proofs.GoingOn.{one_journal, canonical_journal, same_journal}
 
@@ -42,14 +42,14 @@ use Rattle.flow_laws.proofs.GoingOn.{one_journal, canonical_journal, same_journa
 pub none_continues : (market : Market) → Continues market [] market []
 none_continues market = record { pairs = []; answered = record { asked = refl; steps = refl }; fits = λ few. All-nil IsPair; encoded = refl }
 
-none : (market : Market) (rest text : List ℕ) → ((body : List ℕ) → rest ≢ command_magic_of market.version ++ body) → text ≡ [] → GoesOn market rest text
+none : (market : Market) (rest text : List ℕ) → ((body : List ℕ) → rest ≢ command_magic_of market.version ++ body) → text ≡ [] → IsWrittenAfter market rest text
 none market rest text no_file empty = record { records = []; new = market; are_new = inr (no_file, refl); continues = subst (Continues market [] market) (sym empty) (none_continues market) }
 
 few_bytes : (version : Version) (rest body : List ℕ) → length rest < 8 → rest ≢ command_magic_of version ++ body
 few_bytes version rest body few magic = omega (arith, few, ap length magic, length-append (command_magic_of version) body, eight version)
 
 module _ (kind : Origin) (market : Market) (More : Type 0) (place : ℕ) (rest : List ℕ) where
-  goes : (following : Rest) (ended : Ended Unfit) (text : List ℕ) → IsRest market.version More rest following → RestComesTo kind market More place rest following ended text → GoesOn market rest text
+  goes : (following : Rest) (ended : Ended Unfit) (text : List ℕ) → IsRest market.version More rest following → RestComesTo kind market More place rest following ended text → IsWrittenAfter market rest text
   goes Cut ended text is comes = none market rest text (λ body. few_bytes market.version rest body is.0) comes.1
   goes Nothing ended text is comes = none market rest text (λ body. few_bytes market.version rest body (rw is.0 (omega arith))) comes.1
   goes (Commands body) ended text is comes = record {
@@ -61,7 +61,7 @@ module _ (kind : Origin) (market : Market) (More : Type 0) (place : ℕ) (rest :
   goes Other ended text is comes = none market rest text is.2 comes.1
 
 -- the beginning of the input decides what is resumed from
-pub goes_from : (More : Type 0) (bytes : List ℕ) (ended : Ended Unfit) (text : List ℕ) (kind : Origin) (market : Market) (place : ℕ) (rest : List ℕ) → IsFirst bytes (Whole kind market place rest) → Resumes More bytes ended text → GoesOn market rest text
+pub goes_from : (More : Type 0) (bytes : List ℕ) (ended : Ended Unfit) (text : List ℕ) (kind : Origin) (market : Market) (place : ℕ) (rest : List ℕ) → IsFirst bytes (Whole kind market place rest) → Resumes More bytes ended text → IsWrittenAfter market rest text
 goes_from More bytes ended text kind market place rest stands all =
     let same = one_first bytes all.first (Whole kind market place rest) all.stands stands in
     let comes : FirstComesTo More (Whole kind market place rest) ended text = subst (λ (first : First). FirstComesTo More first ended text) same all.comes in
@@ -90,7 +90,7 @@ record StandsFirst (bytes : List ℕ) (market : Market) (rest : List ℕ) : Type
   place : ℕ
   first : IsFirst bytes (Whole kind market place rest)
 
-stands_first : (version : Version) (pairs : List (Pair Record Outcome)) (market : Market) (bytes rest : List ℕ) → IsLegalJournal version pairs market → KeepsFirst version pairs market bytes rest → StandsFirst bytes market rest
+stands_first : (version : Version) (pairs : List (Pair Record Outcome)) (market : Market) (bytes rest : List ℕ) → IsLegalJournal version pairs market → BeginsWithKept version pairs market bytes rest → StandsFirst bytes market rest
 stands_first version pairs market bytes rest legal (inl (whole, last)) = record {
   kind = origin.Journal;
   place = length (journal_in version pairs);
@@ -110,7 +110,7 @@ module _ (most : ℕ) (version : Version) (pairs : List (Pair Record Outcome)) (
   abbrev journal : List ℕ
   journal = journal_in version pairs
 
-  joins : (rest text : List ℕ) → GoesOn market rest text → length (journal ++ text) ≤ most → JoinsJournal most version pairs market rest text
+  joins : (rest text : List ℕ) → IsWrittenAfter market rest text → length (journal ++ text) ≤ most → JoinsJournal most version pairs market rest text
   joins rest text on within =
       let so = on.continues in
       record {

@@ -18,7 +18,7 @@ use Rattle.exchange_session.proofs.RunLaws.{run_is_exact, run_is_kept, run_has_n
 use Rattle.sample_market.specs.Files.{sample, encode_commands, sample_file}
 use Rattle.sample_market.proofs.LawProofs.{samples_are_read}
 use Rattle.sample_market.proofs.Short.{samples_are_short}
-use Rattle.sample_summary.specs.Summary.{units_in, summary_line}
+use Rattle.sample_summary.specs.Summary.{units_traded_in, summary_line}
 use Rattle.exit_status.specs.declared.status.Status.{Status}
 use Rattle.exit_status.specs.declared.status.Status.TheVariants as answer
 use Rattle.flow_exchange.specs.Statuses.{ended_status}
@@ -63,7 +63,7 @@ some_sample number orders few none =
     let asked : Pair Record Outcome → Record = λ p. p.asked in
     let count : length writes.pairs ≡ length (sample number orders) = sym (length-map writes.pairs asked) ∙ ap length writes.journal_of.asked ∙ length-map (sample number orders) record_of in
     let next = orders_few (empty_market One) market writes.pairs writes.journal_of.steps in
-    none answer.Done (summary_line orders (cleared_in writes.pairs) (skipped_in writes.pairs) (units_in writes.pairs)) (
+    none answer.Done (summary_line orders (cleared_in writes.pairs) (skipped_in writes.pairs) (units_traded_in writes.pairs)) (
       refl,
       record {
         market = market;

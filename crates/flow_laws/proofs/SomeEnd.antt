@@ -8,7 +8,7 @@ use Rattle.exchange_session.proofs.RunLaws.{run_is_exact, run_is_kept, run_has_n
 use Rattle.journal_words.specs.Words.{audit, explain, report}
 use Rattle.journal_words.proofs.JournalLaws.{audit_is_exact, explain_is_exact, report_is_exact}
 use Rattle.history_words.specs.Histories.{plainly, at_first, over_history, over_history_from}
-use Rattle.encode_word.specs.Tasks.{encoding}
+use Rattle.encode_word.specs.Tasks.{encode_task}
 use Rattle.encode_word.proofs.Encoding.{encodes_some}
 use Rattle.flow_exchange.specs.declared.form.Form.{Form}
 use Rattle.flow_exchange.specs.declared.form.Form.TheVariants.{Run, Audit, Explain, Report, Encode, Sample, Statement, Checkpoint, Resume}
@@ -44,7 +44,7 @@ none_is_without_end words Run limit bytes asks = some_end_of (task run start) Ru
 none_is_without_end words Audit limit bytes asks = some_end_of (over_history audit audit_from) Audit limit rejected audit_form bytes (some_history_end audit (plainly audit_from) audit_is_exact audit_goes limit bytes)
 none_is_without_end words Explain limit bytes asks = some_end_of (over_history explain audit_from) Explain limit rejected explain_form bytes (some_history_end explain (plainly audit_from) explain_is_exact explain_goes limit bytes)
 none_is_without_end words Report limit bytes asks = some_end_of (over_history report report_from) Report limit rejected report_form bytes (some_history_end report (plainly report_from) report_is_exact report_goes limit bytes)
-none_is_without_end words (Encode version) limit bytes asks = some_end_of (encoding version) (Encode version) limit unencoded (encode_form version) bytes (encodes_some version (limit < length bytes) (more_or_not limit (length bytes)) (take limit bytes))
+none_is_without_end words (Encode version) limit bytes asks = some_end_of (encode_task version) (Encode version) limit unencoded (encode_form version) bytes (encodes_some version (limit < length bytes) (more_or_not limit (length bytes)) (take limit bytes))
 none_is_without_end words (Statement number) limit bytes asks =
     some_end_of (over_history_from statement (at_first (statement_begins number))) (Statement number) limit no_statement (statement_form number) bytes
     (some_history_end statement (at_first (statement_begins number)) statement_is_exact (statement_goes number) limit bytes)

@@ -15,7 +15,7 @@ use Rattle.order_text.specs.Lines.{Leave}
 use Rattle.order_text.proofs.OneAnswers.{one_table}
 use Rattle.line_records.proofs.Saying.{lines_leave}
 use Rattle.encode_word.specs.declared.stop.EncodeStop.{EncodeStop}
-use Rattle.encode_word.specs.Starts.{known_after, IsBefore}
+use Rattle.encode_word.specs.Starts.{known_after, PrecedesLines}
 use Rattle.encode_word.specs.Encoding.{EncodesLines}
 use Rattle.encode_word.proofs.TickersLeft.{made_tickers, step_tickers}
 use Rattle.word_driver.specs.Ended.{Ended}
@@ -55,6 +55,6 @@ tickers_agree = record {
   ran = λ version limit bytes text journal ended encoded market plain journals.
       lines_agree version (limit < length bytes) (take limit bytes) text ended encoded (empty_market version) market journals.pairs refl (sym (ap known_after plain)) journals.journal_of.asked journals.journal_of.steps;
   resumed = λ version limit bytes text entries ended encoded old market kept continues.
-      let before = subst (λ (start : Option Market). IsBefore version (limit < length bytes) (take limit bytes) start encoded.lines) kept encoded.begins in
+      let before = subst (λ (start : Option Market). PrecedesLines version (limit < length bytes) (take limit bytes) start encoded.lines) kept encoded.begins in
       lines_agree version (limit < length bytes) (take limit bytes) text ended encoded old market continues.pairs before.1 (sym (ap known_after kept)) continues.answered.asked continues.answered.steps;
 }

@@ -36,7 +36,7 @@ use Rattle.statement_rules.specs.Views.{Event, Sees}
 use Rattle.statement_rules.specs.Holdings.{held_in, IsHeld}
 use Rattle.statement_rules.specs.Statements.{statement, statement_from}
 use Rattle.sample_market.specs.Files.{sample_file}
-use Rattle.sample_summary.specs.Summary.{units_in, summary_line}
+use Rattle.sample_summary.specs.Summary.{units_traded_in, summary_line}
 use Rattle.flow_exchange.specs.Forms.{Asks}
 use Rattle.flow_exchange.specs.declared.form.Form.{Form}
 use Rattle.flow_exchange.specs.declared.form.Form.TheVariants.{Run, Audit, Explain, Report, Encode, Sample, Statement, Checkpoint, Resume}
@@ -226,7 +226,7 @@ pub record SampleIsRun (number orders most : ℕ) (line : List ℕ) : Type 0 whe
   pub journal : List ℕ
   pub run : ComesTo Run most (sample_file number orders) Done journal
   pub audit : length journal ≤ most → ComesTo Audit most journal Done (legal_line pairs)
-  pub told : line ≡ summary_line orders (cleared_in pairs) (skipped_in pairs) (units_in pairs)
+  pub told : line ≡ summary_line orders (cleared_in pairs) (skipped_in pairs) (units_traded_in pairs)
 
 -- if a sample results in a status and a line, the line is the one on the journal that a run of its file writes
 abbrev pub SamplesAreRun : Type 0
@@ -322,7 +322,7 @@ CommandFilesBeginNoPair = (version : Version) (body : List ℕ) → BeginsWithNo
 
 -- The input is within the limit: it begins with what keeps this market, and nothing follows, or a command file of the market's version with
 -- exactly these records.
-pub record IsWholeInput (limit : ℕ) (bytes : List ℕ) (market : Market) (records : List Record) : Type 0 where
+pub record IsInput (limit : ℕ) (bytes : List ℕ) (market : Market) (records : List Record) : Type 0 where
   pub origin : Origin
   pub place : ℕ
   pub rest : List ℕ
@@ -334,7 +334,7 @@ pub record IsWholeInput (limit : ℕ) (bytes : List ℕ) (market : Market) (reco
 -- first invalid entry. BadCheckpoint and NotFlow: exactly if there is nothing to resume from. After these three nothing is written.
 pub record ResumptionsEnd : Type 0 where
   pub done : (limit : ℕ) (bytes text : List ℕ) → ComesTo Resume limit bytes Done text
-      ↔ ((market : Market) × (records : List Record) × (new : Market) × IsWholeInput limit bytes market records × Continues market records new text)
+      ↔ ((market : Market) × (records : List Record) × (new : Market) × IsInput limit bytes market records × Continues market records new text)
   pub rejected : (limit number : ℕ) (bytes text : List ℕ) → ComesTo Resume limit bytes (Rejected number) text ↔ (BeginsIllegal (take limit bytes) number × (text ≡ []))
   pub bad : (limit : ℕ) (bytes text : List ℕ) → ComesTo Resume limit bytes BadCheckpoint text
       ↔ (HasCheckpointMagic bytes × BeginsWithNoCheckpoint bytes × (length bytes ≤ limit) × (text ≡ []))
@@ -342,7 +342,7 @@ pub record ResumptionsEnd : Type 0 where
       ↔ (BeginsWithNone journals.magics (take limit bytes) × (¬ HasCheckpointMagic (take limit bytes)) × (text ≡ []))
 
 -- What is written for a rest after what keeps this market: the entries that answer the new records from the market on.
-pub record GoesOn (market : Market) (rest text : List ℕ) : Type 0 where
+pub record IsWrittenAfter (market : Market) (rest text : List ℕ) : Type 0 where
   pub records : List Record
   pub new : Market
   pub are_new : NewRecords market.version rest records
@@ -352,15 +352,15 @@ pub record GoesOn (market : Market) (rest text : List ℕ) : Type 0 where
 -- exchange. After each of them what is held is what was held at the start, and the accepted deposits less the accepted withdrawals of the entries so far.
 pub record ResumptionsKeepPromises : Type 0 where
   pub goes_on : (limit place : ℕ) (bytes rest text : List ℕ) (origin : Origin) (market : Market) (status : Status) → IsFirst (take limit bytes) (Whole origin market place rest)
-      → ComesTo Resume limit bytes status text → IsConsistent market × GoesOn market rest text
+      → ComesTo Resume limit bytes status text → IsConsistent market × IsWrittenAfter market rest text
   pub keeps : (old new : Market) (records : List Record) (text : List ℕ) (writes : Continues old records new text) → IsConsistent old → AreCanonicallyKept old writes.pairs new
   pub after_each : (old new : Market) (records : List Record) (text : List ℕ) (writes : Continues old records new text) (before after : List (Pair Record Outcome)) → IsConsistent old
       → writes.pairs ≡ before ++ after → (market : Market) × Leads old before market × IsConsistent market × HoldsDeposits IsReadAs old before market
 
 -- the bytes begin with what keeps the market of these valid entries, and this rest follows: their journal, if the rest begins with no complete
 -- entry, or a checkpoint of the market
-abbrev pub KeepsFirst : Version → List (Pair Record Outcome) → Market → List ℕ → List ℕ → Type 0
-KeepsFirst version pairs market bytes rest =
+abbrev pub BeginsWithKept : Version → List (Pair Record Outcome) → Market → List ℕ → List ℕ → Type 0
+BeginsWithKept version pairs market bytes rest =
     ((bytes ≡ journal_in version pairs ++ rest) × BeginsWithNone journals.units rest)
     ⊎ ((checkpoint : List ℕ) × IsCheckpoint market checkpoint × (bytes ≡ checkpoint ++ rest))
 
@@ -380,10 +380,10 @@ pub record JoinsJournal (most : ℕ) (version : Version) (pairs : List (Pair Rec
 -- holds after a read fault, or after memory ran out, does too.
 pub record ResumptionsGoOn : Type 0 where
   pub whole : (limit most : ℕ) (bytes rest text : List ℕ) (version : Version) (pairs : List (Pair Record Outcome)) (market : Market) (status : Status) → IsLegalJournal version pairs market
-      → KeepsFirst version pairs market (take limit bytes) rest → ComesTo Resume limit bytes status text → most < 2 ^ 64 → length (journal_in version pairs ++ text) ≤ most
+      → BeginsWithKept version pairs market (take limit bytes) rest → ComesTo Resume limit bytes status text → most < 2 ^ 64 → length (journal_in version pairs ++ text) ≤ most
       → JoinsJournal most version pairs market rest text
   pub begun : (limit most : ℕ) (bytes rest text : List ℕ) (version : Version) (pairs : List (Pair Record Outcome)) (market : Market) → IsLegalJournal version pairs market
-      → KeepsFirst version pairs market (take limit bytes) rest → GetsTo Resume limit bytes text → most < 2 ^ 64 → length (journal_in version pairs ++ text) ≤ most
+      → BeginsWithKept version pairs market (take limit bytes) rest → GetsTo Resume limit bytes text → most < 2 ^ 64 → length (journal_in version pairs ++ text) ≤ most
       → (line : List ℕ) × ComesTo Audit most (journal_in version pairs ++ text) Done line
 
 -- both are done, or both are torn, equally far after these two places

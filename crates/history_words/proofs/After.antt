@@ -26,7 +26,7 @@ use Rattle.word_driver.specs.Ended.{Ended}
 use Rattle.word_driver.specs.Word.{Word, ComesOn}
 use Rattle.word_driver.specs.Does.{IsTaken, Determines, Meets, Does}
 use Rattle.word_driver.specs.Laws.{IsExact}
-use Rattle.word_driver.specs.Private.{Ends, GoesOn}
+use Rattle.word_driver.specs.Private.{Ends, ContinuesFrom}
 use Rattle.word_driver.proofs.Alike.{comes_on_alike, lacks_on_alike}
 use Rattle.word_driver.proofs.Going.{blames_later}
 use Rattle.word_driver.proofs.Whole.{took}
@@ -188,7 +188,7 @@ module _ {S B : Type 0} (w : Word (Record × Record) S B) (begins : Beginning S)
 
   pub does_after : (before middle after : Option (List ℕ)) (first faults later : ℕ) (window : WindowState) (market : Market) (inner : Ended B) (most : ℕ) (held opened now : Option (List ℕ)) (out_first out_faults out_later : ℕ) → Begins before middle window market → window.limit ≡ limit
       → Grows held opened (begins.opens market) → out_faults ≡ out_first
-      → GoesOn w most window (begins.starts market) inner (record { before = middle; after = after; faults = faults; faults_after = later }) (record { before = opened; after = now; faults = out_faults; faults_after = out_later })
+      → ContinuesFrom w most window (begins.starts market) inner (record { before = middle; after = after; faults = faults; faults_after = later }) (record { before = opened; after = now; faults = out_faults; faults_after = out_later })
       → faults ≡ first → Blames (inner ≡ Err Read) faults later → Blames (inner ≡ Err Write) out_faults out_later
       → Does (over_history_from w begins) limit (following inner) (record { before = before; after = after; faults = first; faults_after = later }) (record { before = held; after = now; faults = out_first; faults_after = out_later })
   does_after before middle after first faults later window market inner most held opened now out_first out_faults out_later begin same written out_quiet goes quiet reads writes =

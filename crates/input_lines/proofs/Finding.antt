@@ -11,10 +11,10 @@ use Rattle.flow_io.specs.declared.window.InputEnd.TheVariants.{Source, Limit}
 use Rattle.flow_io.specs.declared.source.ReadFailed.{ReadFailed}
 use Rattle.flow_io.proofs.Reading.{Takes-more}
 use Rattle.file_units.proofs.Gone.{within_limit}
-use Rattle.line_records.specs.Lines.{IsPiece}
+use Rattle.line_records.specs.Lines.{HasNoFeed}
 use Rattle.line_records.proofs.Pieces.{empty_piece, line_found, no_line_found}
 use Rattle.input_lines.specs.Long.{most_line}
-use Rattle.input_lines.specs.Finding.{IsOpen, Found, Finds, FindsNone}
+use Rattle.input_lines.specs.Finding.{IsOpen, Found, FindsNext, FindsNoFeed}
 use Rattle.input_lines.specs.Private.{IsPassing, IsSearching}
 use Rattle.input_lines.specs.declared.lines.Next.{Next}
 use Rattle.input_lines.specs.declared.lines.Next.TheVariants as next
@@ -24,7 +24,7 @@ Takes-nothing None = tt
 Takes-nothing (Some left) = refl
 
 -- two pieces, one after the other, are a piece
-pub pieces_join : (a b : List ℕ) → IsPiece a → IsPiece b → IsPiece (a ++ b)
+pub pieces_join : (a b : List ℕ) → HasNoFeed a → HasNoFeed b → HasNoFeed (a ++ b)
 pieces_join a b p q has = ⊎_elim p q (Contains-append_cases a b 10 has)
 
 not_none : (over : Option InputEnd) → over ≡ Some Source → over ≡ Some Limit → ⊥
@@ -104,7 +104,7 @@ module _ (old w : WindowState) (first x : Option (List ℕ)) (seen : ℕ) (is : 
   all_within = omega (arith, is.is_open.within, is.place, is.limit, ap length is.held)
 
   -- a line feed was found
-  pub search_found : (size : ℕ) → length w.held ≤ w.room → IsFirstByte (is_byte 10) (drop seen w.held) (Some size) → Finds old w first x (next.Line (seen + size))
+  pub search_found : (size : ℕ) → length w.held ≤ w.room → IsFirstByte (is_byte 10) (drop seen w.held) (Some size) → FindsNext old w first x (next.Line (seen + size))
   search_found size few found =
       let one = line_found (drop seen w.held) size found in
       let parts : w.held ≡ take seen w.held ++ (take size (drop seen w.held) ++ 10 ∷ drop (size + 1) (drop seen w.held)) =
@@ -123,7 +123,7 @@ module _ (old w : WindowState) (first x : Option (List ℕ)) (seen : ℕ) (is : 
           is.place,
           inside,
           omega (arith, inside, few, is.is_open.room),
-          subst IsPiece (sym prefix) (pieces_join (take seen w.held) (take size (drop seen w.held)) is.piece one.0.0),
+          subst HasNoFeed (sym prefix) (pieces_join (take seen w.held) (take size (drop seen w.held)) is.piece one.0.0),
           parts ∙ sym (append_assoc (take seen w.held) (take size (drop seen w.held)) (10 ∷ drop (size + 1) (drop seen w.held)))
               ∙ ap (λ (l : List ℕ). l ++ 10 ∷ drop (size + 1) (drop seen w.held)) (sym prefix) ∙ ap (λ (l : List ℕ). take (seen + size) w.held ++ 10 ∷ l) (sym following),
           refl,
@@ -132,11 +132,11 @@ module _ (old w : WindowState) (first x : Option (List ℕ)) (seen : ℕ) (is : 
       }
 
   -- none was found
-  pub search_all : IsFirstByte (is_byte 10) (drop seen w.held) None → IsPiece w.held
-  search_all none = subst IsPiece (take-append-drop seen w.held) (pieces_join (take seen w.held) (drop seen w.held) is.piece (no_line_found (drop seen w.held) none))
+  pub search_all : IsFirstByte (is_byte 10) (drop seen w.held) None → HasNoFeed w.held
+  search_all none = subst HasNoFeed (take-append-drop seen w.held) (pieces_join (take seen w.held) (drop seen w.held) is.piece (no_line_found (drop seen w.held) none))
 
   -- what was found by passing over a long line
-  pub passed : (new : WindowState) (after : Option (List ℕ)) (found : Next) → Finds w new x after found → Finds old new first after found
+  pub passed : (new : WindowState) (after : Option (List ℕ)) (found : Next) → FindsNext w new x after found → FindsNext old new first after found
   passed new after found finds =
       let bytes : old.held ++ (is.joined ++ finds.joined) ≡ w.held ++ finds.joined = sym (append_assoc old.held is.joined finds.joined) ∙ ap (λ (l : List ℕ). l ++ finds.joined) all_held in
       record {
@@ -156,26 +156,26 @@ module _ (old w : WindowState) (first x : Option (List ℕ)) (seen : ℕ) (is : 
       found_by new after past all next.End f = f
       found_by new after past all next.Limit f = (f.0, f.1, omega (arith, f.2, is.place, is.limit))
 
-  pub passed_none : (after : Option (List ℕ)) → FindsNone w x after → FindsNone old first after
+  pub passed_none : (after : Option (List ℕ)) → FindsNoFeed w x after → FindsNoFeed old first after
   passed_none after none =
       let bytes : old.held ++ (is.joined ++ none.joined) ≡ w.held ++ none.joined = sym (append_assoc old.held is.joined none.joined) ∙ ap (λ (l : List ℕ). l ++ none.joined) all_held in
       record {
         joined = is.joined ++ none.joined;
         takes = Takes-more first x after is.joined none.joined is.takes none.takes;
         within = omega (arith, none.within, is.place, is.limit, ap length bytes);
-        piece = subst IsPiece (sym bytes) none.piece;
+        piece = subst HasNoFeed (sym bytes) none.piece;
       }
 
-  pub passed_by : (new : WindowState) (after : Option (List ℕ)) (result : Result Next ReadFailed) → IfOk result (Finds w new x after) → IfOk result (Finds old new first after)
+  pub passed_by : (new : WindowState) (after : Option (List ℕ)) (result : Result Next ReadFailed) → IfOk result (FindsNext w new x after) → IfOk result (FindsNext old new first after)
   passed_by new after (Ok found) finds = passed new after found finds
   passed_by new after (Err failed) finds = tt
 
-  pub passed_none_by : (after : Option (List ℕ)) (result : Result Next ReadFailed) → OnErr result (FindsNone w x after) → OnErr result (FindsNone old first after)
+  pub passed_none_by : (after : Option (List ℕ)) (result : Result Next ReadFailed) → OnErr result (FindsNoFeed w x after) → OnErr result (FindsNoFeed old first after)
   passed_none_by after (Ok found) none = tt
   passed_none_by after (Err failed) none = passed_none after none
 
   -- more was read, or not
-  module _ (f : WindowState) (y : Option (List ℕ)) (fills : Fills w f x y) (piece : IsPiece w.held) (all : f.over ≡ Some Source → IfSome y (λ left. left ≡ []))
+  module _ (f : WindowState) (y : Option (List ℕ)) (fills : Fills w f x y) (piece : HasNoFeed w.held) (all : f.over ≡ Some Source → IfSome y (λ left. left ≡ []))
       (within : IsWithin f.place (length f.held) f.limit f.over) where
     further : f.over ≢ Some Limit → Takes first y (is.joined ++ fills.joined)
     further not = Takes-more first x y is.joined fills.joined is.takes (taken_whole w f x y fills not)
@@ -188,7 +188,7 @@ module _ (old w : WindowState) (first x : Option (List ℕ)) (seen : ℕ) (is : 
       held = filled_held w f x y fills ∙ ap (λ (l : List ℕ). l ++ fills.joined) is.held ∙ append_assoc old.held is.joined fills.joined;
       place = filled_place w f x y fills ∙ is.place;
       inside = omega (arith, ap length (filled_held w f x y fills), length-append w.held fills.joined);
-      piece = subst IsPiece (sym (ap (λ (l : List ℕ). take (length w.held) l) (filled_held w f x y fills) ∙ take-append_seam w.held fills.joined)) piece;
+      piece = subst HasNoFeed (sym (ap (λ (l : List ℕ). take (length w.held) l) (filled_held w f x y fills) ∙ take-append_seam w.held fills.joined)) piece;
       is_open = stays_open w f x y fills is.is_open same all within;
     }
 
@@ -197,7 +197,7 @@ module _ (old w : WindowState) (first x : Option (List ℕ)) (seen : ℕ) (is : 
       same_held : f.held ≡ w.held
       same_held = filled_held w f x y fills ∙ ap (λ (l : List ℕ). w.held ++ l) (joined_none w f x y fills few) ∙ append-nil w.held
 
-      pub search_limit : f.over ≡ Some Limit → (w.over ≢ None → f.over ≡ w.over) → Finds old f first y next.Limit
+      pub search_limit : f.over ≡ Some Limit → (w.over ≢ None → f.over ≡ w.over) → FindsNext old f first y next.Limit
       search_limit over kept =
           let full : f.place + length f.held ≡ f.limit = subst (λ (o : Option InputEnd). IsWithin f.place (length f.held) f.limit o) over within in
           record {
@@ -213,18 +213,18 @@ module _ (old w : WindowState) (first x : Option (List ℕ)) (seen : ℕ) (is : 
             );
           }
 
-      pub search_none_read : f.over ≡ None → FindsNone old first y
+      pub search_none_read : f.over ≡ None → FindsNoFeed old first y
       search_none_read over = record {
         joined = is.joined;
         takes = subst (Takes first y) (ap (λ (l : List ℕ). is.joined ++ l) (joined_none w f x y fills few) ∙ append-nil is.joined) (further (λ e. absurd (let bad : ◌≡◌ {A = Option InputEnd} None (Some Limit) = sym over ∙ e in cc)));
         within = all_within;
-        piece = subst IsPiece is.held piece;
+        piece = subst HasNoFeed is.held piece;
       }
 
       ended_takes : f.over ≡ Some Source → Takes first y (is.joined ++ [])
       ended_takes over = subst (λ (l : List ℕ). Takes first y (is.joined ++ l)) (joined_none w f x y fills few) (further (λ e. not_none f.over over e))
 
-      pub search_last : f.over ≡ Some Source → f.held ≢ [] → length w.held ≤ most_line → Finds old f first y next.Last
+      pub search_last : f.over ≡ Some Source → f.held ≢ [] → length w.held ≤ most_line → FindsNext old f first y next.Last
       search_last over some short = record {
         joined = is.joined;
         past = [];
@@ -248,7 +248,7 @@ module _ (old w : WindowState) (first x : Option (List ℕ)) (seen : ℕ) (is : 
         );
       }
 
-      pub search_end : f.over ≡ Some Source → f.held ≡ [] → Finds old f first y next.End
+      pub search_end : f.over ≡ Some Source → f.held ≡ [] → FindsNext old f first y next.End
       search_end over none = record {
         joined = is.joined;
         past = [];
@@ -258,13 +258,13 @@ module _ (old w : WindowState) (first x : Option (List ℕ)) (seen : ℕ) (is : 
         is = subst (λ (l : List ℕ). Found old f y [] l next.End) is.held (sym same_held ∙ none, refl, (over, all over));
       }
 
-      pub search_ended : f.over ≡ Some Source → length w.held ≤ most_line → (found : Next) → (found ≡ next.Last → f.held ≢ []) → (found ≡ next.End → f.held ≡ []) → (found ≡ next.Last) ⊎ (found ≡ next.End) → Finds old f first y found
+      pub search_ended : f.over ≡ Some Source → length w.held ≤ most_line → (found : Next) → (found ≡ next.Last → f.held ≢ []) → (found ≡ next.End → f.held ≡ []) → (found ≡ next.Last) ⊎ (found ≡ next.End) → FindsNext old f first y found
       search_ended over short found some none either =
-          ⊎_elim (λ last. subst (λ (n : Next). Finds old f first y n) (sym last) (search_last over (some last) short)) (λ end. subst (λ (n : Next). Finds old f first y n) (sym end) (search_end over (none end))) either
+          ⊎_elim (λ last. subst (λ (n : Next). FindsNext old f first y n) (sym last) (search_last over (some last) short)) (λ end. subst (λ (n : Next). FindsNext old f first y n) (sym end) (search_end over (none end))) either
 
 -- ---- a long line is passed over
 
-pub passing_none : (w : WindowState) (x : Option (List ℕ)) → IsOpen w x → IsPiece w.held → most_line < length w.held → IsPassing w w x x
+pub passing_none : (w : WindowState) (x : Option (List ℕ)) → IsOpen w x → HasNoFeed w.held → most_line < length w.held → IsPassing w w x x
 passing_none w x is_open piece long = record {
   joined = [];
   gone = [];
@@ -333,7 +333,7 @@ module _ (old w g f : WindowState) (first x y : Option (List ℕ)) (is : IsPassi
   }
 
   -- one is, and the window begins after it
-  pub passing_found : (size : ℕ) (b : WindowState) → f.over ≡ g.over → IsFirstByte (is_byte 10) f.held (Some size) → b ≡ record f { held = drop (size + 1) f.held; place = f.place + (size + 1) } → Finds old b first y next.Long
+  pub passing_found : (size : ℕ) (b : WindowState) → f.over ≡ g.over → IsFirstByte (is_byte 10) f.held (Some size) → b ≡ record f { held = drop (size + 1) f.held; place = f.place + (size + 1) } → FindsNext old b first y next.Long
   passing_found size b same found following =
       let one = line_found f.held size found in
       let line = whole ++ take size f.held in
@@ -372,7 +372,7 @@ module _ (old w g f : WindowState) (first x y : Option (List ℕ)) (is : IsPassi
     all_in : old.place + length (old.held ++ is.joined) ≤ old.limit
     all_in = omega (arith, is.is_open.within, is.place, is.limit, ap length is.parts, length-append is.gone w.held)
 
-    pub passing_limit : f.over ≡ Some Limit → (g.over ≢ None → f.over ≡ g.over) → Finds old f first y next.Limit
+    pub passing_limit : f.over ≡ Some Limit → (g.over ≢ None → f.over ≡ g.over) → FindsNext old f first y next.Limit
     passing_limit over kept =
         let full : f.place + length f.held ≡ f.limit = subst (λ (o : Option InputEnd). IsWithin f.place (length f.held) f.limit o) over within in
         record {
@@ -388,7 +388,7 @@ module _ (old w g f : WindowState) (first x y : Option (List ℕ)) (is : IsPassi
           );
         }
 
-    pub passing_last : f.over ≡ Some Source → Finds old f first y next.LongLast
+    pub passing_last : f.over ≡ Some Source → FindsNext old f first y next.LongLast
     passing_last over = record {
       joined = is.joined;
       past = [];
@@ -398,10 +398,10 @@ module _ (old w g f : WindowState) (first x y : Option (List ℕ)) (is : IsPassi
       is = subst (λ (l : List ℕ). Found old f y [] l next.LongLast) (sym all_is) (is.long, is.piece, refl, (over, all over));
     }
 
-    pub passing_unread : f.over ≡ None → FindsNone old first y
+    pub passing_unread : f.over ≡ None → FindsNoFeed old first y
     passing_unread over = record {
       joined = is.joined;
       takes = subst (Takes first y) (ap (λ (l : List ℕ). is.joined ++ l) none_joined ∙ append-nil is.joined) (now_takes (λ e. absurd (let bad : ◌≡◌ {A = Option InputEnd} None (Some Limit) = sym over ∙ e in cc)));
       within = all_in;
-      piece = subst IsPiece (sym all_is) is.piece;
+      piece = subst HasNoFeed (sym all_is) is.piece;
     }

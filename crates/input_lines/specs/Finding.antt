@@ -3,7 +3,7 @@ use Rattle.std.specs.Prelude.{◌≡◌, ◌≢◌, ◌<◌, ◌≤◌, ◌+◌,
 use Rattle.flow_io.specs.Streams.{Takes}
 use Rattle.flow_io.specs.Windows.{WindowState}
 use Rattle.flow_io.specs.declared.window.InputEnd.TheVariants.{Source, Limit}
-use Rattle.line_records.specs.Lines.{IsPiece}
+use Rattle.line_records.specs.Lines.{HasNoFeed}
 use Rattle.input_lines.specs.Long.{most_line, IsLong}
 use Rattle.input_lines.specs.declared.lines.Next.{Next}
 use Rattle.input_lines.specs.declared.lines.Next.TheVariants as next
@@ -23,17 +23,17 @@ HasEnded window rest = (window.over ≡ Some Source) × IfSome rest (λ left. le
 module _ (old new : WindowState) (after : Option (List ℕ)) (past all : List ℕ) where
   abbrev pub Found : Next → Type 0
   Found (next.Line size) =
-      (new.held ≡ all) × (new.place ≡ old.place) × (size < length all) × (size ≤ most_line) × IsPiece (take size all) × (all ≡ take size all ++ 10 ∷ drop (size + 1) all)
+      (new.held ≡ all) × (new.place ≡ old.place) × (size < length all) × (size ≤ most_line) × HasNoFeed (take size all) × (all ≡ take size all ++ 10 ∷ drop (size + 1) all)
       × (past ≡ []) × IsOpen new after
   Found next.Long =
-      (line : List ℕ) × IsLong line × IsPiece line × (all ≡ line ++ 10 ∷ new.held) × (new.place ≡ old.place + (length line + 1)) × (past ≡ []) × IsOpen new after
-  Found next.Last = (new.held ≡ all) × (new.place ≡ old.place) × (all ≢ []) × (length all ≤ most_line) × IsPiece all × (past ≡ []) × IsOpen new after × HasEnded new after
-  Found next.LongLast = IsLong all × IsPiece all × (past ≡ []) × HasEnded new after
+      (line : List ℕ) × IsLong line × HasNoFeed line × (all ≡ line ++ 10 ∷ new.held) × (new.place ≡ old.place + (length line + 1)) × (past ≡ []) × IsOpen new after
+  Found next.Last = (new.held ≡ all) × (new.place ≡ old.place) × (all ≢ []) × (length all ≤ most_line) × HasNoFeed all × (past ≡ []) × IsOpen new after × HasEnded new after
+  Found next.LongLast = IsLong all × HasNoFeed all × (past ≡ []) × HasEnded new after
   Found next.End = (all ≡ []) × (past ≡ []) × HasEnded new after
-  Found next.Limit = IsPiece all × (length past ≡ 1) × (old.place + length all ≡ old.limit)
+  Found next.Limit = HasNoFeed all × (length past ≡ 1) × (old.place + length all ≡ old.limit)
 
 -- Bytes were taken from a source, and what comes next was found.
-pub record Finds (old new : WindowState) (before after : Option (List ℕ)) (found : Next) : Type 0 where
+pub record FindsNext (old new : WindowState) (before after : Option (List ℕ)) (found : Next) : Type 0 where
   pub joined : List ℕ
   pub past : List ℕ
   pub takes : Takes before after (joined ++ past)
@@ -42,8 +42,8 @@ pub record Finds (old new : WindowState) (before after : Option (List ℕ)) (fou
   pub is : Found old new after past (old.held ++ joined) found
 
 -- Bytes were taken from a source, and no line feed is among them or those held.
-pub record FindsNone (old : WindowState) (before after : Option (List ℕ)) : Type 0 where
+pub record FindsNoFeed (old : WindowState) (before after : Option (List ℕ)) : Type 0 where
   pub joined : List ℕ
   pub takes : Takes before after joined
   pub within : old.place + length (old.held ++ joined) ≤ old.limit
-  pub piece : IsPiece (old.held ++ joined)
+  pub piece : HasNoFeed (old.held ++ joined)

@@ -2,7 +2,7 @@
 use Rattle.std.specs.Prelude.{◌≡◌, ◌<◌, ◌≤◌, ◌+◌, ℕ, List, ◌++◌, length, take, Option}
 use Rattle.flow_io.specs.Streams.{Takes}
 use Rattle.flow_io.specs.Windows.{WindowState}
-use Rattle.line_records.specs.Lines.{IsPiece}
+use Rattle.line_records.specs.Lines.{HasNoFeed}
 use Rattle.input_lines.specs.Long.{most_line}
 use Rattle.input_lines.specs.Finding.{IsOpen}
 
@@ -14,7 +14,7 @@ pub record IsPassing (old now : WindowState) (before rest : Option (List ℕ)) :
   pub limit : now.limit ≡ old.limit
   pub parts : old.held ++ joined ≡ gone ++ now.held
   pub place : now.place ≡ old.place + length gone
-  pub piece : IsPiece (gone ++ now.held)
+  pub piece : HasNoFeed (gone ++ now.held)
   pub long : most_line < length (gone ++ now.held)
   pub is_open : IsOpen now rest
 
@@ -26,5 +26,5 @@ pub record IsSearching (old now : WindowState) (before rest : Option (List ℕ))
   pub held : now.held ≡ old.held ++ joined
   pub place : now.place ≡ old.place
   pub inside : seen ≤ length now.held
-  pub piece : IsPiece (take seen now.held)
+  pub piece : HasNoFeed (take seen now.held)
   pub is_open : IsOpen now rest

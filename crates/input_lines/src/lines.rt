@@ -1,9 +1,9 @@
 //! The lines of an input, each found in a window or passed over.
 ghost use Rattle.std.specs.Prelude.{◌≡◌, ◌≢◌, ◌<◌, ◌⊎◌, [], length, IfOk, OnErr, IsErr};
 ghost use Rattle.flow_io.specs.Faults.{Blames};
-ghost use Rattle.line_records.specs.Lines.{IsPiece};
+ghost use Rattle.line_records.specs.Lines.{HasNoFeed};
 ghost use Rattle.input_lines.specs.Long.{most_line};
-ghost use Rattle.input_lines.specs.Finding.{IsOpen, Finds, FindsNone};
+ghost use Rattle.input_lines.specs.Finding.{IsOpen, FindsNext, FindsNoFeed};
 
 use crate::MOST_LINE;
 use flow_io::{Filled, ReadFailed, Source, Window};
@@ -29,10 +29,10 @@ pub enum Next {
 // Passes over a line that is too long, of which the window holds the first bytes.
 fn pass_over<S: Source>(window: &mut Window, source: &mut S) -> Result<Next, ReadFailed>
     requires open { IsOpen window.old (S.rest source.old) }
-    requires piece { IsPiece window.old.held }
+    requires piece { HasNoFeed window.old.held }
     requires long { most_line < length window.old.held }
-    ensures finds { IfOk result (Finds window.old window.new (S.rest source.old) (S.rest source.new)) }
-    ensures none { OnErr result (FindsNone window.old (S.rest source.old) (S.rest source.new)) }
+    ensures finds { IfOk result (FindsNext window.old window.new (S.rest source.old) (S.rest source.new)) }
+    ensures none { OnErr result (FindsNoFeed window.old (S.rest source.old) (S.rest source.new)) }
     ensures cause { Blames (IsErr result) (S.faults source.old) (S.faults source.new) }
 {
     'parts: loop {
@@ -54,13 +54,13 @@ fn pass_over<S: Source>(window: &mut Window, source: &mut S) -> Result<Next, Rea
     }
 }
 
-/// Finds what an input has next, after what its window has given up: reads only while the window holds no line feed, until it holds one, the input ends, or
+/// FindsNext what an input has next, after what its window has given up: reads only while the window holds no line feed, until it holds one, the input ends, or
 /// the line is too long, which is passed over. The window has room for 65,537 bytes. `ReadFailed` comes only if the source's count of faults rose; then no
 /// line feed is among the bytes that were taken.
 pub fn next_line<S: Source>(window: &mut Window, source: &mut S) -> Result<Next, ReadFailed>
     requires open { IsOpen window.old (S.rest source.old) }
-    ensures finds { IfOk result (Finds window.old window.new (S.rest source.old) (S.rest source.new)) }
-    ensures none { OnErr result (FindsNone window.old (S.rest source.old) (S.rest source.new)) }
+    ensures finds { IfOk result (FindsNext window.old window.new (S.rest source.old) (S.rest source.new)) }
+    ensures none { OnErr result (FindsNoFeed window.old (S.rest source.old) (S.rest source.new)) }
     ensures cause { Blames (IsErr result) (S.faults source.old) (S.faults source.new) }
 {
     let mut seen = 0;

@@ -9,7 +9,7 @@ pub enum DiskFault {
     /// The disk holds something else than a journal.
     NotDisk,
     /// There is no commit byte at this place; or one that is set and isn't followed by the length and bytes of a
-    /// complete entry; or one that isn't set and is followed by more bytes than a crash can leave, which are 2^21.
+    /// complete entry; or one that isn't set and has more than 2^21 bytes after it.
     Damaged(u64),
     /// Out of memory.
     Memory,

@@ -4,8 +4,8 @@
 //! then stored entries: a commit byte, the length of the entry in four bytes, and the entry, two records as in a
 //! journal. An entry counts if its commit byte is set, which is 1; an unset one is written as 0, and any other byte is
 //! unset too. The first commit byte that isn't set ends the journal, and what follows it has no meaning. A crash leaves
-//! there no more than was being written, so a disk with more than 2^21 bytes after it is damaged at that commit byte,
-//! and keeps what it holds. Before all others there may be a first entry that is none of the journal: bytes of at most
+//! there no more than was being written, so a disk that isn't new and has more than 2^21 bytes after it is damaged at
+//! that commit byte, and keeps what it holds. Before all others there may be a first entry that is none of the journal: bytes of at most
 //! 2^32 - 1, whatever they mean, which aren't those of two records. A disk of at most 9 bytes is a new one, whatever it
 //! holds, and so is one whose first commit byte isn't set; it has no version yet. [`laws`] says that bytes represent at
 //! most one first entry and one list of entries, of one version.

@@ -13,7 +13,8 @@ pub enum OpenFault {
     Memory,
     /// The disk holds something other than a journal.
     NotDisk,
-    /// At this byte of the disk there is no commit byte, or a set one that no complete entry follows.
+    /// At this byte of the disk there is no commit byte, or a set one that no complete entry follows, or one that isn't set and has more
+    /// than 2^21 bytes after it.
     Damaged(u64),
     /// The kept entry of this number, counted from 1, isn't valid.
     Rejected(u64),
@@ -67,8 +68,8 @@ pub enum KeepFault {
     Memory,
     /// The disk holds something other than a journal.
     NotDisk,
-    /// At this byte of the disk there is no commit byte, or a set one that no complete entry follows, or one that isn't set and more than
-    /// 2^21 bytes after it.
+    /// At this byte of the disk there is no commit byte, or a set one that no complete entry follows, or one that isn't set and has more
+    /// than 2^21 bytes after it.
     Damaged(u64),
     /// The kept entry of this number, counted from 1, isn't valid.
     Rejected(u64),

@@ -4,7 +4,7 @@ use Rattle.wire_records.specs.Records.{Record, encoding}
 use Rattle.wire_records.proofs.Encoded.{length-encoding}
 use Rattle.journal_records.specs.Formats.{journals}
 use Rattle.batch_audit.proofs.LawProofs.{pairs_number_one}
-use Rattle.journal_replay.specs.Private.{State, CountsOne, HasRoom}
+use Rattle.journal_replay.specs.Private.{State, CountsLegal, CountersFit}
 
 -- an entry takes ten bytes at least
 pub ten : (pair : Record × Record) → 10 ≤ length (journals.units.encode pair)
@@ -15,7 +15,7 @@ pub pair_within : (bytes : List ℕ) (pair : Record × Record) (taken : ℕ) →
 pair_within bytes pair taken size prefix = (omega (arith, size, ap length prefix, length-append (journals.units.encode pair) (drop taken bytes)), omega (arith, size, ten pair))
 
 -- the numbers still fit after an entry
-pub room_more : (old : State) (pair : Record × Record) (new : State) (left taken : ℕ) → HasRoom old left → CountsOne old pair new → taken ≤ left → 10 ≤ taken → HasRoom new (left - taken)
+pub room_more : (old : State) (pair : Record × Record) (new : State) (left taken : ℕ) → CountersFit old left → CountsLegal old pair new → taken ≤ left → 10 ≤ taken → CountersFit new (left - taken)
 room_more old pair new left taken room one within some = record {
   numbers = omega (arith, room.numbers, pairs_number_one old.market pair new.market one.legal, within, some);
   pairs = omega (arith, room.pairs, one.pairs, within, some);

@@ -22,11 +22,11 @@ use Rattle.journal_replay.specs.declared.auditing.PairFault.{PairFault}
 use Rattle.journal_replay.specs.declared.auditing.PairFault.TheVariants.{Illegal, Memory}
 use Rattle.journal_replay.specs.Audits.{AuditsOn}
 use Rattle.journal_replay.specs.Replays.{FindsFault}
-use Rattle.journal_replay.specs.Private.{State, CountsOne, BreaksOffWith}
+use Rattle.journal_replay.specs.Private.{State, CountsLegal, BreaksOffWith}
 
 -- a step of the audit
 abbrev pub Counts : {O : Type 0} → State → Record × Record → State → O → O → Type 0
-Counts old pair new before after = CountsOne old pair new
+Counts old pair new before after = CountsLegal old pair new
 
 -- the audit stops at an entry
 abbrev pub Breaks : {O : Type 0} → State → Record × Record → PairFault → O → O → Type 0

@@ -18,7 +18,7 @@ abbrev pub state_of : Auditing → State
 state_of a = record { market = a.audit; pairs = a.pairs }
 
 -- a valid entry makes the new market and is counted
-pub record CountsOne (old : State) (pair : Record × Record) (new : State) : Type 0 where
+pub record CountsLegal (old : State) (pair : Record × Record) (new : State) : Type 0 where
   pub legal : IsLegalPair old.market pair new.market
   pub pairs : new.pairs ≡ old.pairs + 1
 
@@ -28,6 +28,6 @@ BreaksOffWith old pair (Illegal number) = IsIllegalPair old.market pair × (numb
 BreaksOffWith old pair Memory = RecordMayAllocate old.market pair.0
 
 -- the numbers of orders and entries stay below 2^64 while so many bytes are left
-pub record HasRoom (s : State) (left : ℕ) : Type 0 where
+pub record CountersFit (s : State) (left : ℕ) : Type 0 where
   pub numbers : s.market.next_order + left < 2 ^ 64
   pub pairs : s.pairs + left < 2 ^ 64

@@ -2,7 +2,7 @@
 ghost use Rattle.std.specs.Prelude.{ℕ, ◌≤◌, IfOk, IfErr, IsTrue, drop, length};
 ghost use Rattle.wire_records.specs.Records.{Record};
 ghost use Rattle.journal_records.specs.Formats.{journals};
-ghost use Rattle.journal_replay.specs.Private.{State, CountsOne, BreaksOffWith, HasRoom};
+ghost use Rattle.journal_replay.specs.Private.{State, CountsLegal, BreaksOffWith, CountersFit};
 ghost use Rattle.journal_replay.specs.Replays.{FindsLegal, FindsFault};
 
 use batch_audit::{Audit, Legality};
@@ -43,8 +43,8 @@ impl Auditing {
 
     // Audits an entry, and counts it if it is valid.
     fn take_pair(&mut self, pair: &PairView<'_>) -> Result<(), PairFault>
-        requires room { (left : ℕ) × (5 ≤ left) × HasRoom (state_of self.old) left }
-        ensures counted { OnOk result (CountsOne (state_of self.old) pair.now (state_of self.new)) }
+        requires room { (left : ℕ) × (5 ≤ left) × CountersFit (state_of self.old) left }
+        ensures counted { OnOk result (CountsLegal (state_of self.old) pair.now (state_of self.new)) }
         ensures broken { IfErr result (BreaksOffWith (state_of self.old) pair.now) }
     {
         match self.audit.pair(pair) {
@@ -70,11 +70,11 @@ impl TakesUnits<()> for Auditing {
 
     ghost state = { state_of };
 
-    ghost steps = { λ old pair new before after. CountsOne old pair new };
+    ghost steps = { λ old pair new before after. CountsLegal old pair new };
 
     ghost breaks = { λ old pair fault before after. BreaksOffWith old pair fault };
 
-    ghost is_ready = { λ a left. HasRoom (state_of a) left };
+    ghost is_ready = { λ a left. CountersFit (state_of a) left };
 
     fn take(&mut self, bytes: &[u8], _out: &mut ()) -> Result<Prefix, PairFault> {
         match next_pair(bytes) {

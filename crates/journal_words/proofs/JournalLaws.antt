@@ -7,7 +7,7 @@ use Rattle.wire_records.specs.Records.{Record}
 use Rattle.wire_records.specs.Commands.{Answer, Pair}
 use Rattle.wire_records.specs.Versions.{IsReadAs}
 use Rattle.wire_records.specs.declared.version.Version.{Version}
-use Rattle.word_driver.specs.Private.{IsOpened}
+use Rattle.word_driver.specs.Private.{OpensOrNot}
 use Rattle.flow_orders.specs.Outcomes.{Outcome, IsAdmissibleOutcome}
 use Rattle.journal_records.specs.Pairs.{IsPair}
 use Rattle.journal_records.specs.Formats.{journal_magic_of, journals, records_of}
@@ -33,7 +33,7 @@ use Rattle.journal_words.specs.Line.{counted_line}
 use Rattle.journal_words.specs.Findings.{finding_line, IsExplained}
 use Rattle.journal_words.specs.Watching.{Watch, Watched, SeesOne, StopsOne, over_pairs}
 use Rattle.journal_words.specs.Words.{Counts, CountsOne, counting, explaining, telling, audit, explain, report}
-use Rattle.journal_words.specs.Private.{HasRoom}
+use Rattle.journal_words.specs.Private.{NumbersFit}
 use Rattle.journal_words.proofs.LongestPair.{longest}
 use Rattle.batch_report.proofs.SomeText.{some_text}
 
@@ -255,7 +255,7 @@ report_has_next = over_pairs_has_next telling telling_has_sight
 -- ---- room
 
 -- the numbers still fit after an entry
-pub room_more : (old new : Market) (pair : Record × Record) (pairs later left taken : ℕ) → HasRoom old pairs left → IsLegalPair old pair new → later ≡ pairs + 1 → taken ≤ left → 10 ≤ taken → HasRoom new later (left - taken)
+pub room_more : (old new : Market) (pair : Record × Record) (pairs later left taken : ℕ) → NumbersFit old pairs left → IsLegalPair old pair new → later ≡ pairs + 1 → taken ≤ left → 10 ≤ taken → NumbersFit new later (left - taken)
 room_more old new pair pairs later left taken room legal number within some = record {
   orders = omega (arith, room.orders, pairs_number_one old pair new legal, within, some);
   counts = omega (arith, room.counts, number, within, some);
@@ -269,7 +269,7 @@ where_err (Err error) P holds = holds
 -- a journal of this version begins
 pub opens : {S B : Type 0} (watch : Watch S B) (version : Version) (bytes body : List ℕ) (market : Market) (pairs : ℕ) (seen : Market → S) (text : List ℕ)
     → bytes ≡ journal_magic_of version ++ body → market ≡ empty_market version → pairs ≡ 0 → text ≡ []
-    → IsOpened (over_pairs watch) (λ version. record { market = empty_market version; pairs = 0; seen = seen (empty_market version) }) bytes (record { market = market; pairs = pairs; seen = seen market }) (λ left. HasRoom market pairs left) text true
+    → OpensOrNot (over_pairs watch) (λ version. record { market = empty_market version; pairs = 0; seen = seen (empty_market version) }) bytes (record { market = market; pairs = pairs; seen = seen market }) (λ left. NumbersFit market pairs left) text true
 opens watch version bytes body market pairs seen text e new none empty = record {
   version = version;
   magic = (tt, e ∙ ap (λ xs. journal_magic_of version ++ xs) (sym (ap (drop 8) e ∙ drop_at (journal_magic_of version) body 8 (eight version))));

@@ -12,6 +12,6 @@ IsClosedBy watch market pairs seen (Err Memory) text = watch.Allocates market pa
 IsClosedBy watch market pairs seen (Err (Stopped why)) text = watch.Stops market pairs seen why text
 
 -- while `left` bytes are left, the numbers stay within their widths: an entry has at least ten bytes, so the next order's is below 2 ^ 64
-pub record HasRoom (market : Market) (pairs left : ℕ) : Type 0 where
+pub record NumbersFit (market : Market) (pairs left : ℕ) : Type 0 where
   pub orders : 10 * market.next_order + left < 2 ^ 67
   pub counts : pairs + left < 2 ^ 64

@@ -7,7 +7,7 @@ ghost use Rattle.market_rules.specs.Market.{empty_market};
 ghost use Rattle.batch_audit.specs.Legal.{IsIllegalPair};
 ghost use Rattle.word_driver.specs.Private.{HaltsWith};
 ghost use Rattle.journal_words.specs.Watching.{SeesOne, over_pairs};
-ghost use Rattle.journal_words.specs.Private.{HasRoom};
+ghost use Rattle.journal_words.specs.Private.{NumbersFit};
 
 use crate::on_pair::OnPair;
 use batch_audit::Audit;
@@ -170,7 +170,7 @@ impl<P: OnPair + Drop> ServesWord for Pairs<P> {
 
     ghost state = { λ p. record { market = p.audit; pairs = p.pairs; seen = P.seen p.on p.audit } };
 
-    ghost is_ready = { λ p left. HasRoom p.audit p.pairs left };
+    ghost is_ready = { λ p left. NumbersFit p.audit p.pairs left };
 
     fn open(&mut self, bytes: &[u8], _text: &mut Vec<u8>) -> bool {
         match journal_version(bytes) {

@@ -6,7 +6,7 @@ use Rattle.std.proofs.lemmas.Bool.{cases_lt}
 use Rattle.std.proofs.lemmas.List.Elements.{All-push}
 use Rattle.std.proofs.Math.Seq.{take-append_seam, take-append-add}
 use Rattle.file_units.specs.Inputs.{known}
-use Rattle.line_records.specs.Lines.{IsPiece, AreLines, ended_by_feeds}
+use Rattle.line_records.specs.Lines.{HasNoFeed, AreLines, ended_by_feeds}
 use Rattle.line_records.proofs.Pieces.{lines_after}
 use Rattle.line_keeping.proofs.Joining.{Texts}
 use Rattle.line_keeping.proofs.Going.{feeds_more}
@@ -19,7 +19,7 @@ known_is taken (Some left) = (left, refl, λ is. is)
 pub less_or_not : (limit size : ℕ) → (limit < size) ⊎ (¬ (limit < size))
 less_or_not limit size = ⊎_elim (λ more. inl more) (λ few. inr (λ more. omega (arith, more, few))) (cases_lt limit size)
 
-module _ (limit : ℕ) (all : List ℕ) (read : Texts) (pieces : All IsPiece read) where
+module _ (limit : ℕ) (all : List ℕ) (read : Texts) (pieces : All HasNoFeed read) where
   -- the input ends after the lines
   pub lines_end : all ≡ ended_by_feeds read → length all ≤ limit → AreLines (limit < length all) (take limit all) read
   lines_end is few = record {
@@ -32,7 +32,7 @@ module _ (limit : ℕ) (all : List ℕ) (read : Texts) (pieces : All IsPiece rea
   }
 
   -- it ends with a line without a line feed
-  pub lines_last : (piece : List ℕ) → IsPiece piece → piece ≢ [] → all ≡ ended_by_feeds read ++ piece → length all ≤ limit → AreLines (limit < length all) (take limit all) (read ++ piece ∷ [])
+  pub lines_last : (piece : List ℕ) → HasNoFeed piece → piece ≢ [] → all ≡ ended_by_feeds read ++ piece → length all ≤ limit → AreLines (limit < length all) (take limit all) (read ++ piece ∷ [])
   lines_last piece lawful some is few = record {
     ended = read;
     last = piece;
@@ -43,7 +43,7 @@ module _ (limit : ℕ) (all : List ℕ) (read : Texts) (pieces : All IsPiece rea
   }
 
   -- it has more than the limit, and no line ends in what is before it
-  pub lines_limit : (piece following : List ℕ) → IsPiece piece → all ≡ (ended_by_feeds read ++ piece) ++ following → length (ended_by_feeds read ++ piece) ≡ limit → limit < length all → AreLines (limit < length all) (take limit all) read
+  pub lines_limit : (piece following : List ℕ) → HasNoFeed piece → all ≡ (ended_by_feeds read ++ piece) ++ following → length (ended_by_feeds read ++ piece) ≡ limit → limit < length all → AreLines (limit < length all) (take limit all) read
   lines_limit piece following lawful is size more = record {
     ended = read;
     last = piece;
@@ -54,7 +54,7 @@ module _ (limit : ℕ) (all : List ℕ) (read : Texts) (pieces : All IsPiece rea
   }
 
   -- so many of the bytes were taken
-  pub lines_taken : (piece seen following : List ℕ) → IsPiece piece → all ≡ seen ++ following → seen ≡ ended_by_feeds read ++ piece → length seen ≤ limit → AreLines (Unit {0}) (take (length seen) (take limit all)) read
+  pub lines_taken : (piece seen following : List ℕ) → HasNoFeed piece → all ≡ seen ++ following → seen ≡ ended_by_feeds read ++ piece → length seen ≤ limit → AreLines (Unit {0}) (take (length seen) (take limit all)) read
   lines_taken piece seen following lawful is parts few = record {
     ended = read;
     last = piece;
@@ -71,12 +71,12 @@ module _ (limit : ℕ) (all : List ℕ) (read : Texts) (pieces : All IsPiece rea
           ∙ ap (take (length seen)) (take-append-add seen following (limit - length seen)) ∙ take-append_seam seen (take (limit - length seen) following)
 
   -- there is a line that ends, and more after it
-  pub lines_stop : (line following : List ℕ) → IsPiece line → all ≡ ended_by_feeds read ++ (line ++ 10 ∷ following) → length (ended_by_feeds (read ++ line ∷ [])) ≤ limit → (more : Texts) × AreLines (limit < length all) (take limit all) (read ++ line ∷ more)
+  pub lines_stop : (line following : List ℕ) → HasNoFeed line → all ≡ ended_by_feeds read ++ (line ++ 10 ∷ following) → length (ended_by_feeds (read ++ line ∷ [])) ≤ limit → (more : Texts) × AreLines (limit < length all) (take limit all) (read ++ line ∷ more)
   lines_stop line following lawful is few =
       let lines = read ++ line ∷ [] in
       let prefixes = ended_by_feeds lines in
       let parts : all ≡ prefixes ++ following = is ∙ ap (λ (l : List ℕ). ended_by_feeds read ++ l) (sym (append_assoc line (10 ∷ []) following)) ∙ sym (append_assoc (ended_by_feeds read) (line ++ 10 ∷ []) following) ∙ ap (λ (l : List ℕ). l ++ following) (sym (feeds_more read line)) in
       let spare : limit ≡ length prefixes + (limit - length prefixes) = omega (arith, few) in
       let cut : take limit all ≡ prefixes ++ take (limit - length prefixes) following = ap (take limit) parts ∙ ap (λ (n : ℕ). take n (prefixes ++ following)) spare ∙ take-append-add prefixes following (limit - length prefixes) in
-      let found = lines_after (limit < length all) (less_or_not limit (length all)) (take limit all) (take (limit - length prefixes) following) lines cut (All-push IsPiece read line pieces lawful) in
+      let found = lines_after (limit < length all) (less_or_not limit (length all)) (take limit all) (take (limit - length prefixes) following) lines cut (All-push HasNoFeed read line pieces lawful) in
       (found.0, subst (λ (l : Texts). AreLines (limit < length all) (take limit all) l) (append_assoc read (line ∷ []) found.0) found.1)

@@ -12,7 +12,7 @@ use Rattle.flow_io.proofs.Reading.{Takes-more}
 use Rattle.file_units.specs.Inputs.{known}
 use Rattle.disk_edge.specs.Disks.{DiskState, IsDisk}
 use Rattle.journal_disk.specs.Entries.{Keeps}
-use Rattle.line_records.specs.Lines.{IsPiece, ended_by_feeds}
+use Rattle.line_records.specs.Lines.{HasNoFeed, ended_by_feeds}
 use Rattle.journal_keeping.specs.Starts.{head_of}
 use Rattle.journal_keeping.specs.Keeping.{IsKeptJournal, Runs}
 use Rattle.journal_keeping.specs.Pacing.{asked_of}
@@ -47,7 +47,7 @@ module _ (first : WindowState) (rest : Option (List ℕ)) (old : Market) (count 
     taken = [];
     takes = Takes-nothing rest;
     read = [];
-    pieces = All-nil IsPiece;
+    pieces = All-nil HasNoFeed;
     whole = append-nil first.held;
     place_is = omega arith;
     limit = refl;
@@ -73,7 +73,7 @@ module _ (first : WindowState) (rest : Option (List ℕ)) (old : Market) (count 
     more_whole joined = sym (append_assoc first.held gone.taken joined) ∙ ap (λ (l : List ℕ). l ++ joined) gone.whole ∙ append_assoc (ended_by_feeds gone.read) now.held joined
 
     -- one more line
-    pub gone_more : (next : WindowState) (after : Option (List ℕ)) (line joined : List ℕ) (market2 : Market) (entries2 place2 : ℕ) (disk2 : DiskState) (last : Output) → Takes left after joined → IsPiece line
+    pub gone_more : (next : WindowState) (after : Option (List ℕ)) (line joined : List ℕ) (market2 : Market) (entries2 place2 : ℕ) (disk2 : DiskState) (last : Output) → Takes left after joined → HasNoFeed line
         → now.held ++ joined ≡ line ++ 10 ∷ next.held → next.place ≡ now.place + (length line + 1) → next.limit ≡ now.limit → IsOpen next after
         → AnswersLine (lines + 1) line market market2 entries entries2 place place2 disk disk2 later last
         → HasGone first next rest after old market2 count entries2 from place2 (lines + 1) start disk2 out last
@@ -81,7 +81,7 @@ module _ (first : WindowState) (rest : Option (List ℕ)) (old : Market) (count 
       taken = gone.taken ++ joined;
       takes = more_taken after joined takes;
       read = gone.read ++ line ∷ [];
-      pieces = All-push IsPiece gone.read line gone.pieces piece;
+      pieces = All-push HasNoFeed gone.read line gone.pieces piece;
       whole = more_whole joined ∙ ap (λ (l : List ℕ). ended_by_feeds gone.read ++ l) (encoded ∙ sym (append_assoc line (10 ∷ []) next.held)) ∙ sym (append_assoc (ended_by_feeds gone.read) (line ++ 10 ∷ []) next.held)
           ∙ ap (λ (l : List ℕ). l ++ next.held) (sym (feeds_more gone.read line));
       place_is = omega (arith, moved, gone.place_is, ap length (feeds_more gone.read line), length-append (ended_by_feeds gone.read) (line ++ 10 ∷ []), length-append line (10 ∷ []));

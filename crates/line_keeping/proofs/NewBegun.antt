@@ -18,7 +18,7 @@ use Rattle.journal_disk.specs.Entries.{IsHead, framed, IsNewDisk, StandsFor, Kee
 use Rattle.journal_disk.specs.Lengths.{HasAtMost, LeavesAtMost, ReachesAtMost}
 use Rattle.journal_disk.specs.Recovering.{IsFound}
 use Rattle.journal_disk.proofs.Entries.{length-framed}
-use Rattle.line_records.specs.Lines.{IsPiece}
+use Rattle.line_records.specs.Lines.{HasNoFeed}
 use Rattle.line_records.proofs.Pieces.{lines_after}
 use Rattle.journal_keeping.specs.declared.fault.InputFault.{InputFault}
 use Rattle.journal_keeping.specs.declared.fault.InputFault.TheVariants as input
@@ -60,7 +60,7 @@ near_start limit before w None after following few = tt
 near_start limit before w (Some bytes) None following few = absurd following.takes
 near_start limit before w (Some bytes) (Some left) following few =
     let begins = input_begins limit before w (Some bytes) (Some left) following in
-    let lines = lines_after (limit < length bytes) (less_or_not limit (length bytes)) begins.0 begins.0 [] refl (All-nil IsPiece) in (
+    let lines = lines_after (limit < length bytes) (less_or_not limit (length bytes)) begins.0 begins.0 [] refl (All-nil HasNoFeed) in (
       before,
       lines.0,
       (begins.0, begins.1, lines.1),

@@ -10,7 +10,7 @@ use Rattle.journal_disk.specs.Lengths.{ReachesAtMost}
 use Rattle.journal_disk.proofs.Lengths.{reach_wider, reach_more}
 use Rattle.line_records.specs.Lines.{ended_by_feeds}
 use Rattle.journal_keeping.specs.Lengths.{HasYetAtMost}
-use Rattle.input_lines.specs.Finding.{Finds}
+use Rattle.input_lines.specs.Finding.{FindsNext}
 use Rattle.input_lines.specs.declared.lines.Next.TheVariants as next
 use Rattle.line_keeping.specs.Outputs.{Output}
 use Rattle.line_keeping.specs.Private.{HasGone, Reaches}
@@ -24,7 +24,7 @@ takes_few (Some b) (Some a) l bytes e takes =
     omega (arith, ap length same, ap length takes, length-append bytes a)
 
 -- a line that was found is as long as it was said
-pub line_size : (old new : WindowState) (before after : Option (List ℕ)) (size : ℕ) (held : List ℕ) → held ≡ new.held → Finds old new before after (next.Line size) → length (take size held) ≡ size
+pub line_size : (old new : WindowState) (before after : Option (List ℕ)) (size : ℕ) (held : List ℕ) → held ≡ new.held → FindsNext old new before after (next.Line size) → length (take size held) ≡ size
 line_size old new before after size held same finds = length-take-le size held (omega (arith, finds.is.2, ap length (same ∙ finds.is.0)))
 
 module _ (first : WindowState) (rest : Option (List ℕ)) (old : Market) (count from : ℕ) (start : DiskState) (out : Output)

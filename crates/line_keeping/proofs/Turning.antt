@@ -14,7 +14,7 @@ use Rattle.flow_io.proofs.Reading.{Takes-more}
 use Rattle.file_units.specs.Inputs.{known}
 use Rattle.disk_edge.specs.Disks.{DiskState, IsDisk}
 use Rattle.journal_disk.specs.Entries.{Keeps}
-use Rattle.line_records.specs.Lines.{IsPiece, ended_by_feeds}
+use Rattle.line_records.specs.Lines.{HasNoFeed, ended_by_feeds}
 use Rattle.journal_keeping.specs.Starts.{head_of}
 use Rattle.journal_keeping.specs.Keeping.{IsKeptJournal, Runs}
 use Rattle.journal_keeping.specs.Pacing.{asked_of}
@@ -23,7 +23,7 @@ use Rattle.file_units.specs.declared.units.Ending.TheVariants.{End, TooLong}
 use Rattle.file_units.specs.declared.input.TakeFault.TheVariants.{Read, Broken}
 use Rattle.journal_keeping.specs.declared.fault.ServeFault.{ServeFault}
 use Rattle.journal_keeping.specs.declared.fault.ServeFault.TheVariants.{Write}
-use Rattle.input_lines.specs.Finding.{Finds, FindsNone}
+use Rattle.input_lines.specs.Finding.{FindsNext, FindsNoFeed}
 use Rattle.input_lines.specs.declared.lines.Next.TheVariants as next
 use Rattle.line_keeping.specs.Answers.{no_command_text, AreLinesAnswered}
 use Rattle.line_keeping.specs.Outputs.{Output, Gains}
@@ -54,7 +54,7 @@ module _ (first : WindowState) (rest : Option (List ℕ)) (old : Market) (count 
   no_past after joined past none takes = subst (Takes left after) (ap (λ (l : List ℕ). joined ++ l) none ∙ append-nil joined) takes
 
   -- a line was found and answered, and the window follows it
-  pub line_turn : (w following : WindowState) (after : Option (List ℕ)) (size : ℕ) (held : List ℕ) → held ≡ w.held → Finds now w left after (next.Line size) → following ≡ record w { held = drop (size + 1) w.held; place = w.place + (size + 1) }
+  pub line_turn : (w following : WindowState) (after : Option (List ℕ)) (size : ℕ) (held : List ℕ) → held ≡ w.held → FindsNext now w left after (next.Line size) → following ≡ record w { held = drop (size + 1) w.held; place = w.place + (size + 1) }
       → (market2 : Market) (entries2 place2 : ℕ) (disk2 : DiskState) (last : Output) → AnswersLine (lines + 1) (take size held) market market2 entries entries2 place place2 disk disk2 later last
       → HasGone first following rest after old market2 count entries2 from place2 (lines + 1) start disk2 out last
   line_turn w following after size held same finds gives market2 entries2 place2 disk2 last answers =
@@ -75,7 +75,7 @@ module _ (first : WindowState) (rest : Option (List ℕ)) (old : Market) (count 
       (subst (λ (l : List ℕ). AnswersLine (lines + 1) (take size l) market market2 entries entries2 place place2 disk disk2 later last) bytes answers)
 
   -- a line that is too long was passed over, and answered
-  pub long_turn : (w : WindowState) (after : Option (List ℕ)) → IsDisk disk → Finds now w left after next.Long → (last : Output) → Gains ⊥ later last (no_command_text (lines + 1) ∷ [])
+  pub long_turn : (w : WindowState) (after : Option (List ℕ)) → IsDisk disk → FindsNext now w left after next.Long → (last : Output) → Gains ⊥ later last (no_command_text (lines + 1) ∷ [])
       → HasGone first w rest after old market count entries from place (lines + 1) start disk out last
   long_turn w after is_disk finds last gained =
       let f = finds.is in
@@ -95,7 +95,7 @@ module _ (first : WindowState) (rest : Option (List ℕ)) (old : Market) (count 
   room_left joined within = omega (arith, within, gone.place_is, gone.limit, length-append (ended_by_feeds gone.read) (now.held ++ joined))
 
   -- the input ended after a line feed
-  pub end_turn : (w : WindowState) (after : Option (List ℕ)) → Finds now w left after next.End → AnswersOn first rest after (Ok End) old count from start disk out later
+  pub end_turn : (w : WindowState) (after : Option (List ℕ)) → FindsNext now w left after next.End → AnswersOn first rest after (Ok End) old count from start disk out later
   end_turn w after finds =
       let f = finds.is in
       let joined = finds.joined in
@@ -111,7 +111,7 @@ module _ (first : WindowState) (rest : Option (List ℕ)) (old : Market) (count 
       gone.answered (subst (λ (l : List (Pair Record Outcome)). AreLinesAnswered old count 1 gone.read l gone.texts market) (sym (append-nil gone.pairs)) gone.answered) (λ e. absurd cc)
 
   -- the input has more than the limit
-  pub limit_turn : (w : WindowState) (after : Option (List ℕ)) → Finds now w left after next.Limit → AnswersOn first rest after (Ok TooLong) old count from start disk out later
+  pub limit_turn : (w : WindowState) (after : Option (List ℕ)) → FindsNext now w left after next.Limit → AnswersOn first rest after (Ok TooLong) old count from start disk out later
   limit_turn w after finds =
       let f = finds.is in
       let joined = finds.joined in
@@ -125,7 +125,7 @@ module _ (first : WindowState) (rest : Option (List ℕ)) (old : Market) (count 
       gone.answered (subst (λ (p : List (Pair Record Outcome)). AreLinesAnswered old count 1 gone.read p gone.texts market) (sym (append-nil gone.pairs)) gone.answered) (λ e. absurd cc)
 
   -- a read failed
-  pub read_turn : (after : Option (List ℕ)) → FindsNone now left after → AnswersOn first rest after (Err Read) old count from start disk out later
+  pub read_turn : (after : Option (List ℕ)) → FindsNoFeed now left after → AnswersOn first rest after (Err Read) old count from start disk out later
   read_turn after finds =
       let joined = finds.joined in
       let seen = first.held ++ (gone.taken ++ (joined ++ [])) in
@@ -149,7 +149,7 @@ module _ (first : WindowState) (rest : Option (List ℕ)) (old : Market) (count 
   seen_bytes joined = sym (append_assoc first.held gone.taken joined) ∙ ap (λ (x : List ℕ). x ++ joined) gone.whole ∙ append_assoc (ended_by_feeds gone.read) now.held joined
 
   -- it stops at a line that has a line feed
-  stop_line : (after : Option (List ℕ)) (joined line following : List ℕ) → IsPiece line → now.held ++ joined ≡ line ++ 10 ∷ following → length following ≤ 65537 → now.place + length (now.held ++ joined) ≤ now.limit
+  stop_line : (after : Option (List ℕ)) (joined line following : List ℕ) → HasNoFeed line → now.held ++ joined ≡ line ++ 10 ∷ following → length following ≤ 65537 → now.place + length (now.held ++ joined) ≤ now.limit
       → StopAt (first.limit - first.place) (first.held ++ known (gone.taken ++ joined) after) (first.held ++ (gone.taken ++ joined)) after gone.read line
   stop_line after joined line following piece encoded few within =
       let l = (known_is (gone.taken ++ joined) after).0 in
@@ -162,7 +162,7 @@ module _ (first : WindowState) (rest : Option (List ℕ)) (old : Market) (count 
       (stop.0, stop.1, omega (arith, size, few, ap length (seen_bytes joined), length-append prefixes (now.held ++ joined), ap length encoded, length-append line (10 ∷ following)))
 
   -- it stops at a last line without one
-  stop_last : (after : Option (List ℕ)) (joined : List ℕ) → IsPiece (now.held ++ joined) → now.held ++ joined ≢ [] → IfSome after (λ l. l ≡ []) → now.place + length (now.held ++ joined) ≤ now.limit
+  stop_last : (after : Option (List ℕ)) (joined : List ℕ) → HasNoFeed (now.held ++ joined) → now.held ++ joined ≢ [] → IfSome after (λ l. l ≡ []) → now.place + length (now.held ++ joined) ≤ now.limit
       → StopAt (first.limit - first.place) (first.held ++ known (gone.taken ++ joined) after) (first.held ++ (gone.taken ++ joined)) after gone.read (now.held ++ joined)
   stop_last after joined piece some ends within =
       let prefixes = ended_by_feeds gone.read in
@@ -174,7 +174,7 @@ module _ (first : WindowState) (rest : Option (List ℕ)) (old : Market) (count 
       )
 
   -- answering broke off at a line that was found
-  pub line_broken : (w : WindowState) (after : Option (List ℕ)) (size : ℕ) (held : List ℕ) → held ≡ w.held → length held ≤ w.room → Finds now w left after (next.Line size) → (disk2 : DiskState) (last : Output) (fault : ServeFault)
+  pub line_broken : (w : WindowState) (after : Option (List ℕ)) (size : ℕ) (held : List ℕ) → held ≡ w.held → length held ≤ w.room → FindsNext now w left after (next.Line size) → (disk2 : DiskState) (last : Output) (fault : ServeFault)
       → BreaksLine (lines + 1) (take size held) market entries place disk disk2 later last fault → AnswersOn first rest after (Err (Broken fault)) old count from start disk2 out last
   line_broken w after size held same few finds disk2 last fault breaks =
       let all = now.held ++ finds.joined in
@@ -184,7 +184,7 @@ module _ (first : WindowState) (rest : Option (List ℕ)) (old : Market) (count 
       (subst (λ (l : List ℕ). BreaksLine (lines + 1) (take size l) market entries place disk disk2 later last fault) bytes breaks)
       (stop_line after finds.joined (take size all) (drop (size + 1) all) f.4 f.5 (omega (arith, few, f.7.room, ap length bytes, ap length f.5, length-append (take size all) (10 ∷ drop (size + 1) all))) finds.within)
 
-  pub long_broken : (w : WindowState) (after : Option (List ℕ)) (held : List ℕ) → held ≡ w.held → length held ≤ w.room → IsDisk disk → Finds now w left after next.Long → (last : Output) → Gains ⊤ later last (no_command_text (lines + 1) ∷ [])
+  pub long_broken : (w : WindowState) (after : Option (List ℕ)) (held : List ℕ) → held ≡ w.held → length held ≤ w.room → IsDisk disk → FindsNext now w left after next.Long → (last : Output) → Gains ⊤ later last (no_command_text (lines + 1) ∷ [])
       → AnswersOn first rest after (Err (Broken Write)) old count from start disk out last
   long_broken w after held same few is_disk finds last refused =
       let f = finds.is in
@@ -193,7 +193,7 @@ module _ (first : WindowState) (rest : Option (List ℕ)) (old : Market) (count 
       (stop_line after finds.joined f.0 w.held f.2 f.3 (omega (arith, few, f.6.room, ap length same)) finds.within)
 
   -- the last line, which has no line feed, was answered, or answering it broke off
-  module _ (after : Option (List ℕ)) (joined : List ℕ) (takes : Takes left after joined) (within : now.place + length (now.held ++ joined) ≤ now.limit) (piece : IsPiece (now.held ++ joined)) (some : now.held ++ joined ≢ []) (ends : IfSome after (λ l. l ≡ [])) where
+  module _ (after : Option (List ℕ)) (joined : List ℕ) (takes : Takes left after joined) (within : now.place + length (now.held ++ joined) ≤ now.limit) (piece : HasNoFeed (now.held ++ joined)) (some : now.held ++ joined ≢ []) (ends : IfSome after (λ l. l ≡ [])) where
     abbrev line : List ℕ
     line = now.held ++ joined
 
@@ -235,7 +235,7 @@ module _ (first : WindowState) (rest : Option (List ℕ)) (old : Market) (count 
         breaks_so first rest old count from start out now left market entries place lines disk later gone after joined takes within line disk2 last fault breaks (stop_last after joined piece some ends within)
 
   module _ (w : WindowState) (after : Option (List ℕ)) where
-    module _ (held : List ℕ) (same : held ≡ w.held) (finds : Finds now w left after next.Last) (disk2 : DiskState) (last : Output) where
+    module _ (held : List ℕ) (same : held ≡ w.held) (finds : FindsNext now w left after next.Last) (disk2 : DiskState) (last : Output) where
       bytes : held ≡ now.held ++ finds.joined
       bytes = same ∙ finds.is.0
 
@@ -251,7 +251,7 @@ module _ (first : WindowState) (rest : Option (List ℕ)) (old : Market) (count 
           last_broke after finds.joined (no_past after finds.joined finds.past f.5 finds.takes) finds.within f.4 f.2 f.7.1 disk2 last fault
           (subst (λ (l : List ℕ). BreaksLine (lines + 1) l market entries place disk disk2 later last fault) bytes breaks)
 
-    module _ (is_disk : IsDisk disk) (finds : Finds now w left after next.LongLast) (last : Output) where
+    module _ (is_disk : IsDisk disk) (finds : FindsNext now w left after next.LongLast) (last : Output) where
       pub last_long : Gains ⊥ later last (no_command_text (lines + 1) ∷ []) → AnswersOn first rest after (Ok End) old count from start disk out last
       last_long gained =
           let f = finds.is in

@@ -19,7 +19,7 @@ use Rattle.disk_edge.specs.Disks.{DiskState, IsDisk, AtEachMoment}
 use Rattle.disk_edge.proofs.Moments.{weaker, then_more, at_the_end}
 use Rattle.journal_disk.specs.Entries.{IsNewDisk, Keeps}
 use Rattle.journal_disk.specs.Lengths.{HasAtMost, LeavesAtMost, ReachesAtMost}
-use Rattle.line_records.specs.Lines.{IsPiece, AreLines, ended_by_feeds}
+use Rattle.line_records.specs.Lines.{HasNoFeed, AreLines, ended_by_feeds}
 use Rattle.line_records.proofs.Pieces.{lines_after}
 use Rattle.file_units.specs.declared.units.Ending.{Ending}
 use Rattle.file_units.specs.declared.units.Ending.TheVariants.{End, Torn, TooLong}
@@ -62,7 +62,7 @@ use Rattle.line_keeping.proofs.Safety.{brought}
 -- ---- nothing was answered
 
 -- the magic of a checkpoint has no line feed
-magic_piece : IsPiece checkpoint_magic
+magic_piece : HasNoFeed checkpoint_magic
 magic_piece (k, inside, is) = not_ten k inside is
   where
     not_ten : (k : ℕ) → k < length checkpoint_magic → get_or checkpoint_magic k 10 ≡ 10 → ⊥
@@ -85,7 +85,7 @@ part_lines x rest e few = (
     ended = [];
     last = x;
     whole = refl;
-    pieces = All-nil IsPiece;
+    pieces = All-nil HasNoFeed;
     piece = λ has. magic_piece (subst (λ (l : List ℕ). Contains l 10) (sym e) (Contains-append_left x rest 10 has));
     all = inl (refl, inl tt);
   },

@@ -21,7 +21,7 @@ use Rattle.disk_edge.specs.Disks.{DiskState, AtEachMoment}
 use Rattle.journal_disk.specs.Pairs.{RecordPair}
 use Rattle.journal_disk.specs.Entries.{Head, WithOrWithout, Keeps}
 use Rattle.journal_disk.specs.Lengths.{HasAtMost, LeavesAtMost, ReachesAtMost}
-use Rattle.line_records.specs.Lines.{IsPiece, AreLines, ended_by_feeds}
+use Rattle.line_records.specs.Lines.{HasNoFeed, AreLines, ended_by_feeds}
 use Rattle.journal_keeping.specs.Starts.{head_of, BeginsUnsound}
 use Rattle.journal_keeping.specs.Keeping.{IsKeptJournal, HoldsLegal, Runs}
 use Rattle.journal_keeping.specs.Openings.{Legal, IsOpening}
@@ -279,7 +279,7 @@ pub record HasGone (first now : WindowState) (rest left : Option (List ℕ)) (ol
   pub taken : List ℕ
   pub takes : Takes rest left taken
   pub read : List (List ℕ)
-  pub pieces : All IsPiece read
+  pub pieces : All HasNoFeed read
   pub whole : first.held ++ taken ≡ ended_by_feeds read ++ now.held
   pub place_is : now.place ≡ first.place + length (ended_by_feeds read)
   pub limit : now.limit ≡ first.limit

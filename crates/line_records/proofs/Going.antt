@@ -10,7 +10,7 @@ use Rattle.wire_records.specs.Commands.{Command}
 use Rattle.wire_records.specs.CommandRecords.{record_of}
 use Rattle.line_records.specs.declared.encode.EncodeFault.{EncodeFault}
 use Rattle.line_records.specs.declared.encode.EncodeFault.TheVariants.{NoCommand, Write, Memory}
-use Rattle.line_records.specs.Lines.{IsPiece, ended_by_feeds, AreLines, Say, encode_commands}
+use Rattle.line_records.specs.Lines.{HasNoFeed, ended_by_feeds, AreLines, Say, encode_commands}
 use Rattle.line_records.specs.Encoded.{HasEncoded, IsEncoded}
 use Rattle.line_records.specs.Private.{EncodesLine, IsLineEncoded, IsRecordWritten, AreWritten}
 use Rattle.flow_io.proofs.Growth.{Grows-more, GrowsByPrefix-more}
@@ -80,7 +80,7 @@ module _ (version : Version) (known : List (List ℕ)) where
     pub ended : List (List ℕ)
     pub commands : List Command
     pub whole : text ≡ ended_by_feeds ended ++ drop place text
-    pub pieces : All IsPiece ended
+    pub pieces : All HasNoFeed ended
     pub say : Say version known ended commands tickers
     pub written : Grows before after (encode_commands commands)
     pub counted : number ≡ length ended + 1
@@ -99,7 +99,7 @@ module _ (version : Version) (known : List (List ℕ)) where
         ended = so.ended ++ line ∷ [];
         commands = so.commands ++ one.commands;
         whole = line_ended text place size so.ended so.whole first;
-        pieces = All-push IsPiece so.ended line so.pieces found.0.0;
+        pieces = All-push HasNoFeed so.ended line so.pieces found.0.0;
         say = say_more version known tickers next so.ended (line ∷ []) so.commands one.commands so.say one.say;
         written = rw (records_more so.commands one.commands) (Grows-more before between after (encode_commands so.commands) (encode_commands one.commands) so.written one.written);
         counted = omega (arith, so.counted, length-append so.ended (line ∷ []));
@@ -161,7 +161,7 @@ module _ (version : Version) (known : List (List ℕ)) where
       → IsFirstByte (is_byte 10) (drop place text) (Some size) → IsLineEncoded version tickers (take (place + size - place) (drop place text)) number next (Err fault) between after → IsEncoded version known (IsTrue more) text (Err fault) before after
   stopped_within more text place size number tickers next before between after fault so first at =
       let line = take size (drop place text) in
-      let pieces = All-push IsPiece so.ended line so.pieces (line_found (drop place text) size first).0.0 in
+      let pieces = All-push HasNoFeed so.ended line so.pieces (line_found (drop place text) size first).0.0 in
       let following = lines_after (IsTrue more) (told more) text (drop (place + (size + 1)) text) (so.ended ++ line ∷ []) (line_ended text place size so.ended so.whole first) pieces in
       stopped (IsTrue more) text place number tickers next before between after so line following.0 (subst (λ lines. AreLines (IsTrue more) text lines) (append_assoc so.ended (line ∷ []) following.0) following.1) fault
       (subst (λ n. IsLineEncoded version tickers (take n (drop place text)) number next (Err fault) between after) (slice_size place size) at)

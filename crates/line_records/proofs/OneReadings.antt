@@ -4,7 +4,7 @@ use Rattle.std.proofs.lemmas.List.{append_cancel_left}
 use Rattle.wire_records.specs.Commands.{Command}
 use Rattle.wire_records.proofs.CodeLaws.{parted}
 use Rattle.wire_records.specs.declared.version.Version.{Version}
-use Rattle.line_records.specs.Lines.{AreRead, AreFirst, HaveNext, StopsAt}
+use Rattle.line_records.specs.Lines.{AreRead, AreFirst, HaveNext, StopsAtLine}
 use Rattle.line_records.specs.Laws.{OneReading, NoneIsUnread, FirstIsAPrefix}
 use Rattle.line_records.proofs.Pieces.{ended_lines, ended_code, piece_from_none, all_lines}
 use Rattle.line_records.proofs.Saying.{Stops, goes_on, stop_alike, none_is_unstopped}
@@ -24,12 +24,12 @@ module _ (version : Version) (known : List (List ℕ)) where
     number : bad ≡ number_of read more
 
   -- the rest of the lines that `StopsAt` speaks of
-  rest_of : (tickers read lines : List (List ℕ)) (bad : Option ℕ) → StopsAt version tickers read lines bad → HasRest tickers read lines bad
+  rest_of : (tickers read lines : List (List ℕ)) (bad : Option ℕ) → StopsAtLine version tickers read lines bad → HasRest tickers read lines bad
   rest_of tickers read lines None is = record { more = []; all = is ∙ sym (append-nil read); stops = tt; number = refl }
   rest_of tickers read lines (Some number) at = record { more = at.0 ∷ at.1; all = at.2; stops = at.3; number = ap Some at.4 }
 
   -- a rest of the lines makes `StopsAt`
-  stops_at : (tickers read lines more : List (List ℕ)) → lines ≡ read ++ more → Stops version tickers more → StopsAt version tickers read lines (number_of read more)
+  stops_at : (tickers read lines more : List (List ℕ)) → lines ≡ read ++ more → Stops version tickers more → StopsAtLine version tickers read lines (number_of read more)
   stops_at tickers read lines [] all stops = all ∙ append-nil read
   stops_at tickers read lines (bad ∷ more) all stops = (bad, more, all, stops, refl)
 

@@ -8,7 +8,7 @@ use Rattle.order_text.specs.declared.line.LineRead.TheVariants.{Blank, Asks, Man
 use Rattle.order_text.specs.declared.line.LineFault.{LineFault}
 use Rattle.order_text.specs.declared.line.LineFault.TheVariants.{NoCommand, Memory}
 use Rattle.order_text.specs.Lines.{IsBlank, Alone, OfLadder, commands_of, Leave, Says, SaysNothing}
-use Rattle.order_text.specs.Answers.{IsRead, may_run_out}
+use Rattle.order_text.specs.Answers.{IsLineRead, may_run_out}
 use Rattle.order_text.proofs.OneAnswers.{one_saying, none_is_unanswered}
 use Rattle.line_records.specs.Lines.{Say}
 
@@ -106,7 +106,7 @@ module _ (version : Version) where
     pub stops : Stops after more
 
   -- one more line before the others, by its answer
-  stopped_more : (tickers : List (List ℕ)) (line : List ℕ) (lines after : List (List ℕ)) (result : Result LineRead LineFault) → result ≢ may_run_out → IsRead version tickers line after result → HasStopped after lines
+  stopped_more : (tickers : List (List ℕ)) (line : List ℕ) (lines after : List (List ℕ)) (result : Result LineRead LineFault) → result ≢ may_run_out → IsLineRead version tickers line after result → HasStopped after lines
       → HasStopped tickers (line ∷ lines)
   stopped_more tickers line lines after (Ok Blank) told is so = record {
     read = line ∷ so.read;

@@ -8,8 +8,8 @@ use Rattle.wire_records.specs.declared.version.Version.{Version}
 use Rattle.order_text.specs.Lines.{IsBlank, Asked, commands_of, Says, SaysNothing}
 
 -- a piece with no line feed (10) in it
-abbrev pub IsPiece : List ℕ → Type 0
-IsPiece piece = ¬ Contains piece 10
+abbrev pub HasNoFeed : List ℕ → Type 0
+HasNoFeed piece = ¬ Contains piece 10
 
 -- pieces, each followed by a line feed
 abbrev pub ended_by_feeds : List (List ℕ) → List ℕ
@@ -21,8 +21,8 @@ pub record AreLines (More : Type 0) (bytes : List ℕ) (lines : List (List ℕ))
   pub ended : List (List ℕ)
   pub last : List ℕ
   pub whole : bytes ≡ ended_by_feeds ended ++ last
-  pub pieces : All IsPiece ended
-  pub piece : IsPiece last
+  pub pieces : All HasNoFeed ended
+  pub piece : HasNoFeed last
   pub all : ((lines ≡ ended) × (More ⊎ (last ≡ []))) ⊎ ((lines ≡ ended ++ last ∷ []) × (¬ More) × (last ≢ []))
 
 -- the bytes of the records of commands, one after the other
@@ -40,9 +40,9 @@ module _ (version : Version) where
       ⊎ ((asked : Asked) × (rest : List Command) × (next : List (List ℕ)) × Says version tickers line asked next × Say next lines rest after × (commands ≡ commands_of asked ++ rest))
 
   -- `read` are all the lines, or the next one is neither blank nor a command and has this number, counted from 1
-  abbrev pub StopsAt : List (List ℕ) → List (List ℕ) → List (List ℕ) → Option ℕ → Type 0
-  StopsAt tickers read lines None = lines ≡ read
-  StopsAt tickers read lines (Some number) =
+  abbrev pub StopsAtLine : List (List ℕ) → List (List ℕ) → List (List ℕ) → Option ℕ → Type 0
+  StopsAtLine tickers read lines None = lines ≡ read
+  StopsAtLine tickers read lines (Some number) =
       (bad : List ℕ) × (more : List (List ℕ)) × (lines ≡ read ++ bad ∷ more) × SaysNothing version tickers bad × (number ≡ length read + 1)
 
 -- In a version, from the tickers on that are known before the first line.
@@ -55,7 +55,7 @@ module _ (version : Version) (known : List (List ℕ)) where
     pub tickers : List (List ℕ)
     pub split : AreLines More bytes lines
     pub say : Say version known read commands tickers
-    pub stops : StopsAt version tickers read lines bad
+    pub stops : StopsAtLine version tickers read lines bad
 
   -- The first lines ask for these commands.
   pub record AreFirst (More : Type 0) (bytes : List ℕ) (commands : List Command) : Type 0 where

@@ -15,7 +15,7 @@ HasSize bytes n =
 
 -- `count` orders from the place `first` on, of which these bytes are the beginning, end at this place or later, and exactly there if that
 -- many bytes are here
-abbrev pub EndsWith : List ℕ → (first count end : ℕ) → Type 0
-EndsWith bytes first count end =
+abbrev pub OrdersEndAt : List ℕ → (first count end : ℕ) → Type 0
+OrdersEndAt bytes first count end =
     (orders : List ReadOrder) (more rest : List ℕ) → length orders ≡ count → All FitsOrder orders → drop first (bytes ++ more) ≡ flat_map order_encoding orders ++ rest
     → (end ≤ first + length (flat_map order_encoding orders)) × (end ≤ length bytes → first + length (flat_map order_encoding orders) ≡ end)

@@ -1,7 +1,7 @@
 //! How many bytes a checkpoint has, judged by its first bytes.
 ghost use Rattle.std.specs.Prelude.{◌≡◌, ◌+◌, ◌*◌, ◌≤◌, ℕ, List, ◌++◌, length, IfSome, IfNone};
 ghost use Rattle.market_snapshot.specs.Checkpoints.{BeginsWithNoCheckpoint};
-ghost use Rattle.market_snapshot.specs.Sizes.{HasSize, EndsWith};
+ghost use Rattle.market_snapshot.specs.Sizes.{HasSize, OrdersEndAt};
 
 use crate::layout::{ENTRY, NUMBER, ORDER, account_size};
 use byte_places::{u8_at, u16_at, u32_at};
@@ -15,7 +15,7 @@ const FIRST: usize = 11;
 fn orders_end(bytes: &[u8], first: usize, count: usize) -> usize
     requires inside { first ≤ length bytes.now }
     requires few { count ≤ 16384 }
-    ensures { EndsWith bytes.now first count result }
+    ensures { OrdersEndAt bytes.now first count result }
 {
     let mut end = first;
     let mut passed = 0;

@@ -14,8 +14,8 @@ use Rattle.wire_records.proofs.Numbered.{first_tags, all_tags}
 use Rattle.order_text.specs.declared.line.LineFault.{LineFault}
 use Rattle.order_text.specs.declared.line.LineFault.TheVariants.{NoCommand, Memory}
 use Rattle.std.proofs.lemmas.List.Elements.{All-from_recursion, recursion_from_All}
-use Rattle.order_text.specs.Lines.{HasKeys, Value, Text, Ticker, Small, Number, Weights, HasAt, order_members, amount_members, members_of, AsksFor, Alone}
-use Rattle.order_text.specs.Private.{text_at, word_of, Has, HasOrder, Fits, IsOrder, IsUntil, IsPlaced, HasMoney, HasUnits, HasLimits}
+use Rattle.order_text.specs.Lines.{HasKeys, Value, Text, Ticker, Small, Number, Weights, HasAt, order_members, amount_members, members_of, ObjectAsks, Alone}
+use Rattle.order_text.specs.Private.{text_at, word_of, Has, HasOrderMembers, Fits, AnswersOrder, IsUntil, IsPlaced, HasMoney, HasUnits, HasLimits}
 
 -- a command of the first version is one of each
 pub of_each : (version : Version) (command : Command) → IsOfVersion One command → IsOfVersion version command
@@ -76,17 +76,17 @@ pub rest_of : (tickers : List (List ℕ)) (d : Data) (m : List ℕ × Value) (me
 rest_of tickers d m members has = has.1
 
 -- an object that asks for a command has the word at `do`, and the other members
-all_asked : (version : Version) (tickers : List (List ℕ)) (d : Data) (command : Command) → AsksFor version tickers d (Alone command) → Has tickers d ((codes "do", Text (word_of command)) ∷ drop 1 (members_of command))
+all_asked : (version : Version) (tickers : List (List ℕ)) (d : Data) (command : Command) → ObjectAsks version tickers d (Alone command) → Has tickers d ((codes "do", Text (word_of command)) ∷ drop 1 (members_of command))
 all_asked version tickers d command asks = subst (Has tickers d) (word_first command) (recursion_from_All (λ m. HasAt tickers d m.0 m.1) (members_of command) asks.0.0)
 
-pub word_asked : (version : Version) (tickers : List (List ℕ)) (d : Data) (command : Command) → AsksFor version tickers d (Alone command) → text_at (codes "do") d ≡ Some (word_of command)
+pub word_asked : (version : Version) (tickers : List (List ℕ)) (d : Data) (command : Command) → ObjectAsks version tickers d (Alone command) → text_at (codes "do") d ≡ Some (word_of command)
 word_asked version tickers d command asks = text_of tickers d (codes "do") (word_of command) (all_asked version tickers d command asks).0
 
-pub fits_asked : (version : Version) (tickers : List (List ℕ)) (d : Data) (command : Command) → AsksFor version tickers d (Alone command) → Fits tickers d command
+pub fits_asked : (version : Version) (tickers : List (List ℕ)) (d : Data) (command : Command) → ObjectAsks version tickers d (Alone command) → Fits tickers d command
 fits_asked version tickers d command asks = (rest_of tickers d (codes "do", Text (word_of command)) (drop 1 (members_of command)) (all_asked version tickers d command asks), asks.0.1)
 
 -- an object with the word at `do` and the other members asks for the command
-pub asks_of : (version : Version) (tickers : List (List ℕ)) (d : Data) (command : Command) → text_at (codes "do") d ≡ Some (word_of command) → Fits tickers d command → IsOfVersion version command → AsksFor version tickers d (Alone command)
+pub asks_of : (version : Version) (tickers : List (List ℕ)) (d : Data) (command : Command) → text_at (codes "do") d ≡ Some (word_of command) → Fits tickers d command → IsOfVersion version command → ObjectAsks version tickers d (Alone command)
 asks_of version tickers d command word fits of =
     ((All-from_recursion (λ m. HasAt tickers d m.0 m.1) (members_of command) (subst (Has tickers d) (sym (word_first command)) (text_where tickers d (codes "do") (word_of command) word, fits.0)), fits.1), of)
 
@@ -96,7 +96,7 @@ module _ (tickers : List (List ℕ)) (d : Data) where
   Word word = text_at (codes "do") d ≡ Some word
 
   -- the word of a command that is asked for
-  pub one_word : (version : Version) (word : List ℕ) (command : Command) → text_at (codes "do") d ≡ Some word → AsksFor version tickers d (Alone command) → word_of command ≡ word
+  pub one_word : (version : Version) (word : List ℕ) (command : Command) → text_at (codes "do") d ≡ Some word → ObjectAsks version tickers d (Alone command) → word_of command ≡ word
   one_word version word command asked asks = ap (λ o. unwrap_or o []) (sym (word_asked version tickers d command asks) ∙ asked)
 
   -- an object that lacks a field of a command with a word of its own doesn't ask for it
@@ -143,8 +143,8 @@ module _ (tickers : List (List ℕ)) (d : Data) where
       no_amount by_money by_units is.0 is.1 is.2 has.0 has.1
 
   -- an object without the fields of an order, with a last batch or without one, asks for none
-  no_order : (version : Version) → ((request : Request) → HasOrder tickers d request → HasKeys 7 d → ⊥)
-      → ((last : ℕ) (request : Request) → IsOfVersion version (Place (Some last) request) → HasAt tickers d (codes "last") (Small last) → HasOrder tickers d request → HasKeys 8 d → ⊥)
+  no_order : (version : Version) → ((request : Request) → HasOrderMembers tickers d request → HasKeys 7 d → ⊥)
+      → ((last : ℕ) (request : Request) → IsOfVersion version (Place (Some last) request) → HasAt tickers d (codes "last") (Small last) → HasOrderMembers tickers d request → HasKeys 8 d → ⊥)
       → (command : Command) → word_of command ≡ codes "place" → IsOfVersion version command → Fits tickers d command → ⊥
   no_order version none no_until command word of fits =
       let is = place_is command word in by_last is.0 is.1 (subst (IsOfVersion version) is.2 of) (subst (Fits tickers d) is.2 fits)
@@ -158,13 +158,13 @@ module _ (tickers : List (List ℕ)) (d : Data) where
   one_count seven eight = let apart : 7 ≡ 8 = ap (λ o. unwrap_or o 0) (sym seven ∙ eight) in absurd (omega (arith, apart))
 
   -- the order of a version without last batches
-  pub placed_without_last : (version : Version) → (¬ HasLastBatches version) → (result : Result owned.Command LineFault) → IsOrder tickers d result → IsPlaced version tickers d result
+  pub placed_without_last : (version : Version) → (¬ HasLastBatches version) → (result : Result owned.Command LineFault) → AnswersOrder tickers d result → IsPlaced version tickers d result
   placed_without_last version no_last (Ok command) is = (is.0, is.1, of_each version (command_in command) is.2, is.3)
   placed_without_last version no_last (Err NoCommand) none = no_order version none (λ last request of at has keys. no_last of.1)
   placed_without_last version no_last (Err Memory) is = is
 
   -- the order of a version with last batches, if there are seven keys, or if there aren't
-  pub placed_with_seven : (version : Version) → HasKeys 7 d → (result : Result owned.Command LineFault) → IsOrder tickers d result → IsPlaced version tickers d result
+  pub placed_with_seven : (version : Version) → HasKeys 7 d → (result : Result owned.Command LineFault) → AnswersOrder tickers d result → IsPlaced version tickers d result
   placed_with_seven version seven (Ok command) is = (is.0, is.1, of_each version (command_in command) is.2, is.3)
   placed_with_seven version seven (Err NoCommand) none = no_order version none (λ last request of at has keys. one_count seven keys)
   placed_with_seven version seven (Err Memory) is = is
@@ -175,11 +175,11 @@ module _ (tickers : List (List ℕ)) (d : Data) where
   placed_without_seven version has_last not_seven (Err Memory) is = is
 
   -- the weights of an order that an object has
-  pub weights_of : (request : Request) → HasOrder tickers d request → HasAt tickers d (codes "weights") (Weights request.row)
+  pub weights_of : (request : Request) → HasOrderMembers tickers d request → HasAt tickers d (codes "weights") (Weights request.row)
   weights_of request fields = fields.1.1.1.1.1.0
 
   -- an object without a weight vector asks for no order
-  pub order_failed : (fault : LineFault) → (fault ≡ NoCommand → (row : List Entry) → HasAt tickers d (codes "weights") (Weights row) → ⊥) → IsOrder tickers d (Err fault)
+  pub order_failed : (fault : LineFault) → (fault ≡ NoCommand → (row : List Entry) → HasAt tickers d (codes "weights") (Weights row) → ⊥) → AnswersOrder tickers d (Err fault)
   order_failed NoCommand none = λ request fields keys. none refl request.row (weights_of request fields)
   order_failed Memory none = tt
 
@@ -188,5 +188,5 @@ module _ (tickers : List (List ℕ)) (d : Data) where
   until_failed Memory none = tt
 
   -- an object without the numbers of an order has no order
-  pub no_request : ((account : ℕ) (low high : ℤ) (rate cap : ℕ) → HasLimits d account low high rate cap → ⊥) → (request : Request) → HasOrder tickers d request → ⊥
+  pub no_request : ((account : ℕ) (low high : ℤ) (rate cap : ℕ) → HasLimits d account low high rate cap → ⊥) → (request : Request) → HasOrderMembers tickers d request → ⊥
   no_request none r fields = none r.account r.low r.high r.rate r.cap (fields.0, fields.1.0, fields.1.1.0, fields.1.1.1.0, fields.1.1.1.1.0)

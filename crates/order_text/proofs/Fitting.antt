@@ -19,8 +19,8 @@ use Rattle.wire_records.proofs.FieldForms.{command_fits}
 use Rattle.ticker_table.specs.Tickers.{AreTickers}
 use Rattle.wire_records.specs.Versions.{IsOfVersion}
 use Rattle.wire_records.specs.declared.version.Version.{Version}
-use Rattle.order_text.specs.Lines.{whole_of, signed_of, padded, asset_named, IsEntryOf, AreWeights, Asset, Small, Number, Signed, HasAt, order_members, AsksLadder, Asked, Alone, OfLadder, commands_of, LineAsks, AsksFor}
-use Rattle.order_text.specs.Private.{HasOrder}
+use Rattle.order_text.specs.Lines.{whole_of, signed_of, padded, asset_named, IsEntryOf, AreWeights, Asset, Small, Number, Signed, HasAt, order_members, AsksLadder, Asked, Alone, OfLadder, commands_of, LineAsks, ObjectAsks}
+use Rattle.order_text.specs.Private.{HasOrderMembers}
 use Rattle.curve_ladder.specs.declared.segment.Segment.{Segment}
 use Rattle.curve_ladder.specs.Segments.{segments_of, request_of}
 use Rattle.curve_ladder.specs.Laws.{HasOrderNumbers}
@@ -147,7 +147,7 @@ module _ (tickers : List (List ℕ)) (d : Data) (are : AreTickers tickers) (all 
       → IsUnsigned 4 account × IsUnsigned 2 asset × IsUnsigned 8 units
   units_fit account asset units more f = (f.0.2.1, asset_fits tickers f.1.0.2.0 asset are f.1.0.2.2, number_at_fits (codes "units") units f.1.1.0)
 
-  request_fits : (r : Request) → length r.row ≤ 165 → HasOrder tickers d r → IsRequest r
+  request_fits : (r : Request) → length r.row ≤ 165 → HasOrderMembers tickers d r → IsRequest r
   request_fits r few f =
       let weights = (weights_of tickers d r f).2 in
       record {
@@ -161,7 +161,7 @@ module _ (tickers : List (List ℕ)) (d : Data) (are : AreTickers tickers) (all 
       }
 
   -- the parts of the command that an object asks for fit its record
-  parts_fit : (version : Version) (command : Command) → AsksFor version tickers d (Alone command) → FitsCommand command
+  parts_fit : (version : Version) (command : Command) → ObjectAsks version tickers d (Alone command) → FitsCommand command
   parts_fit version (AddAsset ticker) asks = let f = (fits_asked version tickers d (AddAsset ticker) asks).0.0.2 in ticker_fits f.0 ticker (f.2, f.3)
   parts_fit version OpenAccount asks = tt
   parts_fit version (Deposit account None ticks) asks = money_fits account ticks _ (fits_asked version tickers d (Deposit account None ticks) asks).0
@@ -180,7 +180,7 @@ module _ (tickers : List (List ℕ)) (d : Data) (are : AreTickers tickers) (all 
   parts_fit version (SetCredit account (Some asset) units) asks = units_fit account asset units _ (fits_asked version tickers d (SetCredit account (Some asset) units) asks).0
 
   -- the command that an object asks for fits its record
-  pub command_asked_fits : (version : Version) (command : Command) → AsksFor version tickers d (Alone command) → IsCommand command
+  pub command_asked_fits : (version : Version) (command : Command) → ObjectAsks version tickers d (Alone command) → IsCommand command
   command_asked_fits version command asks = command_fits command (parts_fit version command asks)
 
   -- the request of a segment

@@ -23,11 +23,11 @@ use Rattle.order_text.specs.Laws.{LadderAsksTogether}
 use Rattle.serde_json.specs.Read.{read}
 use Rattle.order_text.specs.declared.line.LineRead.{LineRead}
 use Rattle.order_text.specs.declared.line.LineRead.TheVariants as line_is
-use Rattle.order_text.specs.Answers.{IsAskedAs, IsRead, IsShort}
+use Rattle.order_text.specs.Answers.{IsAskedAs, IsLineRead, IsShort}
 use Rattle.order_text.specs.declared.line.LineFault.{LineFault}
 use Rattle.order_text.specs.declared.line.LineFault.TheVariants.{NoCommand, Memory}
-use Rattle.order_text.specs.Lines.{IsBlank, Leave, whole_of, signed_of, IsPoint, ArePoints, Small, Weights, Points, HasAt, ladder_members, AsksLadder, Asked, Alone, OfLadder, AsksFor}
-use Rattle.order_text.specs.Private.{text_at, number_at, items_at, in_32_bits, rate_of, point_in, point_of, put_points, word_of, HasLadder, IsLaddered, IsAsked, AddsSome, AreAfter}
+use Rattle.order_text.specs.Lines.{IsBlank, Leave, whole_of, signed_of, IsPoint, ArePoints, Small, Weights, Points, HasAt, ladder_members, AsksLadder, Asked, Alone, OfLadder, ObjectAsks}
+use Rattle.order_text.specs.Private.{text_at, number_at, items_at, in_32_bits, rate_of, point_in, point_of, put_points, word_of, HasLadder, IsLaddered, AnswersObject, AddsSome, AreAfter}
 use Rattle.order_text.proofs.AskedFor.{word_asked, text_of, text_where}
 
 -- ---- one point
@@ -216,7 +216,7 @@ module _ (tickers : List (List ℕ)) (d : Data) where
   pub no_command_word : (command : Command) → word_of command ≡ codes "ladder" → ⊥
   no_command_word = search rules
 
-  pub not_alone : (version : Version) (command : Command) → text_at (codes "do") d ≡ Some (codes "ladder") → AsksFor version tickers d (Alone command) → ⊥
+  pub not_alone : (version : Version) (command : Command) → text_at (codes "do") d ≡ Some (codes "ladder") → ObjectAsks version tickers d (Alone command) → ⊥
   not_alone version command word asks = no_command_word command (ap (λ o. unwrap_or o []) (sym (word_asked version tickers d command asks) ∙ word))
 
   -- an object without a weight vector asks for no ladder's orders
@@ -236,12 +236,12 @@ module _ (tickers : List (List ℕ)) (d : Data) where
       points_are a b is = ap (λ o. unwrap_or o []) is
 
   -- an object with the word of a ladder that asks for none asks for nothing
-  pub no_ladder : (version : Version) → text_at (codes "do") d ≡ Some (codes "ladder") → IsLaddered tickers d (Err NoCommand) → (asked : Asked) → AsksFor version tickers d asked → ⊥
+  pub no_ladder : (version : Version) → text_at (codes "do") d ≡ Some (codes "ladder") → IsLaddered tickers d (Err NoCommand) → (asked : Asked) → ObjectAsks version tickers d asked → ⊥
   no_ladder version word none (Alone command) asks = not_alone version command word asks
   no_ladder version word none (OfLadder commands) asks = none asks.ladder asks.account asks.row (has_ladder commands asks) asks.members.1 asks.lawful
 
   -- a fault is the answer for an object with the word `ladder`
-  pub ladder_refused : (version : Version) → text_at (codes "do") d ≡ Some (codes "ladder") → (fault : LineFault) → IsLaddered tickers d (Err fault) → IsAsked version tickers d (Err fault)
+  pub ladder_refused : (version : Version) → text_at (codes "do") d ≡ Some (codes "ladder") → (fault : LineFault) → IsLaddered tickers d (Err fault) → AnswersObject version tickers d (Err fault)
   ladder_refused version word NoCommand none = no_ladder version word none
   ladder_refused version word Memory none = tt
 
@@ -251,7 +251,7 @@ leaves_none tickers l account row [] = refl
 leaves_none tickers l account row (s ∷ segments) = (tickers, inr ((λ ticker adds. absurd (let same = adds.0 in cc)), refl), leaves_none tickers l account row segments)
 
 -- the answer to a line is that for its value
-pub line_asked : (version : Version) (tickers : List (List ℕ)) (line : List ℕ) (d : Data) (answer : Result LineRead LineFault) → (¬ IsBlank line) → IsUtf8 line → read line ≡ Some d → IsAsked version tickers d answer → IsAskedAs version tickers line answer
+pub line_asked : (version : Version) (tickers : List (List ℕ)) (line : List ℕ) (d : Data) (answer : Result LineRead LineFault) → (¬ IsBlank line) → IsUtf8 line → read line ≡ Some d → AnswersObject version tickers d answer → IsAskedAs version tickers line answer
 line_asked version tickers line d (Ok line_is.Blank) written utf8 reads asked = absurd asked
 line_asked version tickers line d (Ok (line_is.Asks command)) written utf8 reads asked = record { written = written; utf8 = utf8; value = d; reads = reads; asks = asked.0 }
 line_asked version tickers line d (Ok (line_is.Many commands)) written utf8 reads asked = record { written = written; utf8 = utf8; value = d; reads = reads; asks = asked.0 }
@@ -260,12 +260,12 @@ line_asked version tickers line d (Err NoCommand) written utf8 reads none = reco
   no_command = λ asked asks.
       let both : Some asks.value ≡ Some d = sym asks.reads ∙ reads in
       let same : asks.value ≡ d = cc in
-      none asked (subst (λ (v : Data). AsksFor version tickers v asked) same asks.asks);
+      none asked (subst (λ (v : Data). ObjectAsks version tickers v asked) same asks.asks);
 }
 line_asked version tickers line d (Err Memory) written utf8 reads asked = written
 
 -- the tickers after a line that was asked
-pub line_read : (version : Version) (tickers after : List (List ℕ)) (line : List ℕ) (lr : LineRead) → IsAskedAs version tickers line (Ok lr) → AreAfter tickers lr after → IsRead version tickers line after (Ok lr)
+pub line_read : (version : Version) (tickers after : List (List ℕ)) (line : List ℕ) (lr : LineRead) → IsAskedAs version tickers line (Ok lr) → AreAfter tickers lr after → IsLineRead version tickers line after (Ok lr)
 line_read version tickers after line line_is.Blank asked leaves = (asked, leaves)
 line_read version tickers after line (line_is.Asks command) asked leaves = record { asks = asked; leaves = (after, leaves, refl) }
 line_read version tickers after line (line_is.Many commands) asked leaves = record {
@@ -274,13 +274,13 @@ line_read version tickers after line (line_is.Many commands) asked leaves = reco
 }
 
 -- a ticker that a line asks for wasn't added
-pub line_unadded : (version : Version) (tickers after : List (List ℕ)) (line : List ℕ) (lr : LineRead) (fault : LineFault) → IsAskedAs version tickers line (Ok lr) → AddsSome lr → (¬ (fault ≡ NoCommand)) → after ≡ tickers → IsRead version tickers line after (Err fault)
+pub line_unadded : (version : Version) (tickers after : List (List ℕ)) (line : List ℕ) (lr : LineRead) (fault : LineFault) → IsAskedAs version tickers line (Ok lr) → AddsSome lr → (¬ (fault ≡ NoCommand)) → after ≡ tickers → IsLineRead version tickers line after (Err fault)
 line_unadded version tickers after line line_is.Blank fault asked some other same = absurd some
 line_unadded version tickers after line (line_is.Many commands) fault asked some other same = absurd some
 line_unadded version tickers after line (line_is.Asks command) NoCommand asked some other same = absurd (other refl)
 line_unadded version tickers after line (line_is.Asks command) Memory asked some other same = (asked.written, same)
 
-pub line_is_short : (version : Version) (tickers : List (List ℕ)) (d : Data) (answer : Result LineRead LineFault) → IsAsked version tickers d answer → IfOk answer IsShort
+pub line_is_short : (version : Version) (tickers : List (List ℕ)) (d : Data) (answer : Result LineRead LineFault) → AnswersObject version tickers d answer → IfOk answer IsShort
 line_is_short version tickers d (Ok line_is.Blank) asked = absurd asked
 line_is_short version tickers d (Ok (line_is.Asks command)) asked = asked.1
 line_is_short version tickers d (Ok (line_is.Many commands)) asked = asked.1

@@ -11,8 +11,8 @@ use Rattle.order_text.specs.declared.line.LineRead.TheVariants as line_is
 use Rattle.order_text.specs.declared.line.LineFault.{LineFault}
 use Rattle.order_text.specs.declared.line.LineFault.TheVariants.{NoCommand, Memory}
 use Rattle.wire_records.specs.declared.version.Version.{Version}
-use Rattle.order_text.specs.Lines.{HasKeys, padded, asset_named, Value, Text, Ticker, Asset, Small, Number, Signed, Weights, Points, HasAt, members_of, ladder_members, AsksLadder, Asked, Alone, OfLadder, AsksFor, commands_of, Leaves, Leave, Says}
-use Rattle.order_text.specs.Private.{text_at, number_at, signed_at, members_at, items_at, word_of, Has, put_members, put_points}
+use Rattle.order_text.specs.Lines.{HasKeys, padded, asset_named, Value, Text, Ticker, Asset, Small, Number, Signed, Weights, Points, HasAt, members_of, ladder_members, AsksLadder, Asked, Alone, OfLadder, ObjectAsks, commands_of, Leaves, Leave, Says}
+use Rattle.order_text.specs.Private.{text_at, number_at, signed_member, members_at, items_at, word_of, Has, put_members, put_points}
 use Rattle.order_text.proofs.AskedFor.{word_asked, fits_asked}
 use Rattle.order_text.proofs.Weights.{made_where}
 use Rattle.order_text.proofs.Ladders.{made_where as points_made_where, has_ladder, ladder_asked, not_alone, ladders_are}
@@ -20,7 +20,7 @@ use Rattle.curve_ladder.specs.declared.points.Point.{Point}
 use Rattle.weight_rows.specs.declared.entries.Entry.{Entry}
 use Rattle.std.specs.Prelude.{option_and_then, unwrap_or, codes}
 use Rattle.std.specs.List.{AllByRecursion}
-use Rattle.order_text.specs.Answers.{IsRead, may_run_out}
+use Rattle.order_text.specs.Answers.{IsLineRead, may_run_out}
 use Rattle.order_text.specs.Laws.{OneSaying, OneTable}
 
 -- the Rust value of a command
@@ -108,7 +108,7 @@ Gives tickers d key (Ticker ticker) = option_and_then padded (text_at key d) ≡
 Gives tickers d key (Asset asset) = option_and_then (asset_named tickers) (text_at key d) ≡ Some asset
 Gives tickers d key (Small number) = number_at key d ≡ Some number
 Gives tickers d key (Number number) = number_at key d ≡ Some number
-Gives tickers d key (Signed number) = signed_at key d ≡ Some number
+Gives tickers d key (Signed number) = signed_member key d ≡ Some number
 Gives tickers d key (Weights row) = option_and_then (λ members. put_members tickers members []) (members_at key d) ≡ Some row
 Gives tickers d key (Points points) = option_and_then (λ items. put_points items []) (items_at key d) ≡ Some points
 
@@ -132,7 +132,7 @@ record Tells (tickers : List (List ℕ)) (d : Data) (command : Command) : Type 0
   fields : AllByRecursion (λ m. Gives tickers d m.0 m.1) (drop 1 (members_of command))
   keys : HasKeys (length (members_of command)) d
 
-tells : (version : Version) (tickers : List (List ℕ)) (d : Data) (command : Command) → AsksFor version tickers d (Alone command) → Tells tickers d command
+tells : (version : Version) (tickers : List (List ℕ)) (d : Data) (command : Command) → ObjectAsks version tickers d (Alone command) → Tells tickers d command
 tells version tickers d command asks =
     let fits = fits_asked version tickers d command asks in
     record { word = word_asked version tickers d command asks; fields = all_give tickers d (drop 1 (members_of command)) fits.0; keys = fits.1 }
@@ -142,7 +142,7 @@ one_told : (tickers : List (List ℕ)) (d : Data) (a b : Command) → Tells tick
 one_told = search (rules, refl)
 
 -- an object asks for one command
-one_asked : (version : Version) (tickers : List (List ℕ)) (d : Data) (a b : Command) → AsksFor version tickers d (Alone a) → AsksFor version tickers d (Alone b) → a ≡ b
+one_asked : (version : Version) (tickers : List (List ℕ)) (d : Data) (a b : Command) → ObjectAsks version tickers d (Alone a) → ObjectAsks version tickers d (Alone b) → a ≡ b
 one_asked version tickers d a b x y = one_told tickers d a b (tells version tickers d a x) (tells version tickers d b y)
 
 -- an object asks for the orders of one ladder: its values are determined
@@ -166,16 +166,16 @@ one_ladder tickers d a b x y =
     x.commands_are ∙ rw (ladders_are x.ladder y.ladder points turns, account, row) refl ∙ sym y.commands_are
 
 -- an object asks for one thing
-one_for : (version : Version) (tickers : List (List ℕ)) (d : Data) (a b : Asked) → AsksFor version tickers d a → AsksFor version tickers d b → a ≡ b
+one_for : (version : Version) (tickers : List (List ℕ)) (d : Data) (a b : Asked) → ObjectAsks version tickers d a → ObjectAsks version tickers d b → a ≡ b
 one_for version tickers d (Alone a) (Alone b) x y = ap Alone (one_asked version tickers d a b x y)
 one_for version tickers d (Alone a) (OfLadder b) x y = absurd (not_alone tickers d version a (ladder_asked tickers d b y) x)
 one_for version tickers d (OfLadder a) (Alone b) x y = absurd (not_alone tickers d version b (ladder_asked tickers d a x) y)
 one_for version tickers d (OfLadder a) (OfLadder b) x y = ap OfLadder (one_ladder tickers d a b x y)
 
-one_value : (version : Version) (tickers : List (List ℕ)) (c d : Data) (a b : Asked) → Some c ≡ Some d → AsksFor version tickers c a → AsksFor version tickers d b → a ≡ b
+one_value : (version : Version) (tickers : List (List ℕ)) (c d : Data) (a b : Asked) → Some c ≡ Some d → ObjectAsks version tickers c a → ObjectAsks version tickers d b → a ≡ b
 one_value version tickers c d a b same x y =
     let value : c ≡ d = cc in
-    one_for version tickers d a b (subst (λ v. AsksFor version tickers v a) value x) y
+    one_for version tickers d a b (subst (λ v. ObjectAsks version tickers v a) value x) y
 
 pub one_saying : OneSaying
 one_saying version tickers line a b after other x y =
@@ -183,7 +183,7 @@ one_saying version tickers line a b after other x y =
     (same, one_table tickers (commands_of b) after other (subst (λ asked. Leave tickers (commands_of asked) after) same x.leaves) y.leaves)
 
 pub one_answer : OneSaying → (version : Version) (tickers : List (List ℕ)) (line : List ℕ) (a b : Answer) (after other : List (List ℕ)) → a ≢ may_run_out → b ≢ may_run_out
-    → IsRead version tickers line after a → IsRead version tickers line other b → (a ≡ b) × (after ≡ other)
+    → IsLineRead version tickers line after a → IsLineRead version tickers line other b → (a ≡ b) × (after ≡ other)
 one_answer one version tickers line (Ok Blank) (Ok Blank) after other x y p q = (refl, p.1 ∙ sym q.1)
 one_answer one version tickers line (Ok Blank) (Ok (line_is.Asks d)) after other x y p q = absurd (q.asks.written p.0)
 one_answer one version tickers line (Ok Blank) (Ok (line_is.Many ds)) after other x y p q = absurd (q.asks.written p.0)
@@ -230,7 +230,7 @@ is_wanting (Err Memory) = true
 told : (result : Answer) → is_wanting result ≡ false → result ≢ may_run_out
 told result is same = true≢false (sym (ap is_wanting same) ∙ is)
 
-pub none_is_unanswered : (version : Version) (tickers : List (List ℕ)) (line : List ℕ) → ((after : List (List ℕ)) (result : Answer) → result ≢ may_run_out → IsRead version tickers line after result → ⊥) → ⊥
+pub none_is_unanswered : (version : Version) (tickers : List (List ℕ)) (line : List ℕ) → ((after : List (List ℕ)) (result : Answer) → result ≢ may_run_out → IsLineRead version tickers line after result → ⊥) → ⊥
 none_is_unanswered version tickers line none =
     none tickers (Err NoCommand) (told (Err NoCommand) refl) (
       record {

@@ -11,7 +11,7 @@ use Rattle.wire_records.specs.CommandRecords.{HasShortRow}
 use Rattle.wire_records.specs.declared.version.Version.{Version}
 use Rattle.curve_ladder.specs.declared.segment.Segment.{Segment}
 use Rattle.curve_ladder.specs.Segments.{segments_of, request_of}
-use Rattle.order_text.specs.Lines.{LineAsks, AsksLadder, Asked, Alone, OfLadder, commands_of, Small, Weights, HasAt, order_members, padded, asset_named, IsEntryOf, AreWeights, AsksFor}
+use Rattle.order_text.specs.Lines.{LineAsks, AsksLadder, Asked, Alone, OfLadder, commands_of, Small, Weights, HasAt, order_members, padded, asset_named, IsEntryOf, AreWeights, ObjectAsks}
 use Rattle.order_text.proofs.AskedFor.{fits_asked, rest_of, weights_of}
 use Rattle.order_text.proofs.Ladders.{has_ladder}
 use Rattle.order_text.proofs.Weights.{Among, among_all, Rises, rises_of}
@@ -42,7 +42,7 @@ few_entries tickers members row are =
     omega (arith, few 0 (length tickers) row (omega arith) (rises_of row are.ascending) (λ e in_. entry_below tickers members e (among_all (IsEntryOf tickers members) row e each in_)))
 
 -- the weight vector of a command that an object asks for fits its record
-pub row_is_short : (version : Version) (tickers : List (List ℕ)) (d : Data) (command : Command) → AreTickers tickers → AsksFor version tickers d (Alone command) → HasShortRow command
+pub row_is_short : (version : Version) (tickers : List (List ℕ)) (d : Data) (command : Command) → AreTickers tickers → ObjectAsks version tickers d (Alone command) → HasShortRow command
 row_is_short version tickers d (Place None request) are asks =
     let weights = (weights_of tickers d request (fits_asked version tickers d (Place None request) asks).0).2 in
     omega (arith, are.few, few_entries tickers weights.0 request.row weights.2)

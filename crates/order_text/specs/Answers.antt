@@ -11,12 +11,12 @@ use Rattle.order_text.specs.Lines.{IsBlank, Alone, OfLadder, LineAsks, Says, Say
 
 -- The answer to a line in a version, given the tickers of the lines before, with the tickers after it. By the laws a line has one
 -- answer unless memory runs out, which it can't on a blank line.
-abbrev pub IsRead : Version → List (List ℕ) → List ℕ → List (List ℕ) → Result LineRead LineFault → Type 0
-IsRead version tickers line after (Ok Blank) = IsBlank line × (after ≡ tickers)
-IsRead version tickers line after (Ok (Asks command)) = Says version tickers line (Alone (command_in command)) after
-IsRead version tickers line after (Ok (Many commands)) = Says version tickers line (OfLadder (map command_in commands)) after
-IsRead version tickers line after (Err NoCommand) = SaysNothing version tickers line × (after ≡ tickers)
-IsRead version tickers line after (Err Memory) = (¬ IsBlank line) × (after ≡ tickers)
+abbrev pub IsLineRead : Version → List (List ℕ) → List ℕ → List (List ℕ) → Result LineRead LineFault → Type 0
+IsLineRead version tickers line after (Ok Blank) = IsBlank line × (after ≡ tickers)
+IsLineRead version tickers line after (Ok (Asks command)) = Says version tickers line (Alone (command_in command)) after
+IsLineRead version tickers line after (Ok (Many commands)) = Says version tickers line (OfLadder (map command_in commands)) after
+IsLineRead version tickers line after (Err NoCommand) = SaysNothing version tickers line × (after ≡ tickers)
+IsLineRead version tickers line after (Err Memory) = (¬ IsBlank line) × (after ≡ tickers)
 
 -- the answer to a line in a version, given the tickers of a table, without those after it
 abbrev pub IsAskedAs : Version → List (List ℕ) → List ℕ → Result LineRead LineFault → Type 0

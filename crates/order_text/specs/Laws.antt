@@ -11,7 +11,7 @@ use Rattle.order_text.specs.declared.line.LineFault.{LineFault}
 use Rattle.curve_ladder.specs.Segments.{curve_asked}
 use Rattle.curve_ladder.specs.Demands.{AskTogether}
 use Rattle.order_text.specs.Lines.{AsksLadder, Asked, commands_of, LineAsks, Leave, Says}
-use Rattle.order_text.specs.Answers.{IsRead, may_run_out}
+use Rattle.order_text.specs.Answers.{IsLineRead, may_run_out}
 
 -- a line asks for one thing at most, and there is one table of tickers after it
 abbrev pub OneSaying : Type 0
@@ -38,13 +38,13 @@ OneTable = (tickers : List (List ℕ)) (commands : List Command) (after other : 
 abbrev pub OneAnswer : Type 0
 OneAnswer =
     (version : Version) (tickers : List (List ℕ)) (line : List ℕ) (a b : Result LineRead LineFault) (after other : List (List ℕ)) → a ≢ may_run_out → b ≢ may_run_out
-    → IsRead version tickers line after a → IsRead version tickers line other b → (a ≡ b) × (after ≡ other)
+    → IsLineRead version tickers line after a → IsLineRead version tickers line other b → (a ≡ b) × (after ≡ other)
 
 -- no line is without an answer other than out of memory
 abbrev pub NoneIsUnanswered : Type 0
 NoneIsUnanswered =
     (version : Version) (tickers : List (List ℕ)) (line : List ℕ)
-    → ¬ ((after : List (List ℕ)) (result : Result LineRead LineFault) → result ≢ may_run_out → ¬ IsRead version tickers line after result)
+    → ¬ ((after : List (List ℕ)) (result : Result LineRead LineFault) → result ≢ may_run_out → ¬ IsLineRead version tickers line after result)
 
 -- the orders of a ladder that an object asks for ask together for what the ladder does: at every price their demands, before any
 -- fill, add up to its value, and at most one of them isn't a whole number

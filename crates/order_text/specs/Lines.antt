@@ -78,19 +78,19 @@ pub data Value : Type 0 where
   Points : (points : List Point) → Value
 
 -- a JSON value has this meaning, given the tickers of the lines before
-abbrev pub IsValue : List (List ℕ) → Data → Value → Type 0
-IsValue tickers d (Text text) = as_str d ≡ Some text
-IsValue tickers d (Ticker ticker) = (text : List ℕ) × (as_str d ≡ Some text) × All (λ byte. byte < 128) text × (padded text ≡ Some ticker)
-IsValue tickers d (Asset asset) = (text : List ℕ) × (as_str d ≡ Some text) × (asset_named tickers text ≡ Some asset)
-IsValue tickers d (Small number) = (whole_of d ≡ Some number) × (number < 2 ^ 32)
-IsValue tickers d (Number number) = whole_of d ≡ Some number
-IsValue tickers d (Signed number) = signed_of d ≡ Some number
-IsValue tickers d (Weights row) = (members : Members) × (as_object d ≡ Some members) × AreWeights tickers members row
-IsValue tickers d (Points points) = (items : Items) × (as_array d ≡ Some items) × ArePoints items points
+abbrev pub HasMeaning : List (List ℕ) → Data → Value → Type 0
+HasMeaning tickers d (Text text) = as_str d ≡ Some text
+HasMeaning tickers d (Ticker ticker) = (text : List ℕ) × (as_str d ≡ Some text) × All (λ byte. byte < 128) text × (padded text ≡ Some ticker)
+HasMeaning tickers d (Asset asset) = (text : List ℕ) × (as_str d ≡ Some text) × (asset_named tickers text ≡ Some asset)
+HasMeaning tickers d (Small number) = (whole_of d ≡ Some number) × (number < 2 ^ 32)
+HasMeaning tickers d (Number number) = whole_of d ≡ Some number
+HasMeaning tickers d (Signed number) = signed_of d ≡ Some number
+HasMeaning tickers d (Weights row) = (members : Members) × (as_object d ≡ Some members) × AreWeights tickers members row
+HasMeaning tickers d (Points points) = (items : Items) × (as_array d ≡ Some items) × ArePoints items points
 
 -- an object has a value of this meaning at a key
 abbrev pub HasAt : List (List ℕ) → Data → List ℕ → Value → Type 0
-HasAt tickers d key is = (value : Data) × (get key d ≡ Some value) × IsValue tickers value is
+HasAt tickers d key is = (value : Data) × (get key d ≡ Some value) × HasMeaning tickers value is
 
 -- an object has `count` keys
 abbrev pub HasKeys : ℕ → Data → Type 0
@@ -148,9 +148,9 @@ commands_of (Alone command) = command ∷ []
 commands_of (OfLadder commands) = commands
 
 -- an object asks for this in a version
-abbrev pub AsksFor : Version → List (List ℕ) → Data → Asked → Type 0
-AsksFor version tickers d (Alone command) = HasMembers tickers d (members_of command) × IsOfVersion version command
-AsksFor version tickers d (OfLadder commands) = AsksLadder tickers d commands
+abbrev pub ObjectAsks : Version → List (List ℕ) → Data → Asked → Type 0
+ObjectAsks version tickers d (Alone command) = HasMembers tickers d (members_of command) × IsOfVersion version command
+ObjectAsks version tickers d (OfLadder commands) = AsksLadder tickers d commands
 
 -- a line asks for this in a version: it isn't blank, and it is the UTF-8 of an object that does
 pub record LineAsks (version : Version) (tickers : List (List ℕ)) (line : List ℕ) (asked : Asked) : Type 0 where
@@ -158,16 +158,16 @@ pub record LineAsks (version : Version) (tickers : List (List ℕ)) (line : List
   pub utf8 : IsUtf8 line
   pub value : Data
   pub reads : read line ≡ Some value
-  pub asks : AsksFor version tickers value asked
+  pub asks : ObjectAsks version tickers value asked
 
 -- a command adds this ticker: it is AddAsset with this ticker, and the ticker can be added
-abbrev pub Adds : List (List ℕ) → Command → List ℕ → Type 0
-Adds tickers command ticker = (command ≡ AddAsset ticker) × IsAddable tickers ticker
+abbrev pub AddsTicker : List (List ℕ) → Command → List ℕ → Type 0
+AddsTicker tickers command ticker = (command ≡ AddAsset ticker) × IsAddable tickers ticker
 
 -- the tickers after a command: those before it, followed by the one that it adds, if it adds one
 abbrev pub Leaves : List (List ℕ) → Command → List (List ℕ) → Type 0
 Leaves tickers command after =
-    ((ticker : List ℕ) × Adds tickers command ticker × (after ≡ tickers ++ ticker ∷ [])) ⊎ (((ticker : List ℕ) → ¬ Adds tickers command ticker) × (after ≡ tickers))
+    ((ticker : List ℕ) × AddsTicker tickers command ticker × (after ≡ tickers ++ ticker ∷ [])) ⊎ (((ticker : List ℕ) → ¬ AddsTicker tickers command ticker) × (after ≡ tickers))
 
 -- the tickers after several commands, one after the other
 abbrev pub Leave : List (List ℕ) → List Command → List (List ℕ) → Type 0

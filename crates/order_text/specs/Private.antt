@@ -21,7 +21,7 @@ use Rattle.order_text.specs.declared.line.LineFault.{LineFault}
 use Rattle.order_text.specs.declared.word.Word.{Word}
 use Rattle.order_text.specs.declared.word.Word.TheVariants as words
 use Rattle.order_text.specs.declared.line.LineFault.TheVariants.{NoCommand, Memory}
-use Rattle.order_text.specs.Lines.{HasKeys, whole_of, signed_of, asset_named, Value, Asset, Small, Number, Signed, HasAt, order_members, members_of, ladder_members, AsksLadder, Asked, AsksFor, Leaves, Alone}
+use Rattle.order_text.specs.Lines.{HasKeys, whole_of, signed_of, asset_named, Value, Asset, Small, Number, Signed, HasAt, order_members, members_of, ladder_members, AsksLadder, Asked, ObjectAsks, Leaves, Alone}
 
 -- the text at a key
 abbrev pub text_at : List ℕ → Data → Option (List ℕ)
@@ -32,8 +32,8 @@ abbrev pub number_at : List ℕ → Data → Option ℕ
 number_at key d = option_and_then whole_of (get key d)
 
 -- the whole number at a key, negative or not
-abbrev pub signed_at : List ℕ → Data → Option ℤ
-signed_at key d = option_and_then signed_of (get key d)
+abbrev pub signed_member : List ℕ → Data → Option ℤ
+signed_member key d = option_and_then signed_of (get key d)
 
 -- the members of the object at a key
 abbrev pub members_at : List ℕ → Data → Option Members
@@ -85,31 +85,31 @@ abbrev pub Has : List (List ℕ) → Data → List (List ℕ × Value) → Type 
 Has tickers d members = AllByRecursion (λ m. HasAt tickers d m.0 m.1) members
 
 -- an object has the members of an order, besides `do`
-abbrev pub HasOrder : List (List ℕ) → Data → Request → Type 0
-HasOrder tickers d request = Has tickers d (order_members request)
+abbrev pub HasOrderMembers : List (List ℕ) → Data → Request → Type 0
+HasOrderMembers tickers d request = Has tickers d (order_members request)
 
 -- an object has the members of a command, besides `do`, and no further keys
 abbrev pub Fits : List (List ℕ) → Data → Command → Type 0
 Fits tickers d command = Has tickers d (drop 1 (members_of command)) × HasKeys (length (members_of command)) d
 
 -- the command of a version that an object with this word at `do` asks for, or `None` if it asks for none
-abbrev pub IsFound : List ℕ → Version → List (List ℕ) → Data → Option owned.Command → Type 0
-IsFound word version tickers d (Some command) =
+abbrev pub FindsCommand : List ℕ → Version → List (List ℕ) → Data → Option owned.Command → Type 0
+FindsCommand word version tickers d (Some command) =
     (word_of (command_in command) ≡ word) × Fits tickers d (command_in command) × IsOfVersion version (command_in command) × HasShortRow (command_in command)
-IsFound word version tickers d None = (command : Command) → word_of command ≡ word → ¬ Fits tickers d command
+FindsCommand word version tickers d None = (command : Command) → word_of command ≡ word → ¬ Fits tickers d command
 
 -- the answer for an object that may ask for an order without a last batch
-abbrev pub IsOrder : List (List ℕ) → Data → Result owned.Command LineFault → Type 0
-IsOrder tickers d (Ok command) =
+abbrev pub AnswersOrder : List (List ℕ) → Data → Result owned.Command LineFault → Type 0
+AnswersOrder tickers d (Ok command) =
     (word_of (command_in command) ≡ codes "place") × Fits tickers d (command_in command) × IsOfVersion One (command_in command) × HasShortRow (command_in command)
-IsOrder tickers d (Err NoCommand) = (request : Request) → HasOrder tickers d request → ¬ HasKeys 7 d
-IsOrder tickers d (Err Memory) = Unit {0}
+AnswersOrder tickers d (Err NoCommand) = (request : Request) → HasOrderMembers tickers d request → ¬ HasKeys 7 d
+AnswersOrder tickers d (Err Memory) = Unit {0}
 
 -- the answer for an object that may ask for an order with a last batch
 abbrev pub IsUntil : List (List ℕ) → Data → Result owned.Command LineFault → Type 0
 IsUntil tickers d (Ok command) =
     (word_of (command_in command) ≡ codes "place") × Fits tickers d (command_in command) × IsOfVersion Two (command_in command) × HasShortRow (command_in command)
-IsUntil tickers d (Err NoCommand) = (last : ℕ) (request : Request) → HasAt tickers d (codes "last") (Small last) → HasOrder tickers d request → ¬ HasKeys 8 d
+IsUntil tickers d (Err NoCommand) = (last : ℕ) (request : Request) → HasAt tickers d (codes "last") (Small last) → HasOrderMembers tickers d request → ¬ HasKeys 8 d
 IsUntil tickers d (Err Memory) = Unit {0}
 
 -- the answer for an object that may ask for an order of a version
@@ -132,12 +132,12 @@ IsLaddered tickers d (Err NoCommand) = (l : Ladder) (account : ℕ) (row : List 
 IsLaddered tickers d (Err Memory) = Unit {0}
 
 -- the answer for an object in a version
-abbrev pub IsAsked : Version → List (List ℕ) → Data → Result LineRead LineFault → Type 0
-IsAsked version tickers d (Ok line_is.Blank) = ⊥
-IsAsked version tickers d (Ok (line_is.Asks command)) = AsksFor version tickers d (Alone (command_in command)) × HasShortRow (command_in command)
-IsAsked version tickers d (Ok (line_is.Many commands)) = AsksLadder tickers d (map command_in commands) × All (λ command. HasShortRow (command_in command)) commands
-IsAsked version tickers d (Err NoCommand) = (asked : Asked) → ¬ AsksFor version tickers d asked
-IsAsked version tickers d (Err Memory) = Unit {0}
+abbrev pub AnswersObject : Version → List (List ℕ) → Data → Result LineRead LineFault → Type 0
+AnswersObject version tickers d (Ok line_is.Blank) = ⊥
+AnswersObject version tickers d (Ok (line_is.Asks command)) = ObjectAsks version tickers d (Alone (command_in command)) × HasShortRow (command_in command)
+AnswersObject version tickers d (Ok (line_is.Many commands)) = AsksLadder tickers d (map command_in commands) × All (λ command. HasShortRow (command_in command)) commands
+AnswersObject version tickers d (Err NoCommand) = (asked : Asked) → ¬ ObjectAsks version tickers d asked
+AnswersObject version tickers d (Err Memory) = Unit {0}
 
 -- what was read asks for a command that may add a ticker: for one
 abbrev pub AddsSome : LineRead → Type 0

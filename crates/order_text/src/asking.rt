@@ -6,7 +6,7 @@ ghost use Rattle.weight_rows.specs.declared.entries.Entry.{Entry};
 ghost use Rattle.order_text.specs.Lines.{Weights, HasAt};
 ghost use Rattle.wire_records.specs.declared.version.Version.{Version as AnyVersion};
 ghost use Rattle.order_text.specs.declared.word.Word.TheVariants as words;
-ghost use Rattle.order_text.specs.Private.{IsFound, IsOrder, IsUntil, IsPlaced, IsWord, IsAsked, alone, HasMoney, HasUnits, HasLimits};
+ghost use Rattle.order_text.specs.Private.{FindsCommand, AnswersOrder, IsUntil, IsPlaced, IsWord, AnswersObject, alone, HasMoney, HasUnits, HasLimits};
 
 use crate::fields::{asset_at, has_keys, number_at, signed_at, small_at, ticker_at};
 use crate::ladder::ladder;
@@ -20,7 +20,7 @@ use weight_rows::EntryList;
 use wire_records::{Command, Version};
 
 fn add_asset(value: &Value) -> Option<Command>
-    ensures { (tickers : List (List ℕ)) → IsFound (codes "asset") Version.One tickers (view value.now) result }
+    ensures { (tickers : List (List ℕ)) → FindsCommand (codes "asset") Version.One tickers (view value.now) result }
 {
     let ticker = ticker_at(value, "ticker")?;
     if !has_keys(value, 2) {
@@ -30,7 +30,7 @@ fn add_asset(value: &Value) -> Option<Command>
 }
 
 fn open_account(value: &Value) -> Option<Command>
-    ensures { (tickers : List (List ℕ)) → IsFound (codes "account") Version.One tickers (view value.now) result }
+    ensures { (tickers : List (List ℕ)) → FindsCommand (codes "account") Version.One tickers (view value.now) result }
 {
     if !has_keys(value, 1) {
         return None;
@@ -66,7 +66,7 @@ fn units(tickers: &TickerTable, value: &Value) -> Option<(u32, u16, u64)>
 }
 
 fn deposit(tickers: &TickerTable, value: &Value) -> Option<Command>
-    ensures { IsFound (codes "deposit") Version.One tickers.now (view value.now) result }
+    ensures { FindsCommand (codes "deposit") Version.One tickers.now (view value.now) result }
 {
     if let Some((account, ticks)) = money(value) {
         return Some(Command::DepositMoney { account, ticks });
@@ -80,7 +80,7 @@ fn deposit(tickers: &TickerTable, value: &Value) -> Option<Command>
 }
 
 fn withdraw(tickers: &TickerTable, value: &Value) -> Option<Command>
-    ensures { IsFound (codes "withdraw") Version.One tickers.now (view value.now) result }
+    ensures { FindsCommand (codes "withdraw") Version.One tickers.now (view value.now) result }
 {
     if let Some((account, ticks)) = money(value) {
         return Some(Command::WithdrawMoney { account, ticks });
@@ -94,7 +94,7 @@ fn withdraw(tickers: &TickerTable, value: &Value) -> Option<Command>
 }
 
 fn cancel(value: &Value) -> Option<Command>
-    ensures { (tickers : List (List ℕ)) → IsFound (codes "cancel") Version.One tickers (view value.now) result }
+    ensures { (tickers : List (List ℕ)) → FindsCommand (codes "cancel") Version.One tickers (view value.now) result }
 {
     let account = small_at(value, "account")?;
     let order = number_at(value, "order")?;
@@ -105,7 +105,7 @@ fn cancel(value: &Value) -> Option<Command>
 }
 
 fn run_batch(value: &Value) -> Option<Command>
-    ensures { (tickers : List (List ℕ)) → IsFound (codes "batch") Version.One tickers (view value.now) result }
+    ensures { (tickers : List (List ℕ)) → FindsCommand (codes "batch") Version.One tickers (view value.now) result }
 {
     let budget = small_at(value, "budget")?;
     if !has_keys(value, 2) {
@@ -161,7 +161,7 @@ pub(crate) fn row_at(
 
 // Reads an order without a last batch.
 fn place_order(alloc: Global, tickers: &TickerTable, value: &Value) -> Result<Command, LineFault>
-    ensures { IsOrder tickers.now (view value.now) result }
+    ensures { AnswersOrder tickers.now (view value.now) result }
 {
     let Some(limits) = limits_of(value) else {
         return Err(LineFault::NoCommand);
@@ -223,7 +223,7 @@ fn place(
 }
 
 fn credit(tickers: &TickerTable, value: &Value) -> Option<Command>
-    ensures { IsFound (codes "credit") Version.Two tickers.now (view value.now) result }
+    ensures { FindsCommand (codes "credit") Version.Two tickers.now (view value.now) result }
 {
     if let Some((account, ticks)) = money(value) {
         return Some(Command::SetMoneyCredit { account, ticks });
@@ -248,7 +248,7 @@ fn found(command: Option<Command>) -> Result<LineRead, LineFault>
 
 fn credit_in(version: Version, tickers: &TickerTable, value: &Value) -> Result<LineRead, LineFault>
     requires { IsWord words.Credit (view value.now) }
-    ensures { IsAsked version tickers.now (view value.now) result }
+    ensures { AnswersObject version tickers.now (view value.now) result }
 {
     if !version.has_credit() {
         return Err(LineFault::NoCommand);
@@ -263,7 +263,7 @@ fn order_in(
     value: &Value,
 ) -> Result<LineRead, LineFault>
     requires { IsWord words.Place (view value.now) }
-    ensures { IsAsked version tickers.now (view value.now) result }
+    ensures { AnswersObject version tickers.now (view value.now) result }
 {
     Ok(LineRead::Asks(place(alloc, version, tickers, value)?))
 }
@@ -271,7 +271,7 @@ fn order_in(
 // Reads the orders of a ladder, which every version has.
 fn ladder_in(alloc: Global, tickers: &TickerTable, value: &Value) -> Result<LineRead, LineFault>
     requires { IsWord words.Ladder (view value.now) }
-    ensures { (version : AnyVersion) → IsAsked version tickers.now (view value.now) result }
+    ensures { (version : AnyVersion) → AnswersObject version tickers.now (view value.now) result }
 {
     Ok(LineRead::Many(ladder(alloc, tickers, value)?))
 }
@@ -285,7 +285,7 @@ fn asked_with(
     value: &Value,
 ) -> Result<LineRead, LineFault>
     requires { IsWord word (view value.now) }
-    ensures { IsAsked version tickers.now (view value.now) result }
+    ensures { AnswersObject version tickers.now (view value.now) result }
 {
     match word {
         Word::Asset => found(add_asset(value)),
@@ -307,7 +307,7 @@ pub(crate) fn asked_by(
     tickers: &TickerTable,
     value: &Value,
 ) -> Result<LineRead, LineFault>
-    ensures { IsAsked version tickers.now (view value.now) result }
+    ensures { AnswersObject version tickers.now (view value.now) result }
 {
     match word_at(value) {
         Some(word) => asked_with(alloc, version, word, tickers, value),

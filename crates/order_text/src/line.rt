@@ -5,7 +5,7 @@ ghost use Rattle.serde_json.specs.Read.{read};
 ghost use Rattle.ticker_table.specs.Tickers.{AreTickers};
 ghost use Rattle.order_text.specs.Lines.{IsBlank};
 ghost use Rattle.order_text.specs.Private.{AreWith, AddsSome, AreAfter};
-ghost use Rattle.order_text.specs.Answers.{IsAskedAs, IsRead, IsShort};
+ghost use Rattle.order_text.specs.Answers.{IsAskedAs, IsLineRead, IsShort};
 
 use crate::asking::asked_by;
 use curve_ladder::CommandList;
@@ -129,7 +129,7 @@ pub fn read_line(
     version: Version,
     tickers: &mut TickerTable,
 ) -> Result<LineRead, LineFault>
-    ensures read { IsRead version tickers.old line.now tickers.new result }
+    ensures read { IsLineRead version tickers.old line.now tickers.new result }
     ensures short { IfOk result IsShort }
 {
     let read = ask_line(alloc, line, version, tickers)?;

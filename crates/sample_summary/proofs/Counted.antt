@@ -15,7 +15,7 @@ use Rattle.journal_replay.specs.Audits.{cleared_by, skipped_by}
 use Rattle.sample_summary.specs.declared.counting.Counts.{Counts}
 use Rattle.sample_summary.specs.declared.sampling.Sampling.{Sampling}
 use Rattle.sample_summary.specs.Summary.{units_by}
-use Rattle.sample_summary.specs.Private.{IsCounted, CountsOne, HasRoom, IsReady, most_units}
+use Rattle.sample_summary.specs.Private.{CountsAnswer, AddsAnswer, CountsFit, IsReadyToSample, most_units}
 
 -- one more rate
 pub rate_more : (c : Clearing) (place units rate : ℕ) → place < length c.fills → rate ≡ get_or (map (λ (f : Fill). f.rate) c.fills) place 0 → units ≡ sum_by (λ (f : Fill). f.rate) (take place c.fills)
@@ -25,8 +25,8 @@ rate_more c place units rate within is before =
     omega (arith, is, before, get_or-map (λ (f : Fill). f.rate) c.fills place none 0 within, sum_by_more (λ (f : Fill). f.rate) c.fills place none within)
 
 -- a record encodes one answer, and so has one count
-pub counted_as : (r : Record) (a b : Answer Outcome) (counts : Counts) → EncodesAnswer r a → EncodesAnswer r b → IsCounted a counts → IsCounted b counts
-counted_as r a b counts first other counted = subst (λ (x : Answer Outcome). IsCounted x counts) (answer_unique a b first.fits other.fits (sym first.encoded ∙ other.encoded)) counted
+pub counted_as : (r : Record) (a b : Answer Outcome) (counts : Counts) → EncodesAnswer r a → EncodesAnswer r b → CountsAnswer a counts → CountsAnswer b counts
+counted_as r a b counts first other counted = subst (λ (x : Answer Outcome). CountsAnswer x counts) (answer_unique a b first.fits other.fits (sym first.encoded ∙ other.encoded)) counted
 
 -- an answer counts once at most
 pub one_at_most : (a : Answer Outcome) → (cleared_by a ≤ 1) × (skipped_by a ≤ 1)
@@ -52,14 +52,14 @@ pub units_few : (pair : Pair Record Outcome) → IsPair pair → units_by pair.a
 units_few pair fits = by_answer pair.asked pair.answer fits
 
 -- the counts stay within their width for an entry
-pub has_room : (counts more : Counts) (pair : Pair Record Outcome) → HasRoom counts 5 → IsPair pair → IsCounted pair.answer more
+pub has_room : (counts more : Counts) (pair : Pair Record Outcome) → CountsFit counts 5 → IsPair pair → CountsAnswer pair.answer more
     → (counts.cleared + more.cleared < 2 ^ 64) × (counts.skipped + more.skipped < 2 ^ 64) × (counts.units + more.units < 2 ^ 64)
 has_room counts more pair room fits counted =
     let one = one_at_most pair.answer in
     (omega (arith, room.cleared, counted.cleared, one.0), omega (arith, room.skipped, counted.skipped, one.1), omega (arith, room.units, counted.units, units_few pair fits))
 
 -- after an entry the counts stay within their width for fewer bytes
-pub room_more : (old new : Counts) (pair : Pair Record Outcome) (left taken : ℕ) → HasRoom old left → CountsOne pair.answer old new → IsPair pair → taken ≤ left → 5 ≤ taken → HasRoom new (left - taken)
+pub room_more : (old new : Counts) (pair : Pair Record Outcome) (left taken : ℕ) → CountsFit old left → AddsAnswer pair.answer old new → IsPair pair → taken ≤ left → 5 ≤ taken → CountsFit new (left - taken)
 room_more old new pair left taken room counts fits within some =
     let one = one_at_most pair.answer in
     record {
@@ -69,7 +69,7 @@ room_more old new pair left taken room counts fits within some =
     }
 
 -- counts that stay within their width for some bytes do for fewer bytes
-pub room_fewer : (counts : Counts) (left fewer : ℕ) → HasRoom counts left → fewer ≤ left → HasRoom counts fewer
+pub room_fewer : (counts : Counts) (left fewer : ℕ) → CountsFit counts left → fewer ≤ left → CountsFit counts fewer
 room_fewer counts left fewer room less = record {
   cleared = omega (arith, room.cleared, less);
   skipped = omega (arith, room.skipped, less);
@@ -77,5 +77,5 @@ room_fewer counts left fewer room less = record {
 }
 
 -- a state that is ready for some bytes is ready for fewer bytes
-pub ready_fewer : (s : Sampling) (left fewer : ℕ) → IsReady s left → fewer ≤ left → IsReady s fewer
+pub ready_fewer : (s : Sampling) (left fewer : ℕ) → IsReadyToSample s left → fewer ≤ left → IsReadyToSample s fewer
 ready_fewer s left fewer ready less = record { same = ready.same; next = omega (arith, ready.next, less); counts = room_fewer s.counts left fewer ready.counts less }

@@ -32,12 +32,12 @@ use Rattle.exchange_session.proofs.RunLaws.{run_version, run_is_kept}
 use Rattle.sample_market.specs.Files.{sample, encode_commands, sample_file}
 use Rattle.sample_market.proofs.LawProofs.{samples_are_read}
 use Rattle.sample_summary.specs.declared.counting.Counts.{Counts}
-use Rattle.sample_summary.specs.Summary.{units_by, units_in, summary_line, Summarizes}
-use Rattle.sample_summary.specs.Private.{State, TakesOne}
+use Rattle.sample_summary.specs.Summary.{units_by, units_traded_in, summary_line, Summarizes}
+use Rattle.sample_summary.specs.Private.{State, SamplesOne}
 
 -- what a step is
 abbrev pub Takes : {O : Type 0} → State → Record → State → O → O → Type 0
-Takes old asked new before after = TakesOne old asked new
+Takes old asked new before after = SamplesOne old asked new
 
 -- Records were answered, and their entries are valid and counted.
 pub record HasSampled (old new : State) (records : List Record) : Type 0 where
@@ -48,7 +48,7 @@ pub record HasSampled (old new : State) (records : List Record) : Type 0 where
   pub goes : Goes run old.market records new.market text
   pub cleared : new.counts.cleared ≡ old.counts.cleared + cleared_in pairs
   pub skipped : new.counts.skipped ≡ old.counts.skipped + skipped_in pairs
-  pub units : new.counts.units ≡ old.counts.units + units_in pairs
+  pub units : new.counts.units ≡ old.counts.units + units_traded_in pairs
 
 has_sampled : {O : Type 0} (old new : State) (before after : O) (records : List Record) → Leads commands Takes old before records new after → HasSampled old new records
 has_sampled old new before after [] leads = record {
@@ -112,7 +112,7 @@ module _ (number orders : ℕ) where
       let none : old.counts ≡ record { cleared = 0; skipped = 0; units = 0 } = ap (λ (s : State). s.counts) begins in
       let cleared : new.counts.cleared ≡ cleared_in writes.pairs = omega (arith, sampled.cleared, ap (λ (c : Counts). c.cleared) none, ap cleared_in one) in
       let skipped : new.counts.skipped ≡ skipped_in writes.pairs = omega (arith, sampled.skipped, ap (λ (c : Counts). c.skipped) none, ap skipped_in one) in
-      let units : new.counts.units ≡ units_in writes.pairs = omega (arith, sampled.units, ap (λ (c : Counts). c.units) none, ap units_in one) in
+      let units : new.counts.units ≡ units_traded_in writes.pairs = omega (arith, sampled.units, ap (λ (c : Counts). c.units) none, ap units_traded_in one) in
       record {
         market = market;
         journal = journal_magic_of One ++ sampled.text;

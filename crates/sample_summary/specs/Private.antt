@@ -19,13 +19,13 @@ abbrev pub units_traded : Clearing → ℕ
 units_traded c = sum_by (λ f. f.rate) c.fills
 
 -- what an answer counts: batches that cleared and that were skipped, and units
-pub record IsCounted (answer : Answer Outcome) (counts : Counts) : Type 0 where
+pub record CountsAnswer (answer : Answer Outcome) (counts : Counts) : Type 0 where
   pub cleared : counts.cleared ≡ cleared_by answer
   pub skipped : counts.skipped ≡ skipped_by answer
   pub units : counts.units ≡ units_by answer
 
 -- the new counts are the old ones and those of this answer
-pub record CountsOne (answer : Answer Outcome) (old new : Counts) : Type 0 where
+pub record AddsAnswer (answer : Answer Outcome) (old new : Counts) : Type 0 where
   pub cleared : new.cleared ≡ old.cleared + cleared_by answer
   pub skipped : new.skipped ≡ old.skipped + skipped_by answer
   pub units : new.units ≡ old.units + units_by answer
@@ -36,7 +36,7 @@ abbrev pub most_units : ℕ
 most_units = 4369 * 2 ^ 32
 
 -- the counts stay below 2^64 while so many bytes of records are left
-pub record HasRoom (counts : Counts) (left : ℕ) : Type 0 where
+pub record CountsFit (counts : Counts) (left : ℕ) : Type 0 where
   pub cleared : counts.cleared + left < 2 ^ 64
   pub skipped : counts.skipped + left < 2 ^ 64
   pub units : counts.units + left * most_units < 2 ^ 64
@@ -59,14 +59,14 @@ abbrev pub state_of : Sampling → State
 state_of s = record { market = s.session; counts = s.counts }
 
 -- A record is answered by the canonical rule, and its entry is valid and counted.
-pub record TakesOne (old : State) (asked : Record) (new : State) : Type 0 where
+pub record SamplesOne (old : State) (asked : Record) (new : State) : Type 0 where
   pub text : List ℕ
   pub answers : AnswersOne old.market asked new.market text
   pub fits : IsPair (record { asked = asked; answer = answers.answer })
-  pub counts : CountsOne answers.answer old.counts new.counts
+  pub counts : AddsAnswer answers.answer old.counts new.counts
 
 -- records can be taken while so many bytes are left: audit and session are at one market
-pub record IsReady (s : Sampling) (left : ℕ) : Type 0 where
+pub record IsReadyToSample (s : Sampling) (left : ℕ) : Type 0 where
   pub same : s.audit ≡ s.session
   pub next : HasNumbers s.session left
-  pub counts : HasRoom s.counts left
+  pub counts : CountsFit s.counts left

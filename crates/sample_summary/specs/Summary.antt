@@ -19,8 +19,8 @@ units_by (Batch number (Cleared c)) = sum_by (λ f. f.rate) c.fills
 units_by (Batch number (Skipped s)) = 0
 
 -- the sum of all published rates
-abbrev pub units_in : List (Pair Record Outcome) → ℕ
-units_in pairs = sum_by (λ pair. units_by pair.answer) pairs
+abbrev pub units_traded_in : List (Pair Record Outcome) → ℕ
+units_traded_in pairs = sum_by (λ pair. units_by pair.answer) pairs
 
 -- the line on a sample of so many orders
 abbrev pub summary_line : (orders cleared skipped units : ℕ) → List ℕ
@@ -35,4 +35,4 @@ pub record Summarizes (number orders : ℕ) (line : List ℕ) : Type 0 where
   pub journal : List ℕ
   pub writes : Journals One (map record_of (sample number orders)) market journal
   pub legal : IsLegalJournal One writes.pairs market
-  pub told : line ≡ summary_line orders (cleared_in writes.pairs) (skipped_in writes.pairs) (units_in writes.pairs)
+  pub told : line ≡ summary_line orders (cleared_in writes.pairs) (skipped_in writes.pairs) (units_traded_in writes.pairs)

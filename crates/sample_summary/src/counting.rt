@@ -4,7 +4,7 @@ ghost use Rattle.wire_records.specs.Commands.{Answer};
 ghost use Rattle.flow_orders.specs.Outcomes.{Outcome};
 ghost use Rattle.batch_outcome.specs.Parts.{rates_in};
 ghost use Rattle.journal_records.specs.Replies.{EncodesAnswer};
-ghost use Rattle.sample_summary.specs.Private.{units_traded, IsCounted, CountsOne, HasRoom};
+ghost use Rattle.sample_summary.specs.Private.{units_traded, CountsAnswer, AddsAnswer, CountsFit};
 
 use batch_outcome::ClearedParts;
 use journal_records::{ClearedView, PairView, ReplyView, reply};
@@ -38,7 +38,7 @@ fn units_of(cleared: &ClearedView<'_>) -> u64
 
 /// Returns what the answer of an entry counts.
 pub(crate) fn counts_of(pair: &PairView<'_>) -> Counts
-    ensures { (answer : Answer Outcome) → EncodesAnswer pair.now.1 answer → IsCounted answer result }
+    ensures { (answer : Answer Outcome) → EncodesAnswer pair.now.1 answer → CountsAnswer answer result }
 {
     let none = Counts {
         cleared: 0,

@@ -6,7 +6,7 @@ ghost use Rattle.flow_orders.specs.Orders.{most_orders};
 ghost use Rattle.market_rules.specs.Market.{Market};
 ghost use Rattle.batch_audit.specs.Legal.{IsLegalPair};
 ghost use Rattle.sample_summary.specs.Summary.{Summarizes};
-ghost use Rattle.sample_summary.specs.Private.{State, IsWritten, CountsOne, HasRoom, TakesOne, IsReady};
+ghost use Rattle.sample_summary.specs.Private.{State, IsWritten, AddsAnswer, CountsFit, SamplesOne, IsReadyToSample};
 
 use crate::counting::{Counts, counts_of};
 use crate::line::line_of;
@@ -57,9 +57,9 @@ fn add(counts: &mut Counts, more: Counts)
 fn take_pair(audit: &mut Audit, bytes: &[u8], counts: &mut Counts) -> Result<(), Memory>
     requires written { IsWritten audit.old bytes.now }
     requires next { audit.old.next_order + 1 < 2 ^ 64 }
-    requires room { HasRoom counts.old 5 }
+    requires room { CountsFit counts.old 5 }
     ensures taken { OnOk result ((written : IsWritten audit.old bytes.now)
-        → (audit.new ≡ written.new) × CountsOne written.pair.answer counts.old counts.new) }
+        → (audit.new ≡ written.new) × AddsAnswer written.pair.answer counts.old counts.new) }
 {
     match next_pair(bytes) {
         PairFramed::Whole(pair, _) => {
@@ -79,7 +79,7 @@ impl Sampling {
 
     // Makes the state before the first record. The longest file has 928,788 bytes.
     fn new(alloc: Global) -> Sampling
-        ensures ready { IsReady result 928788 }
+        ensures ready { IsReadyToSample result 928788 }
         ensures none { state_of result
             ≡ record { market = empty_market One; counts = record { cleared = 0; skipped = 0; units = 0 } } }
     {
@@ -109,11 +109,11 @@ impl TakesUnits<()> for Sampling {
 
     ghost state = { state_of };
 
-    ghost steps = { λ old asked new before after. TakesOne old asked new };
+    ghost steps = { λ old asked new before after. SamplesOne old asked new };
 
     ghost breaks = { λ old asked fault before after. Unit {0} };
 
-    ghost is_ready = { λ s left. IsReady s left };
+    ghost is_ready = { λ s left. IsReadyToSample s left };
 
     fn take(&mut self, bytes: &[u8], _out: &mut ()) -> Result<Prefix, Memory> {
         // Called for its contract: the audit's market is consistent.

@@ -18,11 +18,11 @@ use Rattle.session_resume.specs.Firsts.{Illegal, Whole, IsFirst}
 use Rattle.session_resume.specs.Rests.{Cut, Nothing, Commands, Other, IsRest, ServesAll, IsNoFile}
 use Rattle.session_resume.specs.Resuming.{FirstComesTo, Resumes, ResumesFirst, ResumesInto, ResumesShort}
 use Rattle.wire_records.proofs.RecordCode.{eight}
-use Rattle.session_resume.specs.Private.{Ends, WritesFirst, WritesInto, WritesShort, IntoAfter, ShortAfter}
+use Rattle.session_resume.specs.Private.{EndsResuming, WritesFirst, WritesInto, WritesShort, IntoAfter, ShortAfter}
 
 -- what follows from results, from first records and from running out of memory follows from what was written
 module _ (Comes ComesTo : Ended Unfit → List ℕ → Type 0) (Into IntoThat Short ShortThat : List ℕ → Type 0) (to : (ended : Ended Unfit) (text : List ℕ) → Comes ended text → ComesTo ended text) (into : (text : List ℕ) → Into text → IntoThat text) (short : (text : List ℕ) → Short text → ShortThat text) where
-  pub ends_map : (ended : Ended Unfit) (before after : Option (List ℕ)) → Ends Comes Into Short ended before after → Ends ComesTo IntoThat ShortThat ended before after
+  pub ends_map : (ended : Ended Unfit) (before after : Option (List ℕ)) → EndsResuming Comes Into Short ended before after → EndsResuming ComesTo IntoThat ShortThat ended before after
   ends_map (Ok done) before after ends = (ends.0, to (Ok tt) ends.0 ends.1, ends.2)
   ends_map (Err NotFlow) before after ends = (ends.0, to (Err NotFlow) ends.0 ends.1, ends.2)
   ends_map (Err (Torn place)) before after ends = (ends.0, to (Err (Torn place)) ends.0 ends.1, ends.2)
@@ -34,7 +34,7 @@ module _ (Comes ComesTo : Ended Unfit → List ℕ → Type 0) (Into IntoThat Sh
   ends_map (Err Read) before after ends = ends
 
 -- nothing was written, since memory ran out
-pub ends_out : (Comes : Ended Unfit → List ℕ → Type 0) (Into Short : List ℕ → Type 0) (held : Option (List ℕ)) → Ends Comes Into Short (Err Memory) held held
+pub ends_out : (Comes : Ended Unfit → List ℕ → Type 0) (Into Short : List ℕ → Type 0) (held : Option (List ℕ)) → EndsResuming Comes Into Short (Err Memory) held held
 ends_out Comes Into Short held = ([], inl refl, Grows-nothing held)
 
 module _ (origin : Origin) (market : Market) (More : Type 0) (place : ℕ) (rest : List ℕ) where
@@ -42,7 +42,7 @@ module _ (origin : Origin) (market : Market) (More : Type 0) (place : ℕ) (rest
   ComesAfter = FirstComesTo More (Whole origin market place rest)
 
   abbrev pub EndsAfter : Ended Unfit → Option (List ℕ) → Option (List ℕ) → Type 0
-  EndsAfter = Ends ComesAfter (IntoAfter market rest) (ShortAfter market rest)
+  EndsAfter = EndsResuming ComesAfter (IntoAfter market rest) (ShortAfter market rest)
 
   pub is_cut : length rest < 8 → More → (held : Option (List ℕ)) → EndsAfter (Err TooLong) held held
   is_cut few more held = ([], (Cut, (few, more), (refl, refl)), Grows-nothing held)
@@ -50,7 +50,7 @@ module _ (origin : Origin) (market : Market) (More : Type 0) (place : ℕ) (rest
   pub is_nothing : rest ≡ [] → ¬ More → (held : Option (List ℕ)) → EndsAfter (Ok tt) held held
   is_nothing none no_more held = ([], (Nothing, (none, no_more), (refl, refl)), Grows-nothing held)
 
-  pub is_commands : (body : List ℕ) → rest ≡ command_magic_of market.version ++ body → (ended : Ended Unfit) (before after : Option (List ℕ)) → Ends (ServesAll market More (place + 8) body) (WritesInto market body) (WritesShort market body) ended before after → EndsAfter ended before after
+  pub is_commands : (body : List ℕ) → rest ≡ command_magic_of market.version ++ body → (ended : Ended Unfit) (before after : Option (List ℕ)) → EndsResuming (ServesAll market More (place + 8) body) (WritesInto market body) (WritesShort market body) ended before after → EndsAfter ended before after
   is_commands body magic ended before after ends =
       ends_map (ServesAll market More (place + 8) body) ComesAfter (WritesInto market body) (IntoAfter market rest) (WritesShort market body) (ShortAfter market rest)
       (λ other text serves. (Commands body, magic, serves)) (λ text into. (body, magic, into)) (λ text short. (body, magic, short)) ended before after ends

@@ -24,7 +24,7 @@ use Rattle.batch_audit.specs.Legal.{IsLegalJournal}
 use Rattle.journal_replay.specs.Audits.{AuditsOn}
 use Rattle.journal_records.proofs.Files.{eight}
 use Rattle.journal_replay.proofs.Replayed.{after_magic}
-use Rattle.session_resume.specs.Firsts.{BeginsLegal, BeginsIllegal}
+use Rattle.session_resume.specs.Firsts.{BeginsWithJournal, BeginsIllegal}
 
 -- the entries of a journal are encoded as their records are
 file_in : (version : Version) (pairs : List (Pair Record Outcome)) → journal_in version pairs ≡ journal_magic_of version ++ encode_all journals.units (map records_of pairs)
@@ -49,7 +49,7 @@ module _ (version : Version) (bytes : List ℕ) (begins : (body : List ℕ) × B
     pub place_is : length (journal_in version legal) ≡ 8 + length (encode_all journals.units on.units)
     place_is = omega (arith, ap length (file_in version legal), length-append (journal_magic_of version) (encode_all journals.units (map records_of legal)), eight version, ap (λ us. length (encode_all journals.units us)) units_are)
 
-    pub legal_first : (place : ℕ) → place ≡ length (journal_in version legal) → BeginsLegal bytes market place (drop place bytes)
+    pub legal_first : (place : ℕ) → place ≡ length (journal_in version legal) → BeginsWithJournal bytes market place (drop place bytes)
     legal_first place at =
         let following : drop place bytes ≡ rest = ap (drop place) whole ∙ drop_at (journal_in version legal) rest place (sym at) in
         record {

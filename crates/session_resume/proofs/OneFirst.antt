@@ -20,7 +20,7 @@ use Rattle.market_snapshot.proofs.OneMarket.{one_market}
 use Rattle.batch_audit.specs.Legal.{IsLegalJournal, AreJudged}
 use Rattle.batch_audit.proofs.LawProofs.{one_judgement}
 use Rattle.session_resume.specs.declared.first.Origin.TheVariants.{Journal, Checkpoint}
-use Rattle.session_resume.specs.Firsts.{First, Neither, NoCheckpoint, Illegal, Whole, BeginsLegal, BeginsIllegal, BeginsKept, IsFirst}
+use Rattle.session_resume.specs.Firsts.{First, Neither, NoCheckpoint, Illegal, Whole, BeginsWithJournal, BeginsIllegal, BeginsWithCheckpoint, IsFirst}
 use Rattle.session_resume.specs.Rests.{Rest, Cut, Nothing, Commands, Other, IsRest}
 
 -- ---- a journal
@@ -51,7 +51,7 @@ after_records : (version : Version) (pairs : List (Pair Record Outcome)) (bytes 
 after_records version pairs bytes left whole =
     whole ∙ ap (λ xs. xs ++ left) (journal_is_file.file version pairs) ∙ append_assoc (journal_magic_of version) (encode_all journals.units (map records_of pairs)) left
 
-of_legal : (bytes : List ℕ) (market : Market) (place : ℕ) (rest : List ℕ) (first : BeginsLegal bytes market place rest) → Judged bytes first.version first.pairs [] market rest
+of_legal : (bytes : List ℕ) (market : Market) (place : ℕ) (rest : List ℕ) (first : BeginsWithJournal bytes market place rest) → Judged bytes first.version first.pairs [] market rest
 of_legal bytes market place rest first = record {
   units = map records_of first.pairs;
   begins = after_records first.version first.pairs bytes rest first.whole;
@@ -93,7 +93,7 @@ of_illegal bytes number first =
 abbrev HasJournalMagic : List ℕ → Type 0
 HasJournalMagic bytes = (version : Version) × (body : List ℕ) × (bytes ≡ journal_magic_of version ++ body)
 
-legal_magic : (bytes : List ℕ) (market : Market) (place : ℕ) (rest : List ℕ) → BeginsLegal bytes market place rest → HasJournalMagic bytes
+legal_magic : (bytes : List ℕ) (market : Market) (place : ℕ) (rest : List ℕ) → BeginsWithJournal bytes market place rest → HasJournalMagic bytes
 legal_magic bytes market place rest first = (first.version, encode_all journals.units (map records_of first.pairs) ++ rest, after_records first.version first.pairs bytes rest first.whole)
 
 illegal_magic : (bytes : List ℕ) (number : ℕ) → BeginsIllegal bytes number → HasJournalMagic bytes
@@ -106,7 +106,7 @@ made_magic : (market : Market) → (rest : List ℕ) × (checkpoint_bytes market
 unfolding checkpoint_bytes
 made_magic market = (_, refl)
 
-pub kept_magic : (bytes : List ℕ) (market : Market) (place : ℕ) (rest : List ℕ) → BeginsKept bytes market place rest → HasCheckpointMagic bytes
+pub kept_magic : (bytes : List ℕ) (market : Market) (place : ℕ) (rest : List ℕ) → BeginsWithCheckpoint bytes market place rest → HasCheckpointMagic bytes
 kept_magic bytes market place rest first =
     let made = made_magic market in
     (made.0 ++ rest, first.whole ∙ ap (λ xs. xs ++ rest) (first.is_one.encoded ∙ made.1) ∙ append_assoc checkpoint_magic made.0 rest)
@@ -123,13 +123,13 @@ other_magics bytes (version, body, journal) (rest, checkpoint) =
 -- ---- what bytes begin with
 
 module _ (bytes : List ℕ) where
-  one_legal : (m n : Market) (p q : ℕ) (r s : List ℕ) → BeginsLegal bytes m p r → BeginsLegal bytes n q s → Whole Journal m p r ≡ Whole Journal n q s
+  one_legal : (m n : Market) (p q : ℕ) (r s : List ℕ) → BeginsWithJournal bytes m p r → BeginsWithJournal bytes n q s → Whole Journal m p r ≡ Whole Journal n q s
   one_legal m n p q r s a b =
       let one = one_judged bytes a.version b.version a.pairs b.pairs [] [] m n r s (of_legal bytes m p r a) (of_legal bytes n q s b) in
       let places : p ≡ q = a.ends ∙ ap (λ (v : Version). length (journal_in v a.pairs)) one.0 ∙ ap (λ (ps : List (Pair Record Outcome)). length (journal_in b.version ps)) one.1 ∙ sym b.ends in
       ap (λ (k : Market). Whole Journal k p r) one.3 ∙ ap (λ k. Whole Journal n k r) places ∙ ap (λ k. Whole Journal n q k) one.4
 
-  legal_or_not : (m : Market) (p number : ℕ) (r : List ℕ) → BeginsLegal bytes m p r → BeginsIllegal bytes number → ⊥
+  legal_or_not : (m : Market) (p number : ℕ) (r : List ℕ) → BeginsWithJournal bytes m p r → BeginsIllegal bytes number → ⊥
   legal_or_not m p number r a b =
       let has = of_illegal bytes number b in
       let none : ◌≡◌ {A = List (Record × Record)} [] (b.bad ∷ has.more) = (one_judged bytes a.version b.version a.pairs b.pairs [] (b.bad ∷ has.more) m b.market r has.rest (of_legal bytes m p r a) has.judged).2 in
@@ -142,7 +142,7 @@ module _ (bytes : List ℕ) where
       let one = one_judged bytes a.version b.version a.pairs b.pairs (a.bad ∷ first.more) (b.bad ∷ other.more) a.market b.market first.rest other.rest first.judged other.judged in
       ap (λ (k : ℕ). Illegal k) (a.counted ∙ ap (λ (ps : List (Pair Record Outcome)). length ps + 1) one.1 ∙ sym b.counted)
 
-  one_kept : (m n : Market) (p q : ℕ) (r s : List ℕ) → BeginsKept bytes m p r → BeginsKept bytes n q s → Whole Checkpoint m p r ≡ Whole Checkpoint n q s
+  one_kept : (m n : Market) (p q : ℕ) (r s : List ℕ) → BeginsWithCheckpoint bytes m p r → BeginsWithCheckpoint bytes n q s → Whole Checkpoint m p r ≡ Whole Checkpoint n q s
   one_kept m n p q r s a b =
       let one = one_market m n a.checkpoint b.checkpoint r s a.is_one b.is_one (sym a.whole ∙ b.whole) in
       let places : p ≡ q = omega (arith, a.ends, b.ends, ap length a.whole, ap length b.whole, ap length one.1, length-append a.checkpoint r, length-append b.checkpoint s) in

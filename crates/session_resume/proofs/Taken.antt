@@ -24,7 +24,7 @@ use Rattle.session_resume.specs.Firsts.{First, Neither, NoCheckpoint, Illegal, W
 use Rattle.session_resume.specs.Rests.{Rest, Cut, Nothing, Commands, Other, IsRest, ServesAll, IsNoFile, RestComesTo, ended_by}
 use Rattle.session_resume.specs.Resuming.{EndsUnsound, FirstComesTo, Resumes, ResumesInto, ResumesShort}
 use Rattle.session_resume.specs.Tasks.{resuming}
-use Rattle.session_resume.specs.Private.{Ends}
+use Rattle.session_resume.specs.Private.{EndsResuming}
 use Rattle.session_resume.proofs.OneResumption.{one_end_of}
 
 -- ---- the result for bytes depends only on whether the input has more
@@ -106,7 +106,7 @@ module _ (More : Type 0) where
 -- ---- over the known content of a source
 
 abbrev EndsAll : WholeInput → Ended Unfit → Option (List ℕ) → Option (List ℕ) → Type 0
-EndsAll input = Ends (Resumes (IsTrue input.more) input.bytes.items) (ResumesInto input.bytes.items) (ResumesShort input.bytes.items)
+EndsAll input = EndsResuming (Resumes (IsTrue input.more) input.bytes.items) (ResumesInto input.bytes.items) (ResumesShort input.bytes.items)
 
 module _ (limit : ℕ) (left : List ℕ) (after : Option (List ℕ)) (input : WholeInput) (whole : IsWholeInput limit left input) where
   determines : (ended : Ended Unfit) (text : List ℕ) (before now : Option (List ℕ)) → Resumes (IsTrue input.more) input.bytes.items ended text → Grows before now text → Determines resuming limit left ended before now
@@ -141,10 +141,10 @@ left_told (Some left) after limit input (Ok done) before now whole taken ends =
 left_told told after limit input (Err why) before now whole taken ends = tt
 
 -- a resumption doesn't read the source
-pub no_read : (Comes : Ended Unfit → List ℕ → Type 0) (Into Short : List ℕ → Type 0) (ended : Ended Unfit) (before now : Option (List ℕ)) → Ends Comes Into Short ended before now → ended ≡ Err fault.Read → ⊥
-no_read Comes Into Short ended before now ends e = subst (λ (z : Ended Unfit). Ends Comes Into Short z before now) e ends
+pub no_read : (Comes : Ended Unfit → List ℕ → Type 0) (Into Short : List ℕ → Type 0) (ended : Ended Unfit) (before now : Option (List ℕ)) → EndsResuming Comes Into Short ended before now → ended ≡ Err fault.Read → ⊥
+no_read Comes Into Short ended before now ends e = subst (λ (z : Ended Unfit). EndsResuming Comes Into Short z before now) e ends
 
-pub read_quietly : (Comes : Ended Unfit → List ℕ → Type 0) (Into Short : List ℕ → Type 0) (ended : Ended Unfit) (before now : Option (List ℕ)) → Ends Comes Into Short ended before now → (faults later : ℕ) → later ≡ faults → Blames (ended ≡ Err fault.Read) faults later
+pub read_quietly : (Comes : Ended Unfit → List ℕ → Type 0) (Into Short : List ℕ → Type 0) (ended : Ended Unfit) (before now : Option (List ℕ)) → EndsResuming Comes Into Short ended before now → (faults later : ℕ) → later ≡ faults → Blames (ended ≡ Err fault.Read) faults later
 read_quietly Comes Into Short ended before now ends faults later same = record {
   later = omega (arith, same);
   rose = λ e. absurd (no_read Comes Into Short ended before now ends e);

@@ -24,7 +24,7 @@ pub data First : Type 0 where
   Whole : Origin → Market → ℕ → List ℕ → First
 
 -- The bytes are a valid journal, which leads to this market, and after it from this place on a rest that begins with no complete entry.
-pub record BeginsLegal (bytes : List ℕ) (market : Market) (place : ℕ) (rest : List ℕ) : Type 0 where
+pub record BeginsWithJournal (bytes : List ℕ) (market : Market) (place : ℕ) (rest : List ℕ) : Type 0 where
   pub version : Version
   pub pairs : List (Pair Record Outcome)
   pub legal : IsLegalJournal version pairs market
@@ -47,7 +47,7 @@ pub record BeginsIllegal (bytes : List ℕ) (number : ℕ) : Type 0 where
   pub counted : number ≡ length pairs + 1
 
 -- The bytes are a checkpoint of this market, and after it from this place on a rest.
-pub record BeginsKept (bytes : List ℕ) (market : Market) (place : ℕ) (rest : List ℕ) : Type 0 where
+pub record BeginsWithCheckpoint (bytes : List ℕ) (market : Market) (place : ℕ) (rest : List ℕ) : Type 0 where
   pub checkpoint : List ℕ
   pub is_one : IsCheckpoint market checkpoint
   pub whole : bytes ≡ checkpoint ++ rest
@@ -58,5 +58,5 @@ abbrev pub IsFirst : List ℕ → First → Type 0
 IsFirst bytes Neither = BeginsWithNone journals.magics bytes × (¬ HasCheckpointMagic bytes)
 IsFirst bytes NoCheckpoint = HasCheckpointMagic bytes × BeginsWithNoCheckpoint bytes
 IsFirst bytes (Illegal number) = BeginsIllegal bytes number
-IsFirst bytes (Whole Journal market place rest) = BeginsLegal bytes market place rest
-IsFirst bytes (Whole Checkpoint market place rest) = BeginsKept bytes market place rest
+IsFirst bytes (Whole Journal market place rest) = BeginsWithJournal bytes market place rest
+IsFirst bytes (Whole Checkpoint market place rest) = BeginsWithCheckpoint bytes market place rest

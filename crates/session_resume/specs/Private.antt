@@ -54,12 +54,12 @@ ShortAfter market rest text = (body : List ℕ) × (rest ≡ command_magic_of ma
 -- What was written, by the result: the text of that result; of a failed write a prefix of the text for some first
 -- records; and nothing, or the text before a record that may allocate, if memory ran out.
 module _ (Comes : Ended Unfit → List ℕ → Type 0) (Into Short : List ℕ → Type 0) where
-  abbrev pub Ends : Ended Unfit → Option (List ℕ) → Option (List ℕ) → Type 0
-  Ends (Ok done) before after = (text : List ℕ) × Comes (Ok tt) text × Grows before after text
-  Ends (Err NotFlow) before after = (text : List ℕ) × Comes (Err NotFlow) text × Grows before after text
-  Ends (Err (Torn place)) before after = (text : List ℕ) × Comes (Err (Torn place)) text × Grows before after text
-  Ends (Err TooLong) before after = (text : List ℕ) × Comes (Err TooLong) text × Grows before after text
-  Ends (Err (Stopped why)) before after = (text : List ℕ) × Comes (Err (Stopped why)) text × Grows before after text
-  Ends (Err Write) before after = (text : List ℕ) × Into text × GrowsByPrefix before after text
-  Ends (Err Memory) before after = (text : List ℕ) × ((text ≡ []) ⊎ Short text) × Grows before after text
-  Ends (Err Read) before after = ⊥
+  abbrev pub EndsResuming : Ended Unfit → Option (List ℕ) → Option (List ℕ) → Type 0
+  EndsResuming (Ok done) before after = (text : List ℕ) × Comes (Ok tt) text × Grows before after text
+  EndsResuming (Err NotFlow) before after = (text : List ℕ) × Comes (Err NotFlow) text × Grows before after text
+  EndsResuming (Err (Torn place)) before after = (text : List ℕ) × Comes (Err (Torn place)) text × Grows before after text
+  EndsResuming (Err TooLong) before after = (text : List ℕ) × Comes (Err TooLong) text × Grows before after text
+  EndsResuming (Err (Stopped why)) before after = (text : List ℕ) × Comes (Err (Stopped why)) text × Grows before after text
+  EndsResuming (Err Write) before after = (text : List ℕ) × Into text × GrowsByPrefix before after text
+  EndsResuming (Err Memory) before after = (text : List ℕ) × ((text ≡ []) ⊎ Short text) × Grows before after text
+  EndsResuming (Err Read) before after = ⊥

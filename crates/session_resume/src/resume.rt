@@ -8,7 +8,7 @@ ghost use Rattle.session_resume.specs.Firsts.{Whole};
 ghost use Rattle.session_resume.specs.Rests.{ServesAll, IsNoFile};
 ghost use Rattle.session_resume.specs.Resuming.{FirstComesTo, Resumes, ResumesInto, ResumesShort};
 ghost use Rattle.session_resume.specs.Tasks.{resuming};
-ghost use Rattle.session_resume.specs.Private.{Ends, WritesInto, WritesShort, IntoAfter, ShortAfter};
+ghost use Rattle.session_resume.specs.Private.{EndsResuming, WritesInto, WritesShort, IntoAfter, ShortAfter};
 
 use crate::first::{FirstFault, FirstPart, Origin, Unfit, first_part};
 use exchange_session::{Run, Session};
@@ -29,7 +29,7 @@ fn serve_all<K: Sink>(
 ) -> Result<(), Fault<Unfit>>
     requires inside { place ≤ length bytes.now }
     requires numbers { session.next_order < 2 ^ 63 }
-    ensures ends { Ends (ServesAll session (IsTrue more) place (drop place bytes.now)) (WritesInto session (drop place bytes.now))
+    ensures ends { EndsResuming (ServesAll session (IsTrue more) place (drop place bytes.now)) (WritesInto session (drop place bytes.now))
         (WritesShort session (drop place bytes.now)) result (K.held out.old) (K.held out.new) }
     ensures cause { Blames (result ≡ Err Fault.Write) (K.faults out.old) (K.faults out.new) }
 {
@@ -118,7 +118,7 @@ fn go_on<K: Sink>(
 ) -> Result<(), Fault<Unfit>>
     requires inside { part.place ≤ length bytes.now }
     requires numbers { part.market.next_order < 2 ^ 63 }
-    ensures ends { Ends (FirstComesTo (IsTrue more) (Whole part.origin part.market part.place (drop part.place bytes.now)))
+    ensures ends { EndsResuming (FirstComesTo (IsTrue more) (Whole part.origin part.market part.place (drop part.place bytes.now)))
         (IntoAfter part.market (drop part.place bytes.now)) (ShortAfter part.market (drop part.place bytes.now)) result
         (K.held out.old) (K.held out.new) }
     ensures cause { Blames (result ≡ Err Fault.Write) (K.faults out.old) (K.faults out.new) }
@@ -144,7 +144,7 @@ fn resume_bytes<K: Sink>(
     more: bool,
     out: &mut K,
 ) -> Result<(), Fault<Unfit>>
-    ensures ends { Ends (Resumes (IsTrue more) bytes.now) (ResumesInto bytes.now)
+    ensures ends { EndsResuming (Resumes (IsTrue more) bytes.now) (ResumesInto bytes.now)
         (ResumesShort bytes.now) result (K.held out.old) (K.held out.new) }
     ensures cause { Blames (result ≡ Err Fault.Write) (K.faults out.old) (K.faults out.new) }
 {

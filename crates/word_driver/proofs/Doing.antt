@@ -16,7 +16,7 @@ use Rattle.file_units.specs.Inputs.{known}
 use Rattle.file_units.proofs.Gone.{considered}
 use Rattle.word_driver.specs.Word.{Word, Passes, ComesOn, LacksOn, Comes, Lacks}
 use Rattle.word_driver.specs.Laws.{IsExact, IsKept}
-use Rattle.word_driver.specs.Private.{OpensAt, IsNear, Ends, GoesOn, IsNearAll, Finds, GoesOver}
+use Rattle.word_driver.specs.Private.{OpensAt, IsNearUnits, Ends, ContinuesFrom, IsNearAll, Finds, GoesOver}
 use Rattle.word_driver.proofs.Alike.{comes_on_alike, lacks_on_alike}
 
 module _ {U S B : Type 0} (w : Word U S B) (start : Version → S) (exact : IsExact w) (kept : IsKept w start) where
@@ -91,7 +91,7 @@ module _ {U S B : Type 0} (w : Word U S B) (start : Version → S) (exact : IsEx
       more_written : (text : List ℕ) → Grows middle after text → Grows before after (w.opens begun.version ++ text)
       more_written text onward = Grows-more before middle after (w.opens begun.version) text (rw begun.opening at written) onward
 
-      near_all : IsNear w (w.longest + 1) body state (drop 8 held ++ taken) middle after → IsNearAll w start Considered bytes (w.longest + 1) (held ++ taken) source.after before after
+      near_all : IsNearUnits w (w.longest + 1) body state (drop 8 held ++ taken) middle after → IsNearAll w start Considered bytes (w.longest + 1) (held ++ taken) source.after before after
       near_all near =
           let encoded = w.format.magics.encode begun.version in
           let passes = subst (λ (t : S). Passes w body t near.units near.left near.state near.text) begun.starts near.passes in (
@@ -137,7 +137,7 @@ module _ {U S B : Type 0} (w : Word U S B) (start : Version → S) (exact : IsEx
           (Err TooLong, w.opens begun.version ++ text, opened begun.version (take (length (held ++ taken)) bytes) (take n body) text (Unit {0}) state (Err TooLong) first begun.starts on, more_written text onward)
       found (Err NotFlow) ends = absurd ends
 
-    pub goes_over : (begun : OpensAt w start held state IsReady opening) → Grows before middle opening → (window : WindowState) → window.held ≡ drop 8 held → window.place ≡ 8 → window.limit ≡ limit → (ended : Ended B) → GoesOn w (w.longest + 1) window state ended source following → GoesOver w start limit held ended source out
+    pub goes_over : (begun : OpensAt w start held state IsReady opening) → Grows before middle opening → (window : WindowState) → window.held ≡ drop 8 held → window.place ≡ 8 → window.limit ≡ limit → (ended : Ended B) → ContinuesFrom w (w.longest + 1) window state ended source following → GoesOver w start limit held ended source out
     goes_over begun written window is place same ended on =
         let few = on.few in
         record {

@@ -18,7 +18,7 @@ use Rattle.word_driver.specs.declared.fault.Fault.TheVariants.{Read, Write, Memo
 use Rattle.word_driver.specs.Ended.{Ended}
 use Rattle.word_driver.specs.Word.{Word, Goes, ComesOn}
 use Rattle.word_driver.specs.Laws.{IsExact}
-use Rattle.word_driver.specs.Private.{Closed, IsNear, Ends}
+use Rattle.word_driver.specs.Private.{Closed, IsNearUnits, Ends}
 use Rattle.word_driver.proofs.Pieces.{Writes, Breaks}
 
 -- no fault is blamed if the count is unchanged and nothing failed
@@ -153,7 +153,7 @@ module _ {U S B O : Type 0} (w : Word U S B) (held : O → Option (List ℕ)) (f
         )
 
     -- the whole text of all units is in the output
-    near_end : (goes : ToEnd reading.End) (so : HasWritten start goes.units new before middle) (more : List ℕ) → Grows (held middle) (held after) more → length seen ≤ length (encode_all w.format.units goes.units) + most → IsNear w most bytes start seen (held before) (held after)
+    near_end : (goes : ToEnd reading.End) (so : HasWritten start goes.units new before middle) (more : List ℕ) → Grows (held middle) (held after) more → length seen ≤ length (encode_all w.format.units goes.units) + most → IsNearUnits w most bytes start seen (held before) (held after)
     near_end goes so more written few =
         let reads = goes.reads in
         record {
@@ -290,7 +290,7 @@ module _ {U S B O : Type 0} (w : Word U S B) (held : O → Option (List ℕ)) (f
 
     -- the whole text of the units before is in the output
     near_break : {fault : Fault B} (goes : ToBreak fault) (so : HasWritten start goes.units goes.middle before goes.between) (more : List ℕ) → Grows (held goes.between) (held after) more → length seen ≤ length (encode_all w.format.units goes.units) + most
-        → IsNear w most bytes start seen (held before) (held after)
+        → IsNearUnits w most bytes start seen (held before) (held after)
     near_break goes so more written few = record {
       units = goes.units;
       left = goes.left;

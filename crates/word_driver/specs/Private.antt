@@ -26,9 +26,9 @@ pub record OpensAt {U S B : Type 0} (w : Word U S B) (start : Version → S) (by
   pub ready : (limit : ℕ) → limit < 2 ^ 64 → IsReady (limit - 8)
 
 -- the subcommand is open, or the bytes begin with no magic
-abbrev pub IsOpened : {U S B : Type 0} → Word U S B → (Version → S) → List ℕ → S → (ℕ → Type 0) → List ℕ → Bool → Type 0
-IsOpened w start bytes state IsReady text true = OpensAt w start bytes state IsReady text
-IsOpened w start bytes state IsReady text false = BeginsWithNone w.format.magics bytes
+abbrev pub OpensOrNot : {U S B : Type 0} → Word U S B → (Version → S) → List ℕ → S → (ℕ → Type 0) → List ℕ → Bool → Type 0
+OpensOrNot w start bytes state IsReady text true = OpensAt w start bytes state IsReady text
+OpensOrNot w start bytes state IsReady text false = BeginsWithNone w.format.magics bytes
 
 -- the unit at the beginning of the bytes was taken, and the buffer holds its text
 abbrev pub IsTakenBy : {U S B : Type 0} → Word U S B → Prefix → List ℕ → S → S → List ℕ → Type 0
@@ -86,7 +86,7 @@ module _ {U S B : Type 0} (w : Word U S B) where
       ((n : ℕ) × (ended : Ended B) × ComesOn w (Unit {0}) place (take n bytes) start ended text) ⊎ ((ended : Ended B) × ComesOn w More place bytes start ended text)
 
   -- the whole text of some units is in the output, and at most this many bytes were seen after these units
-  pub record IsNear (most : ℕ) (bytes : List ℕ) (start : S) (seen : List ℕ) (before after : Option (List ℕ)) : Type 0 where
+  pub record IsNearUnits (most : ℕ) (bytes : List ℕ) (start : S) (seen : List ℕ) (before after : Option (List ℕ)) : Type 0 where
     pub units : List U
     pub left : List ℕ
     pub state : S
@@ -103,13 +103,13 @@ module _ {U S B : Type 0} (w : Word U S B) where
     Ends (Err (Torn n)) before after = (text : List ℕ) × ComesOn w More place bytes start (Err (Torn n)) text × Grows before after text
     Ends (Err TooLong) before after = (text : List ℕ) × ComesOn w More place bytes start (Err TooLong) text × Grows before after text
     Ends (Err (Stopped why)) before after = (text : List ℕ) × ComesOn w More place bytes start (Err (Stopped why)) text × Grows before after text
-    Ends (Err Write) before after = IsNear most bytes start seen before after × (text : List ℕ) × GetsTo More place bytes start text × GrowsByPrefix before after text
-    Ends (Err Memory) before after = IsNear most bytes start seen before after × (text : List ℕ) × LacksOn w More place bytes start text × Grows before after text
+    Ends (Err Write) before after = IsNearUnits most bytes start seen before after × (text : List ℕ) × GetsTo More place bytes start text × GrowsByPrefix before after text
+    Ends (Err Memory) before after = IsNearUnits most bytes start seen before after × (text : List ℕ) × LacksOn w More place bytes start text × Grows before after text
     Ends (Err Read) before after = (text : List ℕ) × ComesOn w (Unit {0}) place (take (length seen) bytes) start (Err TooLong) text × Grows before after text
     Ends (Err NotFlow) before after = ⊥
 
 -- It continued from what a window held: it took these bytes of the source, and came to an end.
-pub record GoesOn {U S B : Type 0} (w : Word U S B) (most : ℕ) (window : WindowState) (start : S) (result : Ended B) (source out : Change) : Type 0 where
+pub record ContinuesFrom {U S B : Type 0} (w : Word U S B) (most : ℕ) (window : WindowState) (start : S) (result : Ended B) (source out : Change) : Type 0 where
   pub taken : List ℕ
   pub takes : Takes source.before source.after taken
   pub few : length window.held + length taken ≤ (window.limit - window.place) + 1

@@ -6,7 +6,7 @@ ghost use Rattle.flow_io.specs.Changes.{change};
 ghost use Rattle.word_driver.specs.Does.{Does, task};
 ghost use Rattle.word_driver.specs.Laws.{IsExact, IsKept};
 ghost use Rattle.word_driver.specs.Pieces.{IsByPieces};
-ghost use Rattle.word_driver.specs.Private.{Closed, Ends, GoesOn, GoesOver, PutsLast, PutsOn, PutsAll};
+ghost use Rattle.word_driver.specs.Private.{Closed, Ends, ContinuesFrom, GoesOver, PutsLast, PutsOn, PutsAll};
 
 use crate::fault::Fault;
 use crate::serves::ServesWord;
@@ -52,7 +52,7 @@ pub fn go_on<S: Source, K: Sink, W: ServesWord + Drop>(
     requires open { window.over ≡ None }
     requires room { W.ROOM ≤ vec_capacity text }
     requires ready { W.is_ready word (window.limit - window.place) }
-    ensures goes { GoesOn W.word (W.word.longest + 1) window (W.state word) result
+    ensures goes { ContinuesFrom W.word (W.word.longest + 1) window (W.state word) result
         (change S.rest S.faults source.old source.new) (change K.held K.faults out.old out.new) }
     ensures reads { Blames (result ≡ Err Fault.Read) (S.faults source.old) (S.faults source.new) }
     ensures writes { Blames (result ≡ Err Fault.Write) (K.faults out.old) (K.faults out.new) }

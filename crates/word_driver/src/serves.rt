@@ -3,7 +3,7 @@ ghost use Rattle.std.specs.Prelude.{◌≡◌, ◌≤◌, ◌-◌, ℕ, [], IfOk
 ghost use Rattle.wire_records.specs.declared.version.Version.{Version};
 ghost use Rattle.file_units.specs.Units.{StaysReady};
 ghost use Rattle.word_driver.specs.Word.{Word};
-ghost use Rattle.word_driver.specs.Private.{IsOpened, IsTakenBy, HaltsAt, IsClosed};
+ghost use Rattle.word_driver.specs.Private.{OpensOrNot, IsTakenBy, HaltsAt, IsClosed};
 
 use crate::fault::Halt;
 use file_units::Prefix;
@@ -43,7 +43,7 @@ pub trait ServesWord {
         requires empty { text.old.items ≡ [] }
         requires room { ROOM ≤ vec_capacity text.old }
         ensures room { vec_capacity text.old ≤ vec_capacity text.new }
-        ensures opened { IsOpened word (start self.old) bytes.now (state self.new) (is_ready self.new) text.new.items result };
+        ensures opened { OpensOrNot word (start self.old) bytes.now (state self.new) (is_ready self.new) text.new.items result };
 
     /// Takes the unit at the beginning of the bytes, if it is complete, and puts its text into the buffer.
     fn take(&mut self, bytes: &[u8], text: &mut Vec<u8>) -> Result<Prefix, Halt<Self::Stop>>

@@ -1,7 +1,7 @@
 use Rattle.std.proofs.Common.{◌≡◌, ◌+◌, ◌*◌, ◌≤◌, ◌∙◌, length, sym, ap, subst, arith}
 use Rattle.byte_places.specs.Places.{unsigned_at}
 use Rattle.market_snapshot.specs.Layout.{account_size}
-use Rattle.market_snapshot.specs.Sizes.{EndsWith}
+use Rattle.market_snapshot.specs.Sizes.{OrdersEndAt}
 use Rattle.market_snapshot.proofs.Sizing.{first_of, count_at, long, assets_are, accounts_are, sizes_are, orders_counted, few_assets, few_accounts, few_orders, ends}
 use Rattle.market_snapshot.proofs.size.checkpoint_size.Goals as goal
 
@@ -62,5 +62,5 @@ returns-clause-size c = λ m k more rest is e.
     let place : 11 + 8 * c.from.result + 4 + c.account_size.result * c.u32_at-accounts.result + 44 + 24 * c.from-2.result ≡ count_at bytes m k more rest is e = omega (arith, product, assets, c.from.ensures, c.from-2.ensures) in
     let first : 11 + 8 * c.from.result + 4 + c.account_size.result * c.u32_at-accounts.result + 44 + 24 * c.from-2.result + 4 ≡ first_of bytes m k more rest is e = omega (arith, product, assets, c.from.ensures, c.from-2.ensures) in
     let counted = c.u32_at-orders.ensures ∙ ap (λ n. unsigned_at 4 n bytes) place ∙ orders_counted bytes m k more rest is e (omega (arith, place, c.if-bytes-place.false)) in
-    let moved : EndsWith bytes (first_of bytes m k more rest is e) c.u32_at-orders.result c.orders_end.result = subst (λ n. EndsWith bytes n c.u32_at-orders.result c.orders_end.result) first c.orders_end.ensures in
+    let moved : OrdersEndAt bytes (first_of bytes m k more rest is e) c.u32_at-orders.result c.orders_end.result = subst (λ n. OrdersEndAt bytes n c.u32_at-orders.result c.orders_end.result) first c.orders_end.ensures in
     ends bytes m k more rest is e c.orders_end.result (λ orders following tail many fit here. moved orders following tail (many ∙ sym counted) fit here)

@@ -1,7 +1,7 @@
 use Rattle.std.proofs.Common.{drop, sym, subst, arith}
 use Rattle.wire_records.specs.Records.{Record}
 use Rattle.batch_audit.specs.Legal.{IsLegalPair}
-use Rattle.sample_summary.specs.Private.{IsWritten, IsCounted}
+use Rattle.sample_summary.specs.Private.{IsWritten, CountsAnswer}
 use Rattle.sample_summary.proofs.Counted.{has_room}
 use Rattle.sample_summary.proofs.Written.{legal_of, framed_as, not_none, not_broken, made_of, encodes_of}
 use Rattle.sample_summary.proofs.sampling.take_pair.Goals as goal
@@ -13,7 +13,7 @@ audit_legal-requires-clause-legal c =
     (w.new, subst (λ (p : Record × Record). IsLegalPair c.args.audit.now p w.new) (sym is) (legal_of c.args.audit.now c.args.bytes.now w))
 
 -- the counts of the entry that the bytes encode
-counted : (c : goal.After-counts_of) (w : IsWritten c.args.audit.now c.args.bytes.now) → IsCounted w.pair.answer c.counts_of.result
+counted : (c : goal.After-counts_of) (w : IsWritten c.args.audit.now c.args.bytes.now) → CountsAnswer w.pair.answer c.counts_of.result
 counted c w =
     let is = framed_as c.args.audit.now c.args.bytes.now w c.in-Whole.pair (drop c.in-Whole.field-1 c.args.bytes.now) c.in-Whole.ensures.0 c.in-Whole.ensures.2 in
     c.counts_of.ensures w.pair.answer (encodes_of c.args.audit.now c.args.bytes.now w c.in-Whole.pair is)

@@ -2,7 +2,7 @@ use Rattle.std.proofs.Common.{◌∙◌, ap, subst, arith}
 use Rattle.wire_records.specs.Commands.{Answer}
 use Rattle.flow_orders.specs.Outcomes.{Outcome}
 use Rattle.market_rules.specs.Market.{Market}
-use Rattle.sample_summary.specs.Private.{CountsOne}
+use Rattle.sample_summary.specs.Private.{AddsAnswer}
 use Rattle.sample_summary.proofs.Counted.{room_more, room_fewer}
 use Rattle.sample_summary.proofs.Written.{served_here}
 use Rattle.sample_summary.proofs.sampling.SamplingTakesUnitsUnit.take.Goals as goal
@@ -39,7 +39,7 @@ returns-in_ok-take_pair-in-Taken-clause-taken c =
         text = c.serve_next.new.out.items;
         answers = one.step;
         fits = one.step.fits here.next;
-        counts = subst (λ (a : Answer Outcome). CountsOne a self.counts c.take_pair.new.counts) here.answered (c.in_ok-take_pair-in-Taken.ensures.taken here.written).1;
+        counts = subst (λ (a : Answer Outcome). AddsAnswer a self.counts c.take_pair.new.counts) here.answered (c.in_ok-take_pair-in-Taken.ensures.taken here.written).1;
       };
     }
 
@@ -51,7 +51,7 @@ returns-in_ok-take_pair-in-Taken-clause-stays c = λ left inside ready.
     ready.same c.deref.ensures.value c.market-consistent.ensures.consistent ready.next inside
     in
     let made = c.in_ok-take_pair-in-Taken.ensures.taken here.written in
-    let counts = subst (λ (a : Answer Outcome). CountsOne a self.counts c.take_pair.new.counts) here.answered made.1 in
+    let counts = subst (λ (a : Answer Outcome). AddsAnswer a self.counts c.take_pair.new.counts) here.answered made.1 in
     record {
       same = made.0 ∙ here.same;
       next = (rw c.in-Taken.is at c.in_ok-taken.ensures.stays) left inside ready.next;
