@@ -20,8 +20,9 @@ use Rattle.market_history.specs.declared.start.StartFault.TheVariants.{Read, Mem
 use Rattle.market_history.proofs.Starting.{magic_on}
 use Rattle.journal_keeping.specs.declared.fault.InputFault.{InputFault}
 use Rattle.journal_keeping.specs.declared.fault.InputFault.TheVariants as fault
-use Rattle.journal_keeping.specs.Starts.{BeginsUnsound, BeginsOtherwise}
-use Rattle.journal_keeping.specs.Beginning.{OpensStart, IsOfSource}
+use Rattle.journal_keeping.specs.Inputs.{BeginsUnsound, NotTaken}
+use Rattle.journal_keeping.specs.Starts.{source_format, BeginsOtherwise}
+use Rattle.journal_keeping.specs.Beginning.{OpensStart}
 use Rattle.journal_keeping.proofs.Magic.{at_most}
 use Rattle.journal_keeping.proofs.SourceStart.{no_start, unsound_none, broke_off, in_checkpoint, are_first}
 
@@ -83,24 +84,24 @@ module _ (before x : Option (List ℕ)) (old : WindowState) (takes : Takes befor
         )
 
     -- a read failed
-    pub unread_at : FindsNone old x y Read → IsOfSource None old.limit before y fault.Read × TakesAtMost before y (old.limit + 1)
+    pub unread_at : FindsNone old x y Read → NotTaken source_format old.limit None before y fault.Read × TakesAtMost before y (old.limit + 1)
     unread_at (more, on, short, unsound) =
         let all = Takes-more before x y old.held more takes on in
         let begins = magic_on old.held more magic in
         (broke_off old.limit before y (old.held ++ more) all short begins (unsound_none (old.held ++ more) begins unsound), at_most before y (old.held ++ more) (old.limit + 1) all (omega (arith, short)))
 
     -- memory ran out
-    pub out_at : FindsNone old x y Memory → IsOfSource None old.limit before y fault.Memory × TakesAtMost before y (old.limit + 1)
+    pub out_at : FindsNone old x y Memory → NotTaken source_format old.limit None before y fault.Memory × TakesAtMost before y (old.limit + 1)
     out_at (more, on, short) =
         let all = Takes-more before x y old.held more takes on in
         (inr (refl, in_checkpoint old.limit before y (old.held ++ more) all short (magic_on old.held more magic)), at_most before y (old.held ++ more) (old.limit + 1) all (omega (arith, short)))
 
     -- there is no checkpoint of a consistent market
-    pub unsound_at : FindsNone old x y NoCheckpoint → IsOfSource None old.limit before y fault.BadCheckpoint × TakesAtMost before y (old.limit + 1)
+    pub unsound_at : FindsNone old x y NoCheckpoint → NotTaken source_format old.limit None before y fault.BadCheckpoint × TakesAtMost before y (old.limit + 1)
     unsound_at (more, on, short, unsound) =
         let all = Takes-more before x y old.held more takes on in
         ((refl, unsound_first old.limit before y (old.held ++ more) all (magic_on old.held more magic) (omega (arith, some, few)) unsound), at_most before y (old.held ++ more) (old.limit + 1) all short)
 
 -- a window's limit stays as it was
-pub of_limit : (before after : Option (List ℕ)) (why : InputFault) (now limit : ℕ) → now ≡ limit → IsOfSource None now before after why × TakesAtMost before after (now + 1) → IsOfSource None limit before after why × TakesAtMost before after (limit + 1)
-of_limit before after why now limit same of = subst (λ (n : ℕ). IsOfSource None n before after why × TakesAtMost before after (n + 1)) same of
+pub of_limit : (before after : Option (List ℕ)) (why : InputFault) (now limit : ℕ) → now ≡ limit → NotTaken source_format now None before after why × TakesAtMost before after (now + 1) → NotTaken source_format limit None before after why × TakesAtMost before after (limit + 1)
+of_limit before after why now limit same of = subst (λ (n : ℕ). NotTaken source_format n None before after why × TakesAtMost before after (n + 1)) same of

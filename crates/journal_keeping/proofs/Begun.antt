@@ -1,5 +1,5 @@
 -- A disk that is opened, up to the commit byte after its entries.
-use Rattle.std.proofs.Common.{◌≡◌, ◌⊎◌, ⊎_elim, inl, inr, ℕ, List, [], ◌∷◌, ◌++◌, Option, Some, None, IfSome, IsSome, Result, Err, length, map, drop, refl, sym, ap, subst, ◌∙◌, arith}
+use Rattle.std.proofs.Common.{◌≡◌, ◌⊎◌, ⊎_elim, inl, inr, ℕ, List, [], ◌∷◌, ◌++◌, Option, Some, None, IfSome, Result, Err, length, map, drop, refl, sym, ap, subst, ◌∙◌, arith}
 use Rattle.wire_records.specs.Records.{Record}
 use Rattle.wire_records.specs.Commands.{Pair}
 use Rattle.wire_records.specs.declared.version.Version.{Version}
@@ -8,7 +8,6 @@ use Rattle.journal_records.specs.Formats.{records_of}
 use Rattle.market_rules.specs.Market.{Market, empty_market}
 use Rattle.market_history.specs.Histories.{Start, Empty, market_of, CanStart}
 use Rattle.disk_edge.specs.Disks.{DiskState, AtEachMoment}
-use Rattle.file_units.proofs.Gone.{went_well}
 use Rattle.disk_edge.proofs.Moments.{weaker, then_more}
 use Rattle.disk_edge.specs.Images.{LeavesOnly}
 use Rattle.journal_disk.specs.declared.fault.DiskFault.{DiskFault}
@@ -20,21 +19,18 @@ use Rattle.journal_disk.specs.Recovering.{IsForeign, IsFound}
 use Rattle.journal_disk.specs.Stepping.{IsDamagedAt}
 use Rattle.journal_disk.proofs.Entries.{length-entries, least}
 use Rattle.journal_disk.proofs.OneList.{new_none, few_none}
-use Rattle.journal_disk.proofs.GoingOn.{looks_hold, looks_more}
-use Rattle.journal_keeping.proofs.Counts.{if_some}
+use Rattle.journal_disk.proofs.GoingOn.{looks_hold}
 use Rattle.journal_keeping.specs.declared.fault.OpenFault.{OpenFault}
 use Rattle.journal_keeping.specs.declared.fault.OpenFault.TheVariants.{Disk, Memory, NotDisk, Damaged, Rejected}
 use Rattle.journal_keeping.specs.Faults.{of_disk}
-use Rattle.journal_keeping.specs.Starts.{version_of, head_of}
-use Rattle.journal_keeping.specs.Keeping.{IsKeptJournal, StandsForJournal, HoldsLegal, GoesOnIn}
-use Rattle.journal_keeping.specs.Openings.{Legal, IsOpening, OpensAs, KeepNone}
+use Rattle.journal_keeping.specs.Starts.{head_of}
+use Rattle.journal_keeping.specs.Keeping.{IsKeptJournal, StandsForJournal, HoldsLegal}
+use Rattle.journal_keeping.specs.Openings.{Legal, IsOpening, KeepNone}
 use Rattle.journal_keeping.specs.Auditing.{StopsAs}
-use Rattle.journal_keeping.specs.Beginning.{IsReadUp, IsOpened, IsCounted, IsBegun, IsKeptOn, BeginsAt, StopsFirst, OpensNot, WhileOpening, OpensSafely, HasFirst}
+use Rattle.journal_keeping.specs.Beginning.{IsOpened, IsKeptOn, BeginsAt, StopsFirst, OpensNot, WhileOpening, HasFirst}
 use Rattle.journal_keeping.proofs.Auditing.{none_read}
-use Rattle.journal_keeping.proofs.Making.{SourceBegins}
 use Rattle.journal_keeping.proofs.Opened.{has_them, same_journal}
 use Rattle.journal_keeping.proofs.Beginnings.{bare_place, legal_first}
-use Rattle.journal_keeping.proofs.OneOpening.{one_opening}
 
 abbrev Pairs : Type 0
 Pairs = List (Pair Record Outcome)
@@ -95,6 +91,12 @@ stops_opened begin held next (Damaged place) long known same unfit stops = (
 stops_opened begin held next (Rejected number) long known same unfit stops = ((long, known, begin, stops.0, stops.1, stops.2, stops.3, stops.4, stops.5, stops.6, stops.7, stops.8), same)
 stops_opened begin held next NotDisk long known same unfit stops = absurd stops
 
+-- what recovering answers says of the bytes
+pub not_recovered : (content : Option (List ℕ)) (next : DiskState) (fault : DiskFault) → next.content ≡ content → (fault ≡ disk.Failed) ⊎ (fault ≡ disk.NotDisk) → (fault ≡ disk.NotDisk → IfSome content IsForeign) → IfSome content (λ held. OpensNot held next (of_disk fault))
+not_recovered None next fault same why foreign = tt
+not_recovered (Some held) next fault same (inl is) foreign = subst (λ (f : DiskFault). OpensNot held next (of_disk f)) (sym is) tt
+not_recovered (Some held) next fault same (inr is) foreign = subst (λ (f : DiskFault). OpensNot held next (of_disk f)) (sym is) (foreign is, same)
+
 -- after a failed call, or out of memory, nothing is said of the bytes
 not_begun : (held : List ℕ) (next : DiskState) (fault : DiskFault) → (fault ≡ disk.Failed) ⊎ (fault ≡ disk.Memory) → OpensNot held next (of_disk fault)
 not_begun held next fault refused = ⊎_elim
@@ -148,31 +150,6 @@ looked_legal begin old market start next holds looks = record {
 pub looks_alone : (begin : Start) (old : Pairs) (start next : DiskState) → OnlyLooks start next → Opens begin start next old
 looks_alone begin old start next looks = weaker start next _ _ (λ image was. inl was) looks.moments
 
--- opening that leaves the old entries where they are is safe
-pub safe_kept : (limit : ℕ) (content : Option (List ℕ)) (start next : DiskState) (begin : Start) (old : Pairs) (market : Market) → HoldsLegal start begin old market → Opens begin start next old → OpensSafely limit content start next begin old market
-safe_kept limit content start next begin old market holds opens = record {
-  of = begin;
-  from = market;
-  input = Empty (version_of begin);
-  goes = inl (refl, refl, refl);
-  journal = holds.journal;
-  moments = opens;
-}
-
-goes_first : (limit : ℕ) (content : Option (List ℕ)) (start mid : DiskState) (looks : OnlyLooks start mid) (begin : Start) (market : Market) (of : Start) (from : Market) (input : Start) → GoesOnIn limit content mid begin market of from input → GoesOnIn limit content start begin market of from input
-goes_first limit content start mid looks begin market of from input (inl same) = inl same
-goes_first limit content start mid looks begin market of from input (inr new) = inr (subst (λ (o : Option (List ℕ)). IfSome o IsNewDisk) looks.content new.0, new.1, new.2, new.3)
-
-pub safe_first : (limit : ℕ) (content : Option (List ℕ)) (start mid next : DiskState) (begin : Start) (old : Pairs) (market : Market) → OnlyLooks start mid → OpensSafely limit content mid next begin old market → OpensSafely limit content start next begin old market
-safe_first limit content start mid next begin old market looks safe = record {
-  of = safe.of;
-  from = safe.from;
-  input = safe.input;
-  goes = goes_first limit content start mid looks begin market safe.of safe.from safe.input safe.goes;
-  journal = safe.journal;
-  moments = looks_first safe.of old start mid next looks safe.moments;
-}
-
 no_pairs : (old : Pairs) → map records_of old ≡ [] → old ≡ []
 no_pairs [] e = refl
 no_pairs (pair ∷ old) e = absurd (let size = ap length e in omega (arith, size))
@@ -194,18 +171,18 @@ module _ (start : DiskState) (v : Start) (old : Pairs) (market : Market) (holds 
       same_journal v begin held old legal market m holds.journal is.2 (has_them (head_of v) (map records_of old) held is.0 (stands_there held told)) is.3
 
   -- opening leaves the old entries, and cuts off what follows them
-  begins_on : (held : List ℕ) (mid next : DiskState) (begin : Start) (m : Market) (place : ℕ) → start.content ≡ Some held → OnlyLooks start mid → IsReadUp held begin m place mid
+  begins_on : (held : List ℕ) (mid next : DiskState) (begin : Start) (legal : Pairs) (m : Market) (place : ℕ) → start.content ≡ Some held → OnlyLooks start mid → IsOpening held (Legal begin legal m) → EndsAt (head_of begin) (map records_of legal) place mid
       → ((w : Head) (pairs : List RecordPair) → EndsAt w pairs place mid → AtEachMoment mid next (StandsFor w pairs)) → Opens v start next old
-  begins_on held mid next begin m place told looks read moments =
-      let same = opened_old held told begin read.0 m read.1 in
+  begins_on held mid next begin legal m place told looks opens ends moments =
+      let same = opened_old held told begin legal m opens in
       then_more start mid next _ (looks_alone v old start mid looks)
-      (weaker mid next _ _ (λ image stands. inr (inl (subst (λ (x : Start). StandsForJournal x old image) (sym same.0) (subst (λ (l : Pairs). StandsForJournal begin l image) (sym same.1) stands)))) (moments (head_of begin) (map records_of read.0) read.2))
+      (weaker mid next _ _ (λ image stands. inr (inl (subst (λ (x : Start). StandsForJournal x old image) (sym same.0) (subst (λ (l : Pairs). StandsForJournal begin l image) (sym same.1) stands)))) (moments (head_of begin) (map records_of legal) ends))
 
-  pub begins_known : (version : Version) (mid next : DiskState) (m : Market) (place : ℕ) → OnlyLooks start mid → IfSome start.content (λ held. IsOpened version held m place mid)
+  pub begins_known : (version : Version) (mid next : DiskState) (m : Market) (count place : ℕ) → OnlyLooks start mid → IfSome start.content (λ held. IsOpened version held m count place mid)
       → ((w : Head) (pairs : List RecordPair) → EndsAt w pairs place mid → AtEachMoment mid next (StandsFor w pairs)) → Opens v start next old
-  begins_known version mid next m place looks read moments =
-      let opened = subst (λ (o : Option (List ℕ)). IfSome o (λ (held : List ℕ). IsOpened version held m place mid)) holds.told read in
-      begins_on holds.bytes mid next opened.0 m place holds.told looks opened.2 moments
+  begins_known version mid next m count place looks read moments =
+      let opened = subst (λ (o : Option (List ℕ)). IfSome o (λ (held : List ℕ). IsOpened version held m count place mid)) holds.told read in
+      begins_on holds.bytes mid next opened.0 opened.1 m place holds.told looks opened.3 opened.5 moments
 
   -- a new disk stays one, or begins so, while it is made one that begins so
   pub makes_new : (next : DiskState) (begin : Start) → IfSome start.content (λ held. IsFound None held start)
@@ -216,40 +193,6 @@ module _ (start : DiskState) (v : Start) (old : Pairs) (market : Market) (holds 
       let was_new = subst (λ (o : Option (List ℕ)). IfSome o IsNewDisk) (sym holds.told) is.0 in
       weaker start next _ _ (λ image was. ⊎_elim (λ still. inr (inr (was_new, still))) (λ (stands : StandsFor (head_of begin) [] image). inr (inl (subst (λ (l : Pairs). StandsForJournal begin l image) (sym none) stands))) was) (moments holds.bytes holds.told is.3)
 
-  pub safe_new : (limit : ℕ) (content : Option (List ℕ)) (next : DiskState) (begin : Start) → IfSome start.content (λ held. IsFound None held start) → CanStart begin → SourceBegins limit content begin → Opens begin start next old → OpensSafely limit content start next v old market
-  safe_new limit content next begin found starts begins opens =
-      let is = subst (λ (o : Option (List ℕ)). IfSome o (λ (held : List ℕ). IsFound None held start)) holds.told found in
-      let none = new_again holds.bytes holds.told is.0 in
-      record {
-        of = begin;
-        from = market_of begin;
-        input = begin;
-        goes = inr (subst (λ (o : Option (List ℕ)). IfSome o IsNewDisk) (sym holds.told) is.0, refl, refl, begins);
-        journal = subst (λ (l : Pairs). IsKeptJournal begin l (market_of begin)) (sym none) (none_read begin (market_of begin) starts refl);
-        moments = opens;
-      }
-
-  -- how the run continues, with the old entries
-  begun_is : (limit : ℕ) (content : Option (List ℕ)) (held : List ℕ) (next : DiskState) (of input : Start) (m : Market) (place : ℕ) → start.content ≡ Some held → CanStart input → SourceBegins limit content input → IsBegun held of input m place next
-      → GoesOnIn limit content start v market of m input × IsKeptJournal of old m × Keeps (head_of of) (map records_of old) place next
-  begun_is limit content held next of input m place told starts begins (other, inl legal, at) =
-      let same = opened_old held told of other m legal.0 in (
-        inl (sym same.0, sym same.2, subst (λ (x : Start). input ≡ Empty (version_of x)) (sym same.0) legal.1),
-        subst (λ (l : Pairs). IsKeptJournal of l m) (sym same.1) legal.0.2,
-        subst (λ (l : Pairs). Keeps (head_of of) (map records_of l) place next) (sym same.1) at,
-      )
-  begun_is limit content held next of input m place told starts begins (other, inr new, at) =
-      let none = new_again held told new.0.0 in (
-        inr (subst (λ (o : Option (List ℕ)). IfSome o IsNewDisk) (sym told) new.0.0, new.2, new.3, subst (λ (x : Start). SourceBegins limit content x) new.3 begins),
-        subst (λ (l : Pairs). IsKeptJournal of l m) (sym none) (none_read of m (subst CanStart new.3 starts) new.2),
-        subst (λ (l : Pairs). Keeps (head_of of) (map records_of l) place next) (new.1 ∙ sym none) at,
-      )
-
-  pub begun_known : (limit : ℕ) (content : Option (List ℕ)) (next : DiskState) (of input : Start) (m : Market) (place : ℕ) → CanStart input → SourceBegins limit content input → IfSome start.content (λ held. IsBegun held of input m place next)
-      → GoesOnIn limit content start v market of m input × IsKeptJournal of old m × Keeps (head_of of) (map records_of old) place next
-  begun_known limit content next of input m place starts begins begun =
-      begun_is limit content holds.bytes next of input m place holds.told starts begins (subst (λ (o : Option (List ℕ)). IfSome o (λ (held : List ℕ). IsBegun held of input m place next)) holds.told begun)
-
 -- ---- if the disk's content is known
 
 -- a disk that was found and only looked at is still so
@@ -258,59 +201,25 @@ found_looked version None start next looks is = tt
 found_looked version (Some held) start next looks is = (is.0, is.1, looks_hold (head_of (Empty version)) [] 8 (drop 8 held) start next is.2 looks)
 
 -- a disk that was read up to the commit byte can be begun
-pub can_begin : (content now : Option (List ℕ)) (version : Version) (m : Market) (place : ℕ) (mid : DiskState) → now ≡ content → IfSome content (λ held. IsOpened version held m place mid) → IfSome now (λ _. (w : Head) × (pairs : List RecordPair) × EndsAt w pairs place mid)
-can_begin content None version m place mid told read = tt
-can_begin None (Some bytes) version m place mid told read = absurd cc
-can_begin (Some held) (Some bytes) version m place mid told read = (head_of read.0, map records_of read.2.0, read.2.2)
+pub can_begin : (content now : Option (List ℕ)) (version : Version) (m : Market) (count place : ℕ) (mid : DiskState) → now ≡ content → IfSome content (λ held. IsOpened version held m count place mid) → IfSome now (λ _. (w : Head) × (pairs : List RecordPair) × EndsAt w pairs place mid)
+can_begin content None version m count place mid told read = tt
+can_begin None (Some bytes) version m count place mid told read = absurd cc
+can_begin (Some held) (Some bytes) version m count place mid told read = (head_of read.0, map records_of read.1, read.5)
 
-pub begun : (content : Option (List ℕ)) (version : Version) (m : Market) (place later : ℕ) (mid next : DiskState) → IfSome content (λ held. IsOpened version held m place mid) → ((w : Head) (pairs : List RecordPair) → EndsAt w pairs place mid → Keeps w pairs later next) → IfSome content (λ held. IsKeptOn version held m later next)
-begun None version m place later mid next read keeps = tt
-begun (Some held) version m place later mid next read keeps = (read.0, read.1, (read.2.0, inl (read.2.1, ap (λ (u : Version). Empty u) (sym read.1)), keeps (head_of read.0) (map records_of read.2.0) read.2.2))
+pub begun : (content : Option (List ℕ)) (version : Version) (m : Market) (count place later : ℕ) (mid next : DiskState) → IfSome content (λ held. IsOpened version held m count place mid) → ((w : Head) (pairs : List RecordPair) → EndsAt w pairs place mid → Keeps w pairs later next) → IfSome content (λ held. IsKeptOn version held m count later next)
+begun None version m count place later mid next read keeps = tt
+begun (Some held) version m count place later mid next read keeps = (read.0, read.1, read.2, read.3, read.4, keeps (head_of read.0) (map records_of read.1) read.5)
 
--- a new disk was begun
-pub begun_new : (content : Option (List ℕ)) (begin : Start) (m : Market) (place : ℕ) (start next : DiskState) → m ≡ market_of begin → IfSome content (λ held. IsFound None held start) → IfSome content (λ _. Keeps (head_of begin) [] place next) → IfSome content (λ held. IsBegun held begin begin m place next)
-begun_new None begin m place start next is found keeps = tt
-begun_new (Some held) begin m place start next is found keeps = ([], inr ((found.0, found.1), refl, is, refl), keeps)
-
--- the old entries of a disk are a valid journal
-pub opens_journal : (held : List ℕ) (begin input : Start) (old : Pairs) (m : Market) → CanStart input → OpensAs held begin old m input → IsKeptJournal begin old m
-opens_journal held begin input old m starts (inl legal) = legal.0.2
-opens_journal held begin input old m starts (inr new) = subst (λ (l : Pairs). IsKeptJournal begin l m) (sym new.1) (none_read begin m (subst CanStart new.3 starts) new.2)
-
--- a disk that was begun can be served on
-pub can_serve : (content now : Option (List ℕ)) (begin input : Start) (m : Market) (place : ℕ) (mid : DiskState) → CanStart input → (IsSome now → IsSome content) → IfSome content (λ held. IsBegun held begin input m place mid)
-    → IfSome now (λ _. (w : Start) × (old : Pairs) × IsKeptJournal w old m × Keeps (head_of w) (map records_of old) place mid)
-can_serve content None begin input m place mid starts told begun = tt
-can_serve None (Some bytes) begin input m place mid starts told begun = absurd (went_well (told refl))
-can_serve (Some held) (Some bytes) begin input m place mid starts told begun = (begin, begun.0, opens_journal held begin input begun.0 m starts begun.1, begun.2)
-
--- two openings as one journal have as many entries
-legal_count : (a b : Start) (p q : Pairs) (m n : Market) → Legal a p m ≡ Legal b q n → length p ≡ length q
-legal_count a b p q m n e = cc
-
--- what was opened was read to its end
-pub read_known : (version : Version) (content : Option (List ℕ)) (start mid next : DiskState) (first market : Market) (from place : ℕ) → mid.content ≡ start.content → next.content ≡ mid.content → content ≡ start.content → IfSome content (λ held. IsFound (Some version) held start)
-    → ((rest bytes : List ℕ) → start.content ≡ Some bytes → Holds (record { version = version; first = None }) [] 8 rest start → BeginsAt version bytes first from mid)
-    → ((begin : Start) (rest : List ℕ) → CanStart begin → first ≡ market_of begin → Holds (head_of begin) [] from rest mid → (legal : Pairs) × IsKeptJournal begin legal market × EndsAt (head_of begin) (map records_of legal) place next)
-    → IfSome content (λ held. IsOpened version held market place next)
-read_known version None start mid next first market from place same again told is begins found = tt
-read_known version (Some held) start mid next first market from place same again told is begins found =
-    let at = begins (drop 8 held) held (sym told) is.2 in
-    let all = found at.begin at.rest at.starts at.market_is at.holds in
-    (at.begin, at.version_is, (all.0, (is.0, is.1, all.1, ends_have (head_of at.begin) (map records_of all.0) place next held all.2 (again ∙ same ∙ sym told)), all.2))
-
--- and its entries were counted
-pub count_known : (version : Version) (content : Option (List ℕ)) (start mid next : DiskState) (first market : Market) (from place count : ℕ) → mid.content ≡ start.content → next.content ≡ mid.content → content ≡ start.content → IfSome content (λ held. IsFound (Some version) held start)
+-- what was opened was read to its end, and its entries were counted
+pub read_known : (version : Version) (content : Option (List ℕ)) (start mid next : DiskState) (first market : Market) (from place count : ℕ) → mid.content ≡ start.content → next.content ≡ mid.content → content ≡ start.content → IfSome content (λ held. IsFound (Some version) held start)
     → ((rest bytes : List ℕ) → start.content ≡ Some bytes → Holds (record { version = version; first = None }) [] 8 rest start → BeginsAt version bytes first from mid)
     → ((begin : Start) (rest : List ℕ) → CanStart begin → first ≡ market_of begin → Holds (head_of begin) [] from rest mid → (legal : Pairs) × (count ≡ length legal) × IsKeptJournal begin legal market × EndsAt (head_of begin) (map records_of legal) place next)
-    → IfSome content (IsCounted count)
-count_known version None start mid next first market from place count same again told is begins found = tt
-count_known version (Some held) start mid next first market from place count same again told is begins found = λ begin old m opens.
+    → IfSome content (λ held. IsOpened version held market count place next)
+read_known version None start mid next first market from place count same again told is begins found = tt
+read_known version (Some held) start mid next first market from place count same again told is begins found =
     let at = begins (drop 8 held) held (sym told) is.2 in
     let all = found at.begin at.rest at.starts at.market_is at.holds in
-    let opened : IsOpening held (Legal at.begin all.0 market) = (is.0, is.1, all.2, ends_have (head_of at.begin) (map records_of all.0) place next held all.3 (again ∙ same ∙ sym told)) in
-    let one : Legal at.begin all.0 market ≡ Legal begin old m = one_opening held (Legal at.begin all.0 market) (Legal begin old m) opened opens in
-    all.1 ∙ legal_count at.begin begin all.0 old market m one
+    (at.begin, all.0, at.version_is, (is.0, is.1, all.2, ends_have (head_of at.begin) (map records_of all.0) place next held all.3 (again ∙ same ∙ sym told)), all.1, all.3)
 
 -- no beginning was found
 pub first_known : (version : Version) (content : Option (List ℕ)) (start next : DiskState) (fault : OpenFault) → content ≡ start.content → next.content ≡ start.content → IfSome content (λ held. IsFound (Some version) held start)
@@ -336,29 +245,15 @@ pub untouched_so : (content : Option (List ℕ)) (P : Type 0) → P → IfSome c
 untouched_so None P p = tt
 untouched_so (Some held) P p = λ none. p
 
-pub none_read_up : (content : Option (List ℕ)) (version : Version) (m : Market) (place : ℕ) (mid : DiskState) (P : Type 0) → IfSome content (λ held. IsOpened version held m place mid) → IfSome content (λ held. KeepNone held → P)
-none_read_up None version m place mid P read = tt
-none_read_up (Some held) version m place mid P read = λ none. absurd (none.1 read.0 read.2.0 m read.2.1)
+pub none_read_up : (content : Option (List ℕ)) (version : Version) (m : Market) (count place : ℕ) (mid : DiskState) (P : Type 0) → IfSome content (λ held. IsOpened version held m count place mid) → IfSome content (λ held. KeepNone held → P)
+none_read_up None version m count place mid P read = tt
+none_read_up (Some held) version m count place mid P read = λ none. absurd (none.1 read.0 read.1 m read.3)
 
-not_begun_none : (held : List ℕ) (begin input : Start) (old : Pairs) (m : Market) → OpensAs held begin old m input → ¬ KeepNone held
-not_begun_none held begin input old m (inl legal) none = none.1 begin old m legal.0
-not_begun_none held begin input old m (inr new) none = none.0 new.0
-
-pub none_begun : (content : Option (List ℕ)) (begin input : Start) (m : Market) (place : ℕ) (mid : DiskState) (P : Type 0) → IfSome content (λ held. IsBegun held begin input m place mid) → IfSome content (λ held. KeepNone held → P)
-none_begun None begin input m place mid P begun = tt
-none_begun (Some held) begin input m place mid P begun = λ none. absurd (not_begun_none held begin input begun.0 m begun.1 none)
-
-pub none_kept_on : (content : Option (List ℕ)) (version : Version) (m : Market) (place : ℕ) (mid : DiskState) (P : Type 0) → IfSome content (λ held. IsKeptOn version held m place mid) → IfSome content (λ held. KeepNone held → P)
-none_kept_on None version m place mid P begun = tt
-none_kept_on (Some held) version m place mid P begun = λ none. absurd (not_begun_none held begun.0 (Empty version) begun.2.0 m begun.2.1 none)
+pub none_kept_on : (content : Option (List ℕ)) (version : Version) (m : Market) (count place : ℕ) (mid : DiskState) (P : Type 0) → IfSome content (λ held. IsKeptOn version held m count place mid) → IfSome content (λ held. KeepNone held → P)
+none_kept_on None version m count place mid P begun = tt
+none_kept_on (Some held) version m count place mid P begun = λ none. absurd (none.1 begun.0 begun.1 m begun.3)
 
 -- a disk that keeps no valid journal isn't new
 pub none_new : (content : Option (List ℕ)) (start : DiskState) (P : Type 0) → IfSome content (λ held. IsFound None held start) → IfSome content (λ held. KeepNone held → P)
 none_new None start P found = tt
 none_new (Some held) start P found = λ none. absurd (none.0 (found.0, found.1))
-
--- the disk was only looked at before
-pub untouched_first : (a b c : DiskState) (P Q : Type 0) → OnlyLooks a b → IfSome b.content (λ held. KeepNone held → P × OnlyLooks b c × Q) → IfSome a.content (λ held. KeepNone held → P × OnlyLooks a c × Q)
-untouched_first a b c P Q looks is =
-    subst (λ (o : Option (List ℕ)). IfSome o (λ held. KeepNone held → P × OnlyLooks a c × Q)) looks.content
-    (if_some b.content _ _ (λ (held : List ℕ) so none. let it = so none in (it.0, looks_more a b c looks it.1, it.2)) is)

@@ -29,3 +29,7 @@ on_err (Err e) P Q f p = f e p
 pub if_some : {T : Type 0} (o : Option T) (P Q : T → Type 0) → ((x : T) → P x → Q x) → IfSome o P → IfSome o Q
 if_some None P Q f p = tt
 if_some (Some x) P Q f p = f x p
+
+pub if_both : {T : Type 0} (o : Option T) (P Q R : T → Type 0) → ((x : T) → P x → Q x → R x) → IfSome o P → IfSome o Q → IfSome o R
+if_both None P Q R f p q = tt
+if_both (Some x) P Q R f p q = f x p q

@@ -12,11 +12,10 @@ use Rattle.disk_edge.proofs.Moments.{weaker, then_more, at_the_end}
 use Rattle.journal_disk.specs.Pairs.{RecordPair}
 use Rattle.journal_disk.specs.Entries.{Head, framed, entries, Keeps}
 use Rattle.journal_disk.proofs.Entries.{length-framed}
-use Rattle.journal_disk.specs.Looking.{OnlyLooks}
 use Rattle.journal_disk.specs.Lengths.{HasAtMost, LeavesAtMost, ReachesAtMost}
 use Rattle.journal_disk.proofs.Lengths.{reach_wider, reach_more, reach_none}
-use Rattle.journal_keeping.specs.Starts.{head_of, source_start}
-use Rattle.journal_keeping.specs.Beginning.{IsAfterStart, IsStored, IsBegun}
+use Rattle.journal_keeping.specs.Starts.{head_of, source_start, source_format}
+use Rattle.journal_keeping.specs.Beginning.{IsAfterSource, IsStored, IsBegun}
 use Rattle.journal_keeping.specs.Lengths.{BringsAtMost, GrowsAtMost, HasYetAtMost}
 
 -- ---- the bytes that may be served yet
@@ -49,7 +48,7 @@ yet_read count old new before after fills (inr held) =
     inr (less.0, less.1, omega (arith, held.2, less.2, length-append fills.joined fills.past, length-append old.held fills.joined, ap (λ (w : WindowState). length w.held) fills.holds))
 
 -- the window is after the beginning of the source: so many bytes fewer may be served
-yet_after : (limit count : ℕ) (input : Start) (window : WindowState) (content after : Option (List ℕ)) → IsAfterStart limit input window content after → BringsAtMost limit content count
+yet_after : (limit count : ℕ) (input : Start) (window : WindowState) (content after : Option (List ℕ)) → IsAfterSource limit input window content after → BringsAtMost limit content count
     → (length (source_start input) ≤ count) × HasYetAtMost (count - length (source_start input)) window after
 yet_after limit count input window content after following (inl up) = (omega (arith, up, following.few, ap length following.magic.1, length-append (source_start input) window.held), inl (omega (arith, up, following.limited, following.place)))
 yet_after limit count input window content after following (inr held) =
@@ -98,43 +97,11 @@ module _ (first window : WindowState) (before rest : Option (List ℕ)) (from pl
 
 -- ---- the whole call
 
--- a disk that grew no longer than a new one
-pub grows_short : (limit : ℕ) (content : Option (List ℕ)) (start end : DiskState) → ReachesAtMost 9 start end → GrowsAtMost limit content start end
-grows_short limit content start end reach = λ most count nine short brings.
-    weaker start end (HasAtMost most) (HasAtMost (most + 263183 * count)) (λ image le. omega (arith, le)) (reach most nine short)
-
-pub short_within : (size : ℕ) (start end : DiskState) → ReachesAtMost 9 start end → (most : ℕ) → 9 ≤ most → LeavesAtMost most start → AtEachMoment start end (HasAtMost (most + size))
-short_within size start end reach most nine short = weaker start end (HasAtMost most) (HasAtMost (most + size)) (λ image le. omega (arith, le)) (reach most nine short)
-
--- the disk was only looked at before
-pub grows_first : (limit : ℕ) (content : Option (List ℕ)) (start mid end : DiskState) → IsDisk mid → OnlyLooks start mid → GrowsAtMost limit content mid end → GrowsAtMost limit content start end
-grows_first limit content start mid end is_disk looks grows = λ most count nine short brings.
-    let there = weaker start mid start.images (HasAtMost most) short looks.moments in
-    then_more start mid end (HasAtMost (most + 263183 * count)) (weaker start mid (HasAtMost most) (HasAtMost (most + 263183 * count)) (λ image le. omega (arith, le)) there)
-    (grows most count nine (at_the_end start mid (HasAtMost most) is_disk there) brings)
-
-pub within_first : (size : ℕ) (start mid end : DiskState) → IsDisk mid → OnlyLooks start mid → ((most : ℕ) → 9 ≤ most → LeavesAtMost most mid → AtEachMoment mid end (HasAtMost (most + size))) → (most : ℕ) → 9 ≤ most → LeavesAtMost most start → AtEachMoment start end (HasAtMost (most + size))
-within_first size start mid end is_disk looks within most nine short =
-    let there = weaker start mid start.images (HasAtMost most) short looks.moments in
-    then_more start mid end (HasAtMost (most + size)) (weaker start mid (HasAtMost most) (HasAtMost (most + size)) (λ image le. omega (arith, le)) there)
-    (within most nine (at_the_end start mid (HasAtMost most) is_disk there))
-
 -- the first entry isn't longer than the beginning of the source
 pub stored_few : (input : Start) (stored : List ℕ) → IsStored input stored → length stored ≤ length (source_start input)
 stored_few (Empty version) stored is = omega (arith, ap length is)
 stored_few (Kept market) stored is =
     omega (arith, ap length is, length-append (framed (checkpoint_bytes market)) (0 ∷ []), length-framed (checkpoint_bytes market), length-append (checkpoint_bytes market) (command_magic_of market.version), eight market.version)
-
--- so a new disk grew no longer than by that beginning
-pub start_within : (input : Start) (stored : List ℕ) (start end : DiskState) → IsStored input stored → ReachesAtMost (9 + length stored) start end → (most : ℕ) → 9 ≤ most → LeavesAtMost most start → AtEachMoment start end (HasAtMost (most + length (source_start input)))
-start_within input stored start end is reach most nine short =
-    reach (most + length (source_start input)) (omega (arith, nine, stored_few input stored is)) (λ image left. omega (arith, short image left))
-
-pub grows_start : (limit : ℕ) (input : Start) (window : WindowState) (content after : Option (List ℕ)) → IsAfterStart limit input window content after → (start end : DiskState)
-    → ((most : ℕ) → 9 ≤ most → LeavesAtMost most start → AtEachMoment start end (HasAtMost (most + length (source_start input)))) → GrowsAtMost limit content start end
-grows_start limit input window content after following start end within = λ most count nine short brings.
-    weaker start end (HasAtMost (most + length (source_start input))) (HasAtMost (most + 263183 * count))
-    (λ image le. omega (arith, le, (yet_after limit count input window content after following brings).0)) (within most nine short)
 
 -- the commit byte that isn't set is among the bytes that a crash leaves
 pub last_commit : (head : Head) (pairs : List RecordPair) (place most : ℕ) (disk : DiskState) → IsDisk disk → Keeps head pairs place disk → LeavesAtMost most disk → place + 1 ≤ most
@@ -143,15 +110,20 @@ last_commit head pairs place most disk is_disk keeps short =
     let left : disk.images bytes = subst (λ (o : Option (List ℕ)). IfSome o disk.images) keeps.2.content is_disk.content in
     omega (arith, short bytes left, length-append (entries head pairs) (keeps.0 ∷ []), keeps.2.begins)
 
-pub grows_served : (limit : ℕ) (begin input : Start) (window : WindowState) (content after : Option (List ℕ)) → IsAfterStart limit input window content after → (start mid end : DiskState) → IsDisk mid
-    → ((most : ℕ) → 9 ≤ most → LeavesAtMost most start → AtEachMoment start mid (HasAtMost (most + length (source_start input)))) → (held : List ℕ) (market : Market) (place : ℕ) → IsBegun held begin input market place mid
-    → ((count : ℕ) → HasYetAtMost count window after → ReachesAtMost (place + 263183 * count + 1) mid end) → GrowsAtMost limit content start end
-grows_served limit begin input window content after following start mid end is_disk within held market place begun served = λ most count nine short brings.
+pub grows_served : (limit : ℕ) (begin input : Start) (window : WindowState) (content after : Option (List ℕ)) → IsAfterSource limit input window content after → (start mid end : DiskState) → IsDisk mid
+    → ((most : ℕ) → 9 ≤ most → LeavesAtMost most start → AtEachMoment start mid (HasAtMost (most + 2 * length (source_start input)))) → (held : List ℕ) (market : Market) (entries place : ℕ) → IsBegun source_format held begin input market entries place mid
+    → ((count : ℕ) → HasYetAtMost count window after → ReachesAtMost (place + 263183 * count + 1) mid end) → GrowsAtMost 263183 limit content start end
+grows_served limit begin input window content after following start mid end is_disk within held market entries place begun served = λ most count nine short brings.
     let size = length (source_start input) in
     let run = within most nine short in
-    let there = at_the_end start mid (HasAtMost (most + size)) is_disk run in
-    let last = last_commit (head_of begin) _ place (most + size) mid is_disk begun.2 there in
+    let there = at_the_end start mid (HasAtMost (most + 2 * size)) is_disk run in
+    let last = last_commit (head_of begin) _ place (most + 2 * size) mid is_disk begun.3 there in
     let yet = yet_after limit count input window content after following brings in
     let all = most + 263183 * count in
-    then_more start mid end (HasAtMost all) (weaker start mid (HasAtMost (most + size)) (HasAtMost all) (λ image le. omega (arith, le, yet.0)) run)
+    then_more start mid end (HasAtMost all) (weaker start mid (HasAtMost (most + 2 * size)) (HasAtMost all) (λ image le. omega (arith, le, yet.0)) run)
     (served (count - size) yet.1 all (omega (arith, last, yet.0)) (λ image left. omega (arith, there image left, yet.0)))
+
+-- a disk that grew by two bytes for each that was brought grew by no more than for an entry
+pub grows_unserved : (limit : ℕ) (content : Option (List ℕ)) (start end : DiskState) → GrowsAtMost 2 limit content start end → GrowsAtMost 263183 limit content start end
+grows_unserved limit content start end grows = λ most count nine short brings.
+    weaker start end (HasAtMost (most + 2 * count)) (HasAtMost (most + 263183 * count)) (λ image le. omega (arith, le)) (grows most count nine short brings)

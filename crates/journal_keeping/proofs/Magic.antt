@@ -9,11 +9,16 @@ use Rattle.wire_records.specs.Grammars.{BeginsWith, BeginsWithNone}
 use Rattle.wire_records.specs.Formats.{commands, command_magic_of}
 use Rattle.wire_records.proofs.RecordCode.{eight}
 use Rattle.wire_records.specs.declared.version.Version.{Version}
+use Rattle.word_driver.specs.Does.{IsTaken}
 use Rattle.market_history.specs.Histories.{Empty}
 use Rattle.file_units.proofs.Gone.{considered, within_limit}
-use Rattle.journal_keeping.specs.Starts.{source_start, sources}
-use Rattle.journal_keeping.specs.Beginning.{IsAfterStart, BreaksOffEarly, IsNoneOf}
+use Rattle.journal_keeping.specs.Starts.{source_start, sources, IsNoSource, IsUnbegun}
+use Rattle.journal_keeping.specs.Beginning.{IsAfterSource}
 use Rattle.journal_keeping.proofs.Starts.{input_long, magic_long}
+
+-- so many bytes were taken, which have no whole beginning of a source
+abbrev pub BreaksOffEarly : ℕ → Option (List ℕ) → List ℕ → Type 0
+BreaksOffEarly limit left bytes = (n : ℕ) × IsTaken bytes left n × IsUnbegun n (take n (take limit bytes))
 
 -- fewer than eight bytes have no magic
 pub short_has_none : (version : Version) (bytes body : List ℕ) → length bytes < 8 → ¬ BeginsWith commands.magics bytes version body
@@ -29,15 +34,15 @@ prefix_has version held more body some is =
 pub short_no_input : (bytes : List ℕ) → length bytes < 8 → BeginsWithNone sources.magics bytes
 short_no_input bytes few input rest lawful e = omega (arith, few, input_long input, ap length e, length-append (source_start input) rest)
 
-none_of_short : (wanted : Option Version) (bytes : List ℕ) → length bytes < 8 → IsNoneOf wanted bytes
+none_of_short : (wanted : Option Version) (bytes : List ℕ) → length bytes < 8 → IsNoSource wanted bytes
 none_of_short None bytes few = (short_no_input bytes few, λ unsound. omega (arith, few, magic_long bytes unsound.0))
 none_of_short (Some own) bytes few = λ body begins. short_has_none own bytes body few begins
 
-none_of_more : (own : Version) (held more : List ℕ) → 8 ≤ length held → IsNoneOf (Some own) held → IsNoneOf (Some own) (held ++ more)
+none_of_more : (own : Version) (held more : List ℕ) → 8 ≤ length held → IsNoSource (Some own) held → IsNoSource (Some own) (held ++ more)
 none_of_more own held more some none = λ body begins. none (drop 8 held) (prefix_has own held more body some begins.1)
 
 -- the version that was found isn't this one
-pub none_found : (found own : Version) (held : List ℕ) → ((v : Version) → (◌≡◌ {A = Option Version} (Some found) (Some v)) ↔ ((body : List ℕ) × BeginsWith commands.magics held v body)) → (¬ (found ≡ own)) → IsNoneOf (Some own) held
+pub none_found : (found own : Version) (held : List ℕ) → ((v : Version) → (◌≡◌ {A = Option Version} (Some found) (Some v)) ↔ ((body : List ℕ) × BeginsWith commands.magics held v body)) → (¬ (found ≡ own)) → IsNoSource (Some own) held
 none_found found own held exact other = λ body begins. other (some_same found own ((exact own).1 (body, begins)))
   where
     some_same : (v w : Version) → ◌≡◌ {A = Option Version} (Some v) (Some w) → v ≡ w
@@ -107,7 +112,7 @@ module _ (limit : ℕ) (filled : WindowState) (before after : Option (List ℕ))
 
   -- the bytes begin with the magic
   pub after_magic : (version : Version) (window : WindowState) (body : List ℕ) → filled.over ≡ None → BeginsWith commands.magics filled.held version body
-      → window ≡ record filled { held = drop 8 filled.held; place = filled.place + 8 } → length filled.held ≤ filled.room → IsAfterStart limit (Empty version) window before after
+      → window ≡ record filled { held = drop 8 filled.held; place = filled.place + 8 } → length filled.held ≤ filled.room → IsAfterSource limit (Empty version) window before after
   after_magic version window body open_still magic advanced few = record {
     limited = ap (λ (w : WindowState). w.limit) advanced ∙ limited;
     place = ap (λ (w : WindowState). w.place) advanced ∙ ap (λ (n : ℕ). n + 8) place ∙ sym (eight version);
@@ -135,7 +140,7 @@ module _ (limit : ℕ) (filled : WindowState) (before after : Option (List ℕ))
 
   module _ (wanted : Option Version) where
     -- the source ended before eight bytes
-    ended_short : length filled.held < 8 → filled.over ≡ Some Source → IfSome after (λ left. left ≡ []) → (told left : Option (List ℕ)) → told ≡ before → left ≡ after → IfSome told (λ bytes. IsNoneOf wanted (take limit bytes))
+    ended_short : length filled.held < 8 → filled.over ≡ Some Source → IfSome after (λ left. left ≡ []) → (told left : Option (List ℕ)) → told ≡ before → left ≡ after → IfSome told (λ bytes. IsNoSource wanted (take limit bytes))
     ended_short few over all None left is also = tt
     ended_short few over all (Some bytes) None is also =
         absurd (subst (λ (o : Option (List ℕ)). Takes o None filled.held) (sym is) (subst (λ (o : Option (List ℕ)). Takes before o filled.held) (sym also) (takes_held (λ e. source_no_limit (sym over ∙ e)))))
@@ -144,26 +149,26 @@ module _ (limit : ℕ) (filled : WindowState) (before after : Option (List ℕ))
         let none : left ≡ [] = subst (λ (o : Option (List ℕ)). IfSome o (λ (l : List ℕ). l ≡ [])) (sym also) all in
         none_of_short wanted (take limit bytes) (omega (arith, few, ap length taken, ap length none, length-append filled.held left, length-take limit bytes))
 
-    pub ended_before : length filled.held < 8 → filled.over ≡ Some Source → IfSome after (λ left. left ≡ []) → IfSome before (λ bytes. IsNoneOf wanted (take limit bytes))
+    pub ended_before : length filled.held < 8 → filled.over ≡ Some Source → IfSome after (λ left. left ≡ []) → IfSome before (λ bytes. IsNoSource wanted (take limit bytes))
     ended_before few over all = ended_short few over all before after refl refl
 
     -- the limit was reached before eight bytes
-    limit_short : limit < 8 → (told : Option (List ℕ)) → IfSome told (λ bytes. IsNoneOf wanted (take limit bytes))
+    limit_short : limit < 8 → (told : Option (List ℕ)) → IfSome told (λ bytes. IsNoSource wanted (take limit bytes))
     limit_short few None = tt
     limit_short few (Some bytes) = none_of_short wanted (take limit bytes) (omega (arith, few, length-take limit bytes))
 
-    pub limit_before : length filled.held < 8 → filled.over ≡ Some Limit → IfSome before (λ bytes. IsNoneOf wanted (take limit bytes))
+    pub limit_before : length filled.held < 8 → filled.over ≡ Some Limit → IfSome before (λ bytes. IsNoSource wanted (take limit bytes))
     limit_before few over =
         let full : filled.place + length filled.held ≡ filled.limit = subst (λ (o : Option InputEnd). IsWithin filled.place (length filled.held) filled.limit o) over inside in
         limit_short (omega (arith, full, few, place, limited)) before
 
   -- another magic, or none
-  other : (own : Version) → 8 ≤ length filled.held → IsNoneOf (Some own) filled.held → (told left : Option (List ℕ)) → Takes told left filled.held → IfSome told (λ bytes. IsNoneOf (Some own) (take limit bytes))
+  other : (own : Version) → 8 ≤ length filled.held → IsNoSource (Some own) filled.held → (told left : Option (List ℕ)) → Takes told left filled.held → IfSome told (λ bytes. IsNoSource (Some own) (take limit bytes))
   other own some none None left takes = tt
   other own some none (Some bytes) None takes = absurd takes
   other own some none (Some bytes) (Some left) takes =
       let whole : take limit bytes ≡ filled.held ++ take (limit - length filled.held) left = ap (take limit) takes ∙ considered limit filled.held left within in
-      subst (IsNoneOf (Some own)) (sym whole) (none_of_more own filled.held (take (limit - length filled.held) left) some none)
+      subst (IsNoSource (Some own)) (sym whole) (none_of_more own filled.held (take (limit - length filled.held) left) some none)
 
-  pub other_magic : (own : Version) → filled.over ≡ None → 8 ≤ length filled.held → IsNoneOf (Some own) filled.held → IfSome before (λ bytes. IsNoneOf (Some own) (take limit bytes))
+  pub other_magic : (own : Version) → filled.over ≡ None → 8 ≤ length filled.held → IsNoSource (Some own) filled.held → IfSome before (λ bytes. IsNoSource (Some own) (take limit bytes))
   other_magic own open_still some none = other own some none before after (takes_held (λ is. not_limit (sym open_still ∙ is)))

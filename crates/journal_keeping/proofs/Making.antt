@@ -4,17 +4,20 @@ use Rattle.std.specs.Prelude.{IfErr}
 use Rattle.std.proofs.Math.Seq.{take-append-add}
 use Rattle.flow_io.specs.Streams.{Takes}
 use Rattle.flow_io.specs.Windows.{WindowState}
+use Rattle.wire_records.specs.Records.{longest_record}
 use Rattle.wire_records.specs.Grammars.{BeginsWith}
 use Rattle.wire_records.specs.declared.version.Version.{Version}
+use Rattle.market_rules.specs.Market.{Market}
 use Rattle.market_history.specs.Histories.{Start}
 use Rattle.disk_edge.specs.Disks.{DiskState}
 use Rattle.journal_disk.specs.Entries.{IsNewDisk}
 use Rattle.journal_disk.specs.Recovering.{IsFound}
 use Rattle.journal_disk.specs.Looking.{OnlyLooks}
 use Rattle.journal_disk.proofs.GoingOn.{looks_more}
-use Rattle.journal_keeping.specs.Starts.{source_start, sources}
-use Rattle.journal_keeping.specs.Beginning.{IsAfterStart}
-use Rattle.journal_keeping.specs.Making.{HasTakenStart}
+use Rattle.journal_keeping.specs.Inputs.{InputBegins, HasShownStart, IsAfterStart}
+use Rattle.journal_keeping.specs.Starts.{source_start, sources, source_format}
+use Rattle.journal_keeping.specs.Beginning.{IsAfterSource, OpensStart, TakesStart}
+use Rattle.journal_keeping.proofs.Lengths.{stored_few}
 
 pub each_some : {T : Type 0} (o : Option T) (P : T → Type 0) → ((x : T) → P x) → IfSome o P
 each_some None P p = tt
@@ -62,22 +65,21 @@ module _ (limit : ℕ) (w : WindowState) (input : Start) (first : List ℕ) (beg
   counts_taken : (bytes m taken l : List ℕ) → bytes ≡ first ++ m → m ≡ taken ++ l → length (first ++ taken) + length l ≡ length bytes
   counts_taken bytes m taken l opens takes = omega (arith, ap length opens, ap length takes, length-append first m, length-append taken l, length-append first taken)
 
-  has_told : (o m l : Option (List ℕ)) (taken : List ℕ) → Takes o m first → Takes m l taken → IfSome o (λ bytes. HasTakenStart limit bytes l)
+  has_told : (o m l : Option (List ℕ)) (taken : List ℕ) → Takes o m first → Takes m l taken → IfSome o (λ bytes. HasShownStart source_format limit bytes l)
   has_told None m l taken opens takes = tt
   has_told (Some bytes) None l taken opens takes = absurd opens
   has_told (Some bytes) (Some m) None taken opens takes = absurd takes
   has_told (Some bytes) (Some m) (Some l) taken opens takes =
-      (length (first ++ taken), counts_taken bytes m taken l opens takes, input, take (length (w.held ++ taken)) (take (limit - length start) (w.held ++ (taken ++ l))), (begins.0, begins_taken bytes m taken l opens takes))
+      let body = take (length (w.held ++ taken)) (take (limit - length start) (w.held ++ (taken ++ l))) in
+      let is = begins_taken bytes m taken l opens takes in
+      (length (first ++ taken), counts_taken bytes m taken l opens takes, input, body, (begins.0, is), inl (λ part. part.0 input body begins.0 is))
 
-pub start_taken : (limit : ℕ) (w : WindowState) (input : Start) (content mid left : Option (List ℕ)) (taken : List ℕ) → IsAfterStart limit input w content mid → Takes mid left taken → IfSome content (λ bytes. HasTakenStart limit bytes left)
+-- what was taken of a source shows how it begins, and so does more of it
+pub start_taken : (limit : ℕ) (w : WindowState) (input : Start) (content mid left : Option (List ℕ)) (taken : List ℕ) → IsAfterSource limit input w content mid → Takes mid left taken → IfSome content (λ bytes. HasShownStart source_format limit bytes left)
 start_taken limit w input content mid left taken following takes = has_told limit w input following.first following.magic following.few content mid left taken following.takes takes
 
--- the first `limit` bytes of the source begin so, if its content is known
-abbrev pub SourceBegins : ℕ → Option (List ℕ) → Start → Type 0
-SourceBegins limit content input = IfSome content (λ bytes. (body : List ℕ) × BeginsWith sources.magics (take limit bytes) input body)
-
--- and so it is within the limit
-pub source_begins : (limit : ℕ) (w : WindowState) (input : Start) (content left : Option (List ℕ)) → IsAfterStart limit input w content left → SourceBegins limit content input
+-- the source begins so within the limit
+source_begins : (limit : ℕ) (w : WindowState) (input : Start) (content left : Option (List ℕ)) → IsAfterSource limit input w content left → InputBegins source_format limit content input
 source_begins limit w input None left following = tt
 source_begins limit w input (Some bytes) None following = absurd following.takes
 source_begins limit w input (Some bytes) (Some m) following = (
@@ -92,3 +94,42 @@ source_begins limit w input (Some bytes) (Some m) following = (
   where
     start_within : (limit : ℕ) (w : WindowState) (input : Start) (first : List ℕ) → BeginsWith sources.magics first input w.held → length first ≤ limit → limit ≡ length (source_start input) + (limit - length (source_start input))
     start_within limit w input first begins few = omega (arith, few, ap length begins.1, length-append (source_start input) w.held)
+
+-- A window after the beginning of a source is one after that of an input.
+module _ (limit : ℕ) (w : WindowState) (input : Start) (content left : Option (List ℕ)) where
+  pub after_source : IsAfterSource limit input w content left → IsAfterStart source_format limit input w content left
+  after_source following =
+      let long = ap length following.magic.1 ∙ length-append (source_start input) w.held in
+      record {
+        starts = following.magic.0;
+        limited = following.limited;
+        place = following.place;
+        takes = subst (Takes content left) following.magic.1 following.takes;
+        within = omega (arith, following.place, following.limited, following.few, long);
+        near = following.held;
+        begins = source_begins limit w input content left following;
+        shown = start_taken limit w input content left left [] following (takes_none left);
+      }
+
+  pub as_source : IsAfterStart source_format limit input w content left → w.room ≡ longest_record → w.over ≡ None → IsAfterSource limit input w content left
+  as_source following room over = record {
+    limited = following.limited;
+    place = following.place;
+    room = room;
+    over = over;
+    first = source_start input ++ w.held;
+    takes = following.takes;
+    magic = (following.starts, refl);
+    few = omega (arith, following.place, following.limited, following.within, length-append (source_start input) w.held);
+    held = following.near;
+  }
+
+pub takes_start : (limit : ℕ) (market : Market) (stored : List ℕ) (w : WindowState) (content left : Option (List ℕ)) → OpensStart limit market stored w content left → TakesStart source_format limit market stored w content left
+takes_start limit market stored w content left opens = record {
+  begin = opens.begin;
+  may = tt;
+  following = after_source limit w opens.begin content left opens.following;
+  market_is = opens.market_is;
+  stored_is = opens.stored_is;
+  few = omega (arith, stored_few opens.begin stored opens.stored_is);
+}

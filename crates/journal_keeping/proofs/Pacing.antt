@@ -29,14 +29,15 @@ use Rattle.journal_keeping.specs.declared.fault.ServeFault.{ServeFault}
 use Rattle.journal_keeping.specs.declared.fault.ServeFault.TheVariants.{Disk, Write, Memory}
 use Rattle.journal_keeping.specs.declared.fault.KeepFault.TheVariants as kept
 use Rattle.journal_keeping.specs.Faults.{of_begin, kept_result}
-use Rattle.journal_keeping.specs.Starts.{version_of, source_start, sources}
+use Rattle.journal_keeping.specs.Inputs.{IsNearStart}
+use Rattle.journal_keeping.specs.Starts.{version_of, source_start, sources, source_format}
 use Rattle.journal_keeping.specs.Pacing.{asked_of, AnswersAll, IsNear, KeepsPace, RunsOut}
 use Rattle.journal_keeping.specs.Private.{Adds, Names, ServesOn}
-use Rattle.journal_keeping.specs.Beginning.{IsBegun, IsAfterStart, BreaksOffEarly, NotBegun, IsNearStart, Unread}
+use Rattle.journal_keeping.specs.Beginning.{IsBegun, IsAfterSource, NotBegun, Unread}
 use Rattle.journal_keeping.proofs.Turns.{Pairs}
-use Rattle.journal_keeping.proofs.Magic.{at_most}
+use Rattle.journal_keeping.proofs.Magic.{BreaksOffEarly, at_most}
 use Rattle.journal_keeping.proofs.Sources.{BeginsWithAll, asked_are_units, all_before_break, all_to_wanting, starts_with}
-use Rattle.journal_keeping.proofs.Begun.{opens_journal}
+use Rattle.journal_keeping.proofs.Starting.{opens_journal}
 use Rattle.journal_keeping.proofs.Faults.{begin_memory}
 use Rattle.journal_keeping.proofs.Whole.{all_written, wanted_one}
 
@@ -50,10 +51,9 @@ read_early : (limit : ℕ) (content left held : Option (List ℕ)) → IfSome co
 read_early limit None left held few = tt
 read_early limit (Some bytes) left held few = (few.0, few.1, inl (few.2, Grows-nothing held))
 
-near_start : (limit : ℕ) (content left held : Option (List ℕ)) → IfSome content (IsNearStart limit left) → IsNear limit content left held held
+near_start : (limit : ℕ) (content left held : Option (List ℕ)) → IfSome content (λ bytes. IsNearStart source_format limit bytes left) → IsNear limit content left held held
 near_start limit None left held near = tt
-near_start limit (Some bytes) left held (n, taken, inl few) = (n, taken, inl (omega (arith, few)))
-near_start limit (Some bytes) left held (n, taken, inr (input, body, magic, few)) = (
+near_start limit (Some bytes) left held (n, taken, input, body, magic, few) = (
   n,
   taken,
   inr (record {
@@ -66,7 +66,7 @@ near_start limit (Some bytes) left held (n, taken, inr (input, body, magic, few)
   }),
 )
 
-pub paced_unread : (limit : ℕ) (content left held : Option (List ℕ)) (fault : BeginFault) → Unread limit content left fault → KeepsPace limit content left held held (Err (of_begin fault))
+pub paced_unread : (limit : ℕ) (content left held : Option (List ℕ)) (fault : BeginFault) → Unread source_format limit content left fault → KeepsPace limit content left held held (Err (of_begin fault))
 paced_unread limit content left held (Open unopened.Disk) same = subst (λ (o : Option (List ℕ)). IsNear limit content o held held) (sym same) (near_none limit content held)
 paced_unread limit content left held (Open unopened.Memory) same = inl (subst (λ (o : Option (List ℕ)). IsNear limit content o held held) (sym same) (near_none limit content held))
 paced_unread limit content left held (Open unopened.NotDisk) same = tt
@@ -80,16 +80,13 @@ paced_unread limit content left held (Input input.Memory) (wanted, inr new) = in
 paced_unread limit content left held Make near = near_start limit content left held near
 
 -- memory ran out before anything was served
-pub unread_out : (limit : ℕ) (held : List ℕ) (content left : Option (List ℕ)) (end : DiskState) (before : Option (List ℕ)) (fault : BeginFault) → NotBegun limit held content left end fault → of_begin fault ≡ kept.Memory → RunsOut limit held content left end before before
-unread_out limit held content left end before fault why is = ⊎_elim
-    (λ (e : fault ≡ Open unopened.Memory). opening (subst (NotBegun limit held content left end) e why))
-    (λ (e : fault ≡ Input input.Memory). reading (subst (NotBegun limit held content left end) e why))
+pub unread_out : (limit : ℕ) (held : List ℕ) (content left : Option (List ℕ)) (end : DiskState) (before : Option (List ℕ)) (fault : BeginFault) → NotBegun source_format limit held content left end fault → Unread source_format limit content left fault → of_begin fault ≡ kept.Memory → RunsOut limit held content left end before before
+unread_out limit held content left end before fault why unread is = ⊎_elim
+    (λ (e : fault ≡ Open unopened.Memory). inl (subst (Unread source_format limit content left) e unread, refl))
+    (λ (e : fault ≡ Input input.Memory). reading (subst (NotBegun source_format limit held content left end) e why))
     (begin_memory fault is)
   where
-    opening : NotBegun limit held content left end (Open unopened.Memory) → RunsOut limit held content left end before before
-    opening at = inl (at.1, refl)
-
-    reading : NotBegun limit held content left end (Input input.Memory) → RunsOut limit held content left end before before
+    reading : NotBegun source_format limit held content left end (Input input.Memory) → RunsOut limit held content left end before before
     reading (inl (begin, old, market, opens, inl same, place, keeps)) = inl (same, refl)
     reading (inl (begin, old, market, opens, inr new, place, keeps)) = absurd (wanted_one (version_of begin) new.0)
     reading (inr (new, same, images, inl unread)) = inl (unread, refl)
@@ -107,7 +104,7 @@ after_it : (start bytes first held taken m l : List ℕ) → bytes ≡ first ++ 
 after_it start bytes first held taken m l opens magic takes =
     opens ∙ ap (λ (xs : List ℕ). xs ++ m) magic ∙ append_assoc start held m ∙ ap (λ (xs : List ℕ). start ++ (held ++ xs)) takes
 
-module _ (limit : ℕ) (content mid left : Option (List ℕ)) (w : WindowState) (input : Start) (following : IsAfterStart limit input w content mid) (market : Market) (place : ℕ) (begun end : DiskState) (before after : Option (List ℕ)) where
+module _ (limit : ℕ) (content mid left : Option (List ℕ)) (w : WindowState) (input : Start) (following : IsAfterSource limit input w content mid) (market : Market) (place : ℕ) (begun end : DiskState) (before after : Option (List ℕ)) where
   abbrev start : List ℕ
   start = source_start input
 
@@ -213,11 +210,11 @@ module _ (limit : ℕ) (content mid left : Option (List ℕ)) (w : WindowState) 
   starts_where None taken records opens takes all = tt
   starts_where (Some bytes) taken records opens takes all = starts_with input limit bytes following.first w.held taken mid left records opens following.magic following.few takes all
 
-  pub wants_next : (held : List ℕ) (begin : Start) → IsBegun held begin input market place begun → (result : Result Ending (TakeFault ServeFault)) → Served result → result ≡ Err (Broken Memory) → RunsOut limit held content left end before after
-  wants_next held begin is result on0 lacks =
+  pub wants_next : (held : List ℕ) (begin : Start) (count : ℕ) → IsBegun source_format held begin input market count place begun → (result : Result Ending (TakeFault ServeFault)) → Served result → result ≡ Err (Broken Memory) → RunsOut limit held content left end before after
+  wants_next held begin count is result on0 lacks =
       let on = subst Served lacks on0 in
       let wanting = all_to_wanting on.market (take (w.limit - w.place) (w.held ++ known on.goes.taken left)) on.new on.more on.goes.goes.0 in
-      let kept = on.ended.2 begin is.0 (opens_journal held begin input is.0 market following.magic.0 is.1) is.2 in
+      let kept = on.ended.2 begin is.0 (opens_journal source_format limit held begin input is.0 market following.magic.0 is.1) is.3 in
       inr (inr (record {
         begin = begin;
         old = is.0;
@@ -226,7 +223,7 @@ module _ (limit : ℕ) (content mid left : Option (List ℕ)) (w : WindowState) 
         opens = is.1;
         new = on.new;
         now = on.market;
-        goes_on = on.so_far begin is.0 (opens_journal held begin input is.0 market following.magic.0 is.1) is.2;
+        goes_on = on.so_far begin is.0 (opens_journal source_format limit held begin input is.0 market following.magic.0 is.1) is.3;
         next = wanting.0;
         starts = starts_where content on.goes.taken (asked_of on.new ++ wanting.0 ∷ []) following.takes on.goes.takes
             (subst (λ (n : ℕ). BeginsWithAll (take n (w.held ++ known on.goes.taken left)) (asked_of on.new ++ wanting.0 ∷ [])) far wanting.1);

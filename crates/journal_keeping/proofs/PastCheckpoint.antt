@@ -19,11 +19,11 @@ use Rattle.journal_disk.specs.Entries.{framed}
 use Rattle.journal_keeping.specs.declared.fault.InputFault.{InputFault}
 use Rattle.journal_keeping.specs.declared.fault.InputFault.TheVariants.{Read, Memory, NotFlow}
 use Rattle.journal_keeping.specs.declared.source_start.OpenStart.{OpenStart}
+use Rattle.journal_keeping.specs.Inputs.{IsInCheckpoint}
 use Rattle.journal_keeping.specs.Starts.{BeginsOtherwise}
-use Rattle.journal_keeping.specs.Pacing.{IsInCheckpoint}
-use Rattle.journal_keeping.specs.Beginning.{OpensStart, BreaksOffEarly}
+use Rattle.journal_keeping.specs.Beginning.{OpensStart}
 use Rattle.journal_keeping.proofs.Starts.{magic_first}
-use Rattle.journal_keeping.proofs.Magic.{short_has_none, prefix_has, at_most}
+use Rattle.journal_keeping.proofs.Magic.{BreaksOffEarly, short_has_none, prefix_has, at_most}
 use Rattle.journal_keeping.proofs.SourceStart.{after_none, after_otherwise, broke_off, in_checkpoint, are_first}
 
 -- the source ended: all of its bytes were taken

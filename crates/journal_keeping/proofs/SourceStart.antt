@@ -10,11 +10,10 @@ use Rattle.market_snapshot.specs.Checkpoints.{checkpoint_magic, checkpoint_bytes
 use Rattle.market_history.specs.Histories.{Empty, Kept}
 use Rattle.market_history.proofs.Starting.{kept_magic, magic_on}
 use Rattle.market_snapshot.proofs.OneMarket.{one_market}
+use Rattle.journal_keeping.specs.Inputs.{IsInCheckpoint}
 use Rattle.journal_keeping.specs.Starts.{sources, BeginsOtherwise}
-use Rattle.journal_keeping.specs.Pacing.{IsInCheckpoint}
-use Rattle.journal_keeping.specs.Beginning.{BreaksOffEarly}
 use Rattle.journal_keeping.proofs.Starts.{no_command}
-use Rattle.journal_keeping.proofs.Magic.{prefix_has}
+use Rattle.journal_keeping.proofs.Magic.{BreaksOffEarly, prefix_has}
 
 -- ---- which bytes begin no source
 

@@ -21,27 +21,26 @@ use Rattle.file_units.specs.declared.units.Ending.{Ending}
 use Rattle.file_units.specs.declared.units.Ending.TheVariants as ending
 use Rattle.file_units.proofs.Endings.{reads_alike}
 use Rattle.disk_edge.specs.Disks.{DiskState, IsDisk}
-use Rattle.journal_disk.specs.Recovering.{IsFound}
 use Rattle.journal_disk.specs.Entries.{Keeps}
 use Rattle.file_units.specs.declared.input.TakeFault.{TakeFault}
 use Rattle.file_units.specs.declared.input.TakeFault.TheVariants.{Read, Broken}
 use Rattle.journal_keeping.specs.declared.fault.OpenFault.{OpenFault}
 use Rattle.journal_keeping.specs.declared.fault.OpenFault.TheVariants as unopened
-use Rattle.journal_keeping.specs.declared.fault.InputFault.{InputFault}
 use Rattle.journal_keeping.specs.declared.fault.InputFault.TheVariants as input
 use Rattle.journal_keeping.specs.declared.fault.BeginFault.{BeginFault}
 use Rattle.journal_keeping.specs.declared.fault.BeginFault.TheVariants.{Open, Input, Make}
 use Rattle.journal_keeping.specs.declared.fault.ServeFault.{ServeFault}
 use Rattle.journal_keeping.specs.declared.fault.ServeFault.TheVariants.{Disk, Write, Memory}
 use Rattle.journal_keeping.specs.Faults.{of_begin, kept_result}
-use Rattle.journal_keeping.specs.Starts.{version_of, head_of, source_start, sources}
+use Rattle.journal_keeping.specs.Inputs.{InputFormat}
+use Rattle.journal_keeping.specs.Starts.{version_of, head_of, source_start, sources, source_format}
 use Rattle.journal_keeping.specs.Keeping.{IsKeptJournal, StandsForJournal, IsLegalImage, HoldsLegal, GoesOn, GoesOnIn, StandIn, Runs, KeepsIn}
 use Rattle.journal_keeping.specs.Openings.{Opening, New, Legal}
 use Rattle.journal_keeping.specs.Openings as opening
 use Rattle.journal_keeping.specs.Ended.{IsRefused, HasKeptAll, ComesTo, IsRefusal, MayBeginAgain}
 use Rattle.journal_keeping.specs.Private.{Adds, ServesOn}
 use Rattle.journal_keeping.specs.Pacing.{asked_of}
-use Rattle.journal_keeping.specs.Beginning.{IsBegun, IsKeptOn, OpensNot, IsAfterStart, IsOfSource, NotBegun, Unread, OpensSafely}
+use Rattle.journal_keeping.specs.Beginning.{IsBegun, OpensNot, IsAfterSource, NotBegun, OpensSafely}
 use Rattle.journal_keeping.proofs.Serving.{unbegun, opened_first, stand_whole}
 use Rattle.journal_keeping.proofs.Ends.{take_every}
 use Rattle.journal_keeping.proofs.Again.{can_begin_again}
@@ -49,7 +48,8 @@ use Rattle.journal_keeping.proofs.Opened.{legal_is_opened}
 use Rattle.journal_keeping.proofs.Turns.{Pairs}
 use Rattle.journal_keeping.proofs.Sources.{BeginsWithAll, asked_are_units}
 use Rattle.journal_keeping.proofs.Served.{served_first, are_served}
-use Rattle.journal_keeping.proofs.Begun.{Opens, opens_journal}
+use Rattle.journal_keeping.proofs.Begun.{Opens}
+use Rattle.journal_keeping.proofs.Starting.{opens_journal}
 use Rattle.journal_keeping.proofs.Starts.{of_source}
 use Rattle.journal_keeping.proofs.Counts.{if_some}
 use Rattle.journal_keeping.proofs.Faults.{begin_refusal, no_refusal_disk, no_refusal_memory}
@@ -57,7 +57,7 @@ use Rattle.journal_keeping.proofs.Faults.{begin_refusal, no_refusal_disk, no_ref
 -- ---- what a run does to the disk and to the output
 
 -- before the first record
-pub keeps_none : (limit : ℕ) (content : Option (List ℕ)) (Cut : Type 0) (begin : Start) (start next : DiskState) (old : Pairs) (market : Market) (held : Option (List ℕ)) → IsDisk next → OpensSafely limit content start next begin old market
+pub keeps_none : (limit : ℕ) (content : Option (List ℕ)) (Cut : Type 0) (begin : Start) (start next : DiskState) (old : Pairs) (market : Market) (held : Option (List ℕ)) → IsDisk next → OpensSafely source_format limit content start next begin old market
     → KeepsIn limit content Cut begin start next old market held held
 keeps_none limit content Cut begin start next old market held is_disk safe = (
   safe.of,
@@ -174,10 +174,10 @@ pub wanted_one : (version : Version) → ¬ (◌≡◌ {A = Option Version} (Som
 wanted_one version e = absurd cc
 
 -- nothing was served
-pub comes_not_begun : (limit : ℕ) (held : List ℕ) (content left : Option (List ℕ)) (end : DiskState) (before : Option (List ℕ)) (fault : BeginFault) → NotBegun limit held content left end fault → ComesTo limit held content end before before (Err (of_begin fault))
-comes_not_begun limit held content left end before (Open unopened.NotDisk) is = is.0
-comes_not_begun limit held content left end before (Open (unopened.Damaged place)) is = is.0
-comes_not_begun limit held content left end before (Open (unopened.Rejected number)) is = is.0
+pub comes_not_begun : (limit : ℕ) (held : List ℕ) (content left : Option (List ℕ)) (end : DiskState) (before : Option (List ℕ)) (fault : BeginFault) → NotBegun source_format limit held content left end fault → ComesTo limit held content end before before (Err (of_begin fault))
+comes_not_begun limit held content left end before (Open unopened.NotDisk) is = is
+comes_not_begun limit held content left end before (Open (unopened.Damaged place)) is = is
+comes_not_begun limit held content left end before (Open (unopened.Rejected number)) is = is
 comes_not_begun limit held content left end before (Open unopened.Disk) is = tt
 comes_not_begun limit held content left end before (Open unopened.Memory) is = tt
 comes_not_begun limit held content left end before (Input input.NotFlow) (inl kept) = (Grows-nothing before, inl kept)
@@ -188,49 +188,10 @@ comes_not_begun limit held content left end before (Input input.Read) is = tt
 comes_not_begun limit held content left end before (Input input.Memory) is = tt
 comes_not_begun limit held content left end before Make is = tt
 
--- a fault at the opening of the source, with a disk that keeps entries
-pub not_begun_kept : (version : Version) (limit : ℕ) (start : Option (List ℕ)) (content left : Option (List ℕ)) (at next : DiskState) (m : Market) (place : ℕ) (fault : InputFault) → IfSome start (λ held. IsFound (Some version) held at) → IfSome start (λ held. IsKeptOn version held m place next)
-    → IsOfSource (Some version) limit content left fault → IfSome start (λ held. NotBegun limit held content left next (Input fault))
-not_begun_kept version limit None content left at next m place fault found begun why = tt
-not_begun_kept version limit (Some held) content left at next m place fault found (begin, of, (old, inr new, keeps)) why = absurd (found.0 new.0.0)
-not_begun_kept version limit (Some held) content left at next m place fault found (begin, of, (old, inl legal, keeps)) why =
-    inl (begin, old, m, legal.0, subst (λ (v : Version). IsOfSource (Some v) limit content left fault) (sym of) why, place, keeps)
-
--- with a new disk
-pub not_begun_new : (limit : ℕ) (start : Option (List ℕ)) (content left : Option (List ℕ)) (at : DiskState) (fault : InputFault) → IfSome start (λ held. IsFound None held at) → IsOfSource None limit content left fault → IfSome start (λ held. NotBegun limit held content left at (Input fault))
-not_begun_new limit None content left at fault found why = tt
-not_begun_new limit (Some held) content left at fault found why = inr ((found.0, found.1), found.2, found.3, why)
-
--- the beginning of the source was taken
-pub unread_made : (limit : ℕ) (input : Start) (w : WindowState) (content left : Option (List ℕ)) → IsAfterStart limit input w content left → Unread limit content left Make
-unread_made limit input w None left following = tt
-unread_made limit input w (Some bytes) None following = absurd following.takes
-unread_made limit input w (Some bytes) (Some m) following = (
-  length following.first,
-  sym (ap length following.takes ∙ length-append following.first m),
-  inr (
-    input,
-    take (limit - length (source_start input)) (w.held ++ m),
-    (
-      following.magic.0,
-      ap (take limit) (following.takes ∙ ap (λ (xs : List ℕ). xs ++ m) following.magic.1 ∙ append_assoc (source_start input) w.held m)
-          ∙ ap (λ (n : ℕ). take n (source_start input ++ (w.held ++ m))) parts
-          ∙ take-append-add (source_start input) (w.held ++ m) (limit - length (source_start input)),
-    ),
-    omega (arith, following.held, long),
-  ),
-)
-  where
-    long : length following.first ≡ length (source_start input) + length w.held
-    long = ap length following.magic.1 ∙ length-append (source_start input) w.held
-
-    parts : limit ≡ length (source_start input) + (limit - length (source_start input))
-    parts = omega (arith, following.few, long)
-
-module _ (limit : ℕ) (held : List ℕ) (content : Option (List ℕ)) (begun : DiskState) (begin input : Start) (market : Market) (place : ℕ) (is : IsBegun held begin input market place begun) where
-  module _ (mid left : Option (List ℕ)) (w : WindowState) (following : IsAfterStart limit input w content mid) (end : DiskState) (before after : Option (List ℕ)) where
+module _ (limit : ℕ) (held : List ℕ) (content : Option (List ℕ)) (begun : DiskState) (begin input : Start) (market : Market) (count place : ℕ) (is : IsBegun source_format held begin input market count place begun) where
+  module _ (mid left : Option (List ℕ)) (w : WindowState) (following : IsAfterSource limit input w content mid) (end : DiskState) (before after : Option (List ℕ)) where
     journal : IsKeptJournal begin is.0 market
-    journal = opens_journal held begin input is.0 market following.magic.0 is.1
+    journal = opens_journal source_format limit held begin input is.0 market following.magic.0 is.1
 
     far : w.limit - w.place ≡ limit - length (source_start input)
     far = omega (arith, following.limited, following.place)
@@ -244,11 +205,11 @@ module _ (limit : ℕ) (held : List ℕ) (content : Option (List ℕ)) (begun : 
         → (on.more ≡ []) × (on.acknowledged ≡ length on.new) × ((v : Start) (old : Pairs) → IsKeptJournal v old market → Keeps (head_of v) (map records_of old) place begun → (later : ℕ) × Keeps (head_of v) (map records_of (old ++ on.new)) later end)
         → (records : List Record) × HasKeptAll limit held content end before after records (ending_of ends)
     all_kept result ends on uncut goes ended =
-        let runs = on.runs begin is.0 journal is.2 in
+        let runs = on.runs begin is.0 journal is.3 in
         let new = on.new in
         let units : asked_of new ≡ goes.units = asked_are_units [] goes.units new tt tt goes.leads in
         let every : new ++ on.more ≡ new = ap (λ (m : Pairs). new ++ m) ended.0 ∙ append-nil new in
-        let kept = ended.2 begin is.0 journal is.2 in
+        let kept = ended.2 begin is.0 journal is.3 in
         let reads : ReadsOn commands (length (source_start input)) (limit - length (source_start input) < length (bytes on.goes.taken)) (take (limit - length (source_start input)) (bytes on.goes.taken)) goes.units (ending_of ends) =
         subst (λ (n : ℕ). ReadsOn commands (length (source_start input)) (n < length (bytes on.goes.taken)) (take n (bytes on.goes.taken)) goes.units (ending_of ends)) far
         (subst (λ (n : ℕ). ReadsOn commands n (w.limit - w.place < length (bytes on.goes.taken)) (take (w.limit - w.place) (bytes on.goes.taken)) goes.units (ending_of ends)) following.place goes.reads) in (
@@ -283,12 +244,12 @@ module _ (limit : ℕ) (held : List ℕ) (content : Option (List ℕ)) (begun : 
     comes_served (Err (Broken Memory)) on = tt
 
 -- the records that were served are the source's first, and what happened to the disk and the output
-pub keeps_served : (limit : ℕ) (content mid left : Option (List ℕ)) (w : WindowState) (of input : Start) (following : IsAfterStart limit input w content mid) (result : Result Ending (TakeFault ServeFault)) (begin : Start) (start begun end : DiskState) (old : Pairs) (market session : Market) (place : ℕ) (before after : Option (List ℕ))
-    → GoesOnIn limit content start begin market of session input × IsKeptJournal of old session × Keeps (head_of of) (map records_of old) place begun → Opens of start begun old
+pub keeps_served : (limit : ℕ) (content mid left : Option (List ℕ)) (w : WindowState) (of input : Start) (following : IsAfterSource limit input w content mid) (result : Result Ending (TakeFault ServeFault)) (begin : Start) (start begun end : DiskState) (old : Pairs) (market session : Market) (count place : ℕ) (before after : Option (List ℕ))
+    → GoesOnIn source_format limit content start begin market of session input × IsKeptJournal of old session × (count ≡ length old) × Keeps (head_of of) (map records_of old) place begun → Opens of start begun old
     → ServesOn w mid left result session place begun end before after → KeepsIn limit content (result ≡ Err (Broken Write)) begin start end old market before after
-keeps_served limit content mid left w of input following result begin start begun end old market session place before after is opens on =
+keeps_served limit content mid left w of input following result begin start begun end old market session count place before after is opens on =
     let all = on.new ++ on.more in
-    let served = on.runs of old is.1 is.2 in
+    let served = on.runs of old is.1 is.3 in
     let far : w.limit - w.place ≡ limit - length (source_start input) = omega (arith, following.limited, following.place) in (
       of,
       session,
@@ -300,7 +261,7 @@ keeps_served limit content mid left w of input following result begin start begu
         acknowledged = on.acknowledged;
         served = are_served input limit content mid left following.first w.held on.goes.taken (asked_of all) following.takes following.magic following.few on.goes.takes
             (subst (λ (n : ℕ). BeginsWithAll (take n (w.held ++ known on.goes.taken left)) (asked_of all)) far (served_first w mid left result session place begun end before after on));
-        runs = opened_first of start begun end old session place (asked_of all) all on.acknowledged opens is.2 served;
+        runs = opened_first of start begun end old session place (asked_of all) all on.acknowledged opens is.3 served;
         written = on.written;
       },
     )
@@ -331,17 +292,17 @@ module _ (begin : Start) (held : List ℕ) (old : Pairs) (market : Market) (lega
   opened_legal unopened.Disk is refusal = no_refusal_disk refusal
   opened_legal unopened.Memory is refusal = no_refusal_memory refusal
 
-pub not_refused_legal : (begin : Start) (start end : DiskState) (old : Pairs) (market : Market) (fault : OpenFault) → HoldsLegal start begin old market → IfSome start.content (λ held. length held ≤ 2 ^ 60)
+not_refused_legal : (begin : Start) (start end : DiskState) (old : Pairs) (market : Market) (fault : OpenFault) → HoldsLegal start begin old market → IfSome start.content (λ held. length held ≤ 2 ^ 60)
     → IfSome start.content (λ held. OpensNot held end fault) → ¬ IsRefusal (Err (of_begin (Open fault)))
 not_refused_legal begin start end old market fault holds small is =
     opened_legal begin holds.bytes old market holds.journal holds.stands
     (subst (λ (o : Option (List ℕ)). IfSome o (λ (held : List ℕ). length held ≤ 2 ^ 60)) holds.told small) end fault
     (subst (λ (o : Option (List ℕ)). IfSome o (λ (held : List ℕ). OpensNot held end fault)) holds.told is)
 
-pub refused_not_legal : (begin : Start) (limit : ℕ) (content left : Option (List ℕ)) (start end : DiskState) (old : Pairs) (market : Market) (fault : BeginFault) → HoldsLegal start begin old market → IfSome start.content (λ held. length held ≤ 2 ^ 60)
-    → IfSome start.content (λ held. NotBegun limit held content left end fault) → ¬ IsRefusal (Err (of_begin fault))
-refused_not_legal begin limit content left start end old market fault holds small is refusal =
+pub refused_not_legal : (format : InputFormat) (begin : Start) (limit : ℕ) (content left : Option (List ℕ)) (start end : DiskState) (old : Pairs) (market : Market) (fault : BeginFault) → HoldsLegal start begin old market → IfSome start.content (λ held. length held ≤ 2 ^ 60)
+    → IfSome start.content (λ held. NotBegun format limit held content left end fault) → ¬ IsRefusal (Err (of_begin fault))
+refused_not_legal format begin limit content left start end old market fault holds small is refusal =
     let of = begin_refusal fault refusal in
     not_refused_legal begin start end old market of.0 holds small
-    (if_some start.content _ _ (λ (held : List ℕ) not. (subst (NotBegun limit held content left end) of.1 not).0) is)
+    (if_some start.content _ _ (λ (held : List ℕ) not. subst (NotBegun format limit held content left end) of.1 not) is)
     (subst (λ (f : BeginFault). IsRefusal (Err (of_begin f))) of.1 refusal)

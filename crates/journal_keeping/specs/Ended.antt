@@ -16,7 +16,8 @@ use Rattle.market_history.specs.Histories.{Start}
 use Rattle.disk_edge.specs.Disks.{DiskState}
 use Rattle.disk_edge.specs.Images.{LeavesOnly}
 use Rattle.journal_disk.specs.Entries.{Keeps}
-use Rattle.journal_keeping.specs.Starts.{version_of, head_of, sources, BeginsUnsound, BeginsOtherwise}
+use Rattle.journal_keeping.specs.Inputs.{BeginsUnsound}
+use Rattle.journal_keeping.specs.Starts.{version_of, head_of, sources, source_format, BeginsOtherwise}
 use Rattle.journal_keeping.specs.Keeping.{IsLegalImage, HoldsLegal, GoesOn}
 use Rattle.journal_keeping.specs.Openings.{Opening, New, Legal, IsOpening, OpensAs}
 use Rattle.journal_keeping.specs.Openings as opening
@@ -35,7 +36,7 @@ pub record HasKeptAll (limit : ℕ) (held : List ℕ) (content : Option (List �
   pub old : List (Pair Record Outcome)
   pub market : Market
   pub input : Start
-  pub opens : OpensAs held begin old market input
+  pub opens : OpensAs source_format held begin old market input
   pub reads : IfSome content (λ bytes. Reads sources limit bytes (reading.File input records ending))
   pub new : List (Pair Record Outcome)
   pub now : Market

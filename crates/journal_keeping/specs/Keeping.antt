@@ -5,7 +5,6 @@ use Rattle.flow_io.specs.Streams.{Grows}
 use Rattle.wire_records.specs.Records.{Record}
 use Rattle.wire_records.specs.Commands.{Pair}
 use Rattle.wire_records.specs.Versions.{IsReadAs}
-use Rattle.wire_records.specs.Grammars.{BeginsWith}
 use Rattle.wire_records.specs.Reading.{StartsWith}
 use Rattle.flow_orders.specs.Outcomes.{Outcome, IsAdmissibleOutcome}
 use Rattle.canonical_rule.specs.Canonical.{IsCanonicalOutcome}
@@ -17,7 +16,8 @@ use Rattle.market_rules.specs.Journal.{IsAnswered, Follows}
 use Rattle.disk_edge.specs.Disks.{DiskState, AtEachMoment}
 use Rattle.disk_edge.specs.Images.{Images}
 use Rattle.journal_disk.specs.Entries.{IsNewDisk, StandsFor}
-use Rattle.journal_keeping.specs.Starts.{version_of, head_of, sources}
+use Rattle.journal_keeping.specs.Inputs.{InputFormat, InputBegins}
+use Rattle.journal_keeping.specs.Starts.{version_of, head_of, sources, source_format}
 
 -- the entries are a valid journal that begins so, and lead to this market
 pub record IsKeptJournal (begin : Start) (pairs : List (Pair Record Outcome)) (market : Market) : Type 0 where
@@ -42,13 +42,12 @@ pub record HoldsLegal (disk : DiskState) (begin : Start) (old : List (Pair Recor
   pub stands : StandsForJournal begin old bytes
   pub each : (image : List ℕ) → disk.images image → IsLegalImage image
 
--- How the journal that a run continues begins, in which market, and how its source begins. It begins as that of the old entries, in the
--- market after them, and the source is to be a command file of its version; or on a new disk it begins as the source does, within the limit.
-abbrev pub GoesOnIn : ℕ → Option (List ℕ) → DiskState → Start → Market → Start → Market → Start → Type 0
-GoesOnIn limit content start begin market of from input =
+-- How the journal that a call continues begins, in which market, and how its input begins. It begins as that of the old entries, in the
+-- market after them, and the input is to be one for its version; or on a new disk it begins as the input does, within the limit.
+abbrev pub GoesOnIn : InputFormat → ℕ → Option (List ℕ) → DiskState → Start → Market → Start → Market → Start → Type 0
+GoesOnIn format limit content start begin market of from input =
     ((of ≡ begin) × (from ≡ market) × (input ≡ Empty (version_of begin)))
-    ⊎ (IfSome start.content IsNewDisk × (from ≡ market_of of) × (input ≡ of)
-    × IfSome content (λ bytes. (body : List ℕ) × BeginsWith sources.magics (take limit bytes) of body))
+    ⊎ (IfSome start.content IsNewDisk × (from ≡ market_of of) × (input ≡ of) × format.MayBegin of × InputBegins format limit content of)
 
 -- The new entries answer these records by the canonical rule, from the market after the old entries, and are one valid journal together with
 -- them.
@@ -108,4 +107,4 @@ pub record KeepsOn (limit : ℕ) (content : Option (List ℕ)) (Cut : Type 0) (b
 -- what a run does to the disk and to the output, after the beginning that it continues with
 abbrev pub KeepsIn : ℕ → Option (List ℕ) → Type 0 → Start → DiskState → DiskState → List (Pair Record Outcome) → Market → Option (List ℕ) → Option (List ℕ) → Type 0
 KeepsIn limit content Cut begin start end old market before after =
-    (of : Start) × (from : Market) × (input : Start) × GoesOnIn limit content start begin market of from input × KeepsOn limit content Cut of input start end old from before after
+    (of : Start) × (from : Market) × (input : Start) × GoesOnIn source_format limit content start begin market of from input × KeepsOn limit content Cut of input start end old from before after

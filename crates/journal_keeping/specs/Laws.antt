@@ -40,7 +40,7 @@ pub record CanBeginAgain (start end : DiskState) : Type 0 where
       → (image : List ℕ) → end.images image → IsLegalImage image
   -- What a crash leaves can be opened, as a new disk or as a valid journal, if a crash left at most 2^59 bytes at the start, and the source
   -- has at most 2^32 bytes within the limit.
-  pub opened : (limit count : ℕ) (content : Option (List ℕ)) → count ≤ 2 ^ 32 → BringsAtMost limit content count → LeavesAtMost (2 ^ 59) start → GrowsAtMost limit content start end → MayBeginAgain start end
+  pub opened : (limit count : ℕ) (content : Option (List ℕ)) → count ≤ 2 ^ 32 → BringsAtMost limit content count → LeavesAtMost (2 ^ 59) start → GrowsAtMost 263183 limit content start end → MayBeginAgain start end
       → (image : List ℕ) → end.since start.clock image → (opening : Opening) → IsOpening image opening
       → (opening ≡ New) ⊎ ((begin : Start) × (pairs : List (Pair Record Outcome)) × (market : Market) × (opening ≡ Legal begin pairs market))
 

@@ -8,11 +8,11 @@ use Rattle.journal_disk.specs.Lengths.{HasAtMost, LeavesAtMost}
 abbrev pub BringsAtMost : ℕ → Option (List ℕ) → ℕ → Type 0
 BringsAtMost limit content count = (limit ≤ count) ⊎ ((bytes : List ℕ) × (content ≡ Some bytes) × (length bytes ≤ count))
 
--- At each moment a crash leaves at most 263,183 bytes for each byte of the source more than it might have left at the start, or than
--- the 9 of a new disk.
-abbrev pub GrowsAtMost : ℕ → Option (List ℕ) → DiskState → DiskState → Type 0
-GrowsAtMost limit content start end = (most count : ℕ) → 9 ≤ most → LeavesAtMost most start → BringsAtMost limit content count
-    → AtEachMoment start end (HasAtMost (most + 263183 * count))
+-- At each moment a crash leaves at most so many bytes for each byte of the input more than it might have left at the start, or than the 9 of a
+-- new disk.
+abbrev pub GrowsAtMost : (each limit : ℕ) → Option (List ℕ) → DiskState → DiskState → Type 0
+GrowsAtMost each limit content start end = (most count : ℕ) → 9 ≤ most → LeavesAtMost most start → BringsAtMost limit content count
+    → AtEachMoment start end (HasAtMost (most + each * count))
 
 -- at most `count` more bytes may be served from a window: `count` is at least those up to the limit, or those held and left in the source
 abbrev pub HasYetAtMost : ℕ → WindowState → Option (List ℕ) → Type 0

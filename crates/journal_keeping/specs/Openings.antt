@@ -11,6 +11,7 @@ use Rattle.journal_disk.specs.Pairs.{RecordPair}
 use Rattle.journal_disk.specs.Entries.{IsHead, entries, IsNewDisk, HasEntries}
 use Rattle.journal_disk.specs.Recovering.{IsForeign}
 use Rattle.journal_disk.specs.Stepping.{HasEntryAt, IsDamagedAt}
+use Rattle.journal_keeping.specs.Inputs.{InputFormat}
 use Rattle.journal_keeping.specs.Starts.{version_of, head_of}
 use Rattle.journal_keeping.specs.Keeping.{IsKeptJournal}
 
@@ -52,9 +53,9 @@ IsOpening bytes (Legal begin pairs market) =
 abbrev pub KeepNone : List ℕ → Type 0
 KeepNone bytes = (¬ IsOpening bytes New) × ((begin : Start) (pairs : List (Pair Record Outcome)) (market : Market) → ¬ IsOpening bytes (Legal begin pairs market))
 
--- How a disk with these bytes is continued: the beginning of its journal, its old entries and their market, and how the source has to begin.
--- A new disk has no entries, and begins as the source does.
-abbrev pub OpensAs : List ℕ → Start → List (Pair Record Outcome) → Market → Start → Type 0
-OpensAs bytes begin old market input =
+-- How a disk with these bytes is continued: the beginning of its journal, its old entries and their market, and how the input has to begin.
+-- A new disk has no entries, and begins as the input does.
+abbrev pub OpensAs : InputFormat → List ℕ → Start → List (Pair Record Outcome) → Market → Start → Type 0
+OpensAs format bytes begin old market input =
     (IsOpening bytes (Legal begin old market) × (input ≡ Empty (version_of begin)))
-    ⊎ (IsOpening bytes New × (old ≡ []) × (market ≡ market_of begin) × (input ≡ begin))
+    ⊎ (IsOpening bytes New × (old ≡ []) × (market ≡ market_of begin) × (input ≡ begin) × format.MayBegin begin)

@@ -1,5 +1,5 @@
 -- How far a source is read while its records are served and their entries kept, and when memory may run out.
-use Rattle.std.specs.Prelude.{◌≡◌, ◌⊎◌, ◌+◌, ◌<◌, ◌≤◌, ℕ, List, [], ◌∷◌, ◌++◌, length, map, take, Option, Some, IfSome, Result, Ok, Err, ⊤}
+use Rattle.std.specs.Prelude.{◌≡◌, ◌⊎◌, ◌+◌, ◌≤◌, ℕ, List, [], ◌∷◌, ◌++◌, length, map, take, Option, Some, IfSome, Result, Ok, Err, ⊤}
 use Rattle.std.specs.List.{flat_map}
 use Rattle.flow_io.specs.Streams.{Grows}
 use Rattle.wire_records.specs.Records.{Record}
@@ -12,12 +12,12 @@ use Rattle.flow_orders.specs.Outcomes.{Outcome}
 use Rattle.journal_records.specs.Pairs.{pair_encoding}
 use Rattle.journal_records.specs.Formats.{records_of}
 use Rattle.market_rules.specs.Market.{Market}
-use Rattle.market_snapshot.specs.Checkpoints.{HasCheckpointMagic}
 use Rattle.market_history.specs.Histories.{Start}
 use Rattle.market_rules.specs.Allocating.{RecordMayAllocate}
 use Rattle.disk_edge.specs.Disks.{DiskState}
 use Rattle.journal_disk.specs.Entries.{Keeps}
-use Rattle.journal_keeping.specs.Starts.{head_of, source_start, sources}
+use Rattle.journal_keeping.specs.Inputs.{IsInCheckpoint}
+use Rattle.journal_keeping.specs.Starts.{head_of, source_start, sources, source_format, IsUnbegun}
 use Rattle.journal_keeping.specs.Keeping.{GoesOn}
 use Rattle.journal_keeping.specs.Openings.{New, IsOpening, OpensAs}
 use Rattle.journal_keeping.specs.declared.fault.KeepFault.{KeepFault}
@@ -54,15 +54,6 @@ abbrev pub IsNear : ℕ → Option (List ℕ) → Option (List ℕ) → Option (
 IsNear limit content left before after =
     IfSome content (λ bytes. (taken : ℕ) × IsTaken bytes left taken × ((taken ≤ 8 + 1030) ⊎ IsNearPairs limit bytes taken before after))
 
--- the source begins with the magic of a checkpoint, and was read no further than the limit
-abbrev pub IsInCheckpoint : ℕ → Option (List ℕ) → Option (List ℕ) → Type 0
-IsInCheckpoint limit content left =
-    IfSome content (λ bytes. HasCheckpointMagic (take limit bytes) × (taken : ℕ) × IsTaken bytes left taken × (taken ≤ limit))
-
--- so many bytes were taken, which have no whole beginning of a source: fewer than eight, or those of a checkpoint
-abbrev pub IsUnbegun : ℕ → List ℕ → Type 0
-IsUnbegun taken bytes = BeginsWithNone sources.magics bytes × ((taken < 8) ⊎ HasCheckpointMagic bytes)
-
 -- all complete records that were taken of the source were answered, and no others
 abbrev pub ReadsAll : ℕ → Option (List ℕ) → Option (List ℕ) → Option (List ℕ) → Option (List ℕ) → Type 0
 ReadsAll limit content left before after =
@@ -93,7 +84,7 @@ pub record AllocatesNext (limit : ℕ) (held : List ℕ) (content : Option (List
   pub old : List (Pair Record Outcome)
   pub market : Market
   pub input : Start
-  pub opens : OpensAs held begin old market input
+  pub opens : OpensAs source_format held begin old market input
   pub new : List (Pair Record Outcome)
   pub now : Market
   pub goes_on : GoesOn begin old market (asked_of new) new now
@@ -104,12 +95,11 @@ pub record AllocatesNext (limit : ℕ) (held : List ℕ) (content : Option (List
   pub keeps : Keeps (head_of begin) (map records_of (old ++ new)) place end
   pub written : Grows before after (flat_map pair_encoding new)
 
--- memory ran out for the checkpoint of a source: the disk was new, and still holds what it held, and nothing was written
-abbrev pub RunsOutEarly : ℕ → List ℕ → Option (List ℕ) → Option (List ℕ) → DiskState → Option (List ℕ) → Option (List ℕ) → Type 0
-RunsOutEarly limit held content left end before after =
-    IsOpening held New × (end.content ≡ Some held) × (after ≡ before) × IsInCheckpoint limit content left
+-- memory ran out for the checkpoint of an input: the disk was new, and still holds what it held, and nothing was written
+abbrev pub RunsOutEarly : ℕ → List ℕ → Option (List ℕ) → Option (List ℕ) → DiskState → (Unwritten : Type 0) → Type 0
+RunsOutEarly limit held content left end Unwritten = IsOpening held New × (end.content ≡ Some held) × Unwritten × IsInCheckpoint limit content left
 
 -- when memory may run out: nothing was read or written, or a checkpoint was being read or kept, or the next record may allocate
 abbrev pub RunsOut : ℕ → List ℕ → Option (List ℕ) → Option (List ℕ) → DiskState → Option (List ℕ) → Option (List ℕ) → Type 0
 RunsOut limit held content left end before after =
-    ((left ≡ content) × (after ≡ before)) ⊎ (RunsOutEarly limit held content left end before after ⊎ AllocatesNext limit held content end before after)
+    ((left ≡ content) × (after ≡ before)) ⊎ (RunsOutEarly limit held content left end (after ≡ before) ⊎ AllocatesNext limit held content end before after)

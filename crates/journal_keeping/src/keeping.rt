@@ -8,6 +8,7 @@ ghost use Rattle.flow_orders.specs.Outcomes.{Outcome};
 ghost use Rattle.market_rules.specs.Market.{Market};
 ghost use Rattle.market_history.specs.Histories.{Start};
 ghost use Rattle.journal_disk.specs.Looking.{OnlyLooks};
+ghost use Rattle.journal_keeping.specs.Starts.{source_format};
 ghost use Rattle.journal_keeping.specs.Keeping.{HoldsLegal, KeepsIn};
 ghost use Rattle.journal_keeping.specs.Openings.{KeepNone};
 ghost use Rattle.journal_keeping.specs.Making.{IsMadeAfterStart};
@@ -17,6 +18,7 @@ ghost use Rattle.journal_keeping.specs.Ended.{ComesTo, IsRefusal, MayBeginAgain}
 
 use crate::fault::{KeepFault, kept};
 use crate::opening::begin;
+use crate::records::Records;
 use crate::taking::serve_on;
 use disk_edge::Disk;
 use flow_io::{Sink, Source};
@@ -58,7 +60,7 @@ pub fn keep<S: Source, D: Disk, K: Sink>(
         (K.held out.old) (K.held out.new) }
     ensures again { (begin : Start) (old : List (Pair Record Outcome)) (market : Market) → HoldsLegal (D.state disk.old) begin old market →
         MayBeginAgain (D.state disk.old) (D.state disk.new) }
-    ensures lengths { IfSome (D.state disk.old).content (λ _. GrowsAtMost limit (S.rest source.old) (D.state disk.old) (D.state disk.new)) }
+    ensures lengths { IfSome (D.state disk.old).content (λ _. GrowsAtMost 263183 limit (S.rest source.old) (D.state disk.old) (D.state disk.new)) }
     ensures comes { IfSome (D.state disk.old).content
         (λ held. ComesTo limit held (S.rest source.old) (D.state disk.new) (K.held out.old) (K.held out.new) result) }
     ensures legal { (begin : Start) (old : List (Pair Record Outcome)) (market : Market) → HoldsLegal (D.state disk.old) begin old market →
@@ -66,7 +68,7 @@ pub fn keep<S: Source, D: Disk, K: Sink>(
     ensures untouched { IfSome (D.state disk.old).content
         (λ held. KeepNone held → OnlyLooks (D.state disk.old) (D.state disk.new) × (source.new ≡ source.old) × (out.new ≡ out.old)) }
     ensures made { IfSome (D.state disk.old).content
-        (λ held. IsMadeAfterStart limit held (D.state disk.old) (D.state disk.new) (S.rest source.old) (S.rest source.new)) }
+        (λ held. IsMadeAfterStart source_format limit held (D.state disk.old) (D.state disk.new) (S.rest source.old) (S.rest source.new)) }
     ensures taken { TakesAtMost (S.rest source.old) (S.rest source.new) (limit + 1) }
     ensures paced { KeepsPace limit (S.rest source.old) (S.rest source.new) (K.held out.old) (K.held out.new) result }
     ensures allocates { result ≡ Err KeepFault.Memory → IfSome (D.state disk.old).content
@@ -76,8 +78,14 @@ pub fn keep<S: Source, D: Disk, K: Sink>(
     ensures source_cause { Blames (result ≡ Err KeepFault.Read) (S.faults source.old) (S.faults source.new) }
     ensures out_cause { Blames (result ≡ Err KeepFault.Write) (K.faults out.old) (K.faults out.new) }
 {
-    match begin(alloc, limit, source, disk) {
-        Ok(mut begun) => kept(serve_on(&mut begun.window, source, &mut begun.writer, disk, out)),
+    match begin::<Records, S, D>(alloc, limit, source, disk) {
+        Ok(mut begun) => kept(serve_on(
+            &mut begun.input.window,
+            source,
+            &mut begun.writer,
+            disk,
+            out,
+        )),
         Err(fault) => Err(KeepFault::from(fault)),
     }
 }

@@ -1,7 +1,6 @@
-//! Opens a disk and a source: audits the kept entries, looks at the beginning of the source, and makes a new disk.
-ghost use Rattle.std.specs.Prelude.{◌≡◌, ◌≤◌, ◌+◌, ◌^◌, ◌⊎◌, ℕ, List, [], Err, Some, None, IfSome, IsSome, IfOk, IfErr, OnOk, OnErr, IsErr, length, vec_capacity};
+//! Opens a disk and an input: audits the kept entries, looks at the beginning of the input, and makes a new disk.
+ghost use Rattle.std.specs.Prelude.{◌≡◌, ◌≤◌, ◌+◌, ◌^◌, ◌⊎◌, ℕ, List, [], Err, Some, None, IfSome, IsSome, IfOk, IfErr, OnOk, OnErr, length, vec_capacity};
 ghost use Rattle.flow_io.specs.Faults.{Blames};
-ghost use Rattle.flow_io.specs.Streams.{TakesAtMost};
 ghost use Rattle.wire_records.specs.Records.{Record};
 ghost use Rattle.wire_records.specs.Commands.{Pair};
 ghost use Rattle.flow_orders.specs.Outcomes.{Outcome};
@@ -17,19 +16,17 @@ ghost use Rattle.journal_disk.specs.Recovering.{IsFound};
 ghost use Rattle.journal_keeping.specs.Starts.{version_of, head_of};
 ghost use Rattle.journal_keeping.specs.Keeping.{HoldsLegal};
 ghost use Rattle.journal_keeping.specs.Openings.{KeepNone};
-ghost use Rattle.journal_keeping.specs.Lengths.{GrowsAtMost};
-ghost use Rattle.journal_keeping.specs.Making.{HasTakenStart, IsMadeAfterStart};
-ghost use Rattle.journal_keeping.specs.Beginning.{IsOpened, IsKeptOn, IsStored, OpensNot, IsCounted, NotBegun, Unread, WhileOpening, OpensSafely, HasBegun};
+ghost use Rattle.journal_keeping.specs.Beginning.{IsOpened, IsKeptOn, IsStored, OpensNot, WhileOpening, HasNotBegun, HasBegun};
 
 use crate::disk_start::first_market;
 use crate::fault::{BeginFault, InputFault, OpenFault};
+use crate::input::{Input, NewInput};
 use crate::reading::audit_kept;
-use crate::source_start::{OpenStart, open_source, open_start};
 use crate::taking::Writer;
 use batch_audit::Audit;
 use disk_edge::Disk;
 use exchange_session::Session;
-use flow_io::{Source, Window};
+use flow_io::Source;
 use journal_disk::{Ahead, Appender, DiskJournal, recover};
 use journal_records::MOST_PLAIN_PAIR;
 use std::alloc::Global;
@@ -42,11 +39,13 @@ struct ReadUp {
     entries: u64,
 }
 
-// A disk and a source that are opened.
+/// A disk and an input that are opened.
 #[derive(Drop)]
-pub(crate) struct Begun {
-    pub(crate) window: Window,
-    pub(crate) writer: Writer,
+pub struct Ready<I> {
+    /// The input, after its beginning.
+    pub input: I,
+    /// The market after the entries that are kept, and what keeps more.
+    pub writer: Writer,
 }
 
 // Reads a disk of a version: how it begins, and its entries, which are audited. Returns the market after them, and how many there are.
@@ -58,8 +57,7 @@ fn read_up<D: Disk>(
 ) -> Result<ReadUp, OpenFault>
     requires found { IfSome (D.state disk.old).content (λ held. IsFound (Some version) held (D.state disk.old)) }
     requires first { journal.old ≡ 8 }
-    ensures read { IfOk result (λ read. IfSome (D.state disk.old).content (λ held. IsOpened version held read.audit journal.new (D.state disk.new))) }
-    ensures counted { IfOk result (λ read. IfSome (D.state disk.old).content (IsCounted read.entries)) }
+    ensures read { IfOk result (λ read. IfSome (D.state disk.old).content (λ held. IsOpened version held read.audit read.entries journal.new (D.state disk.new))) }
     ensures refused { IfErr result (λ fault. IfSome (D.state disk.old).content (λ held. OpensNot held (D.state disk.new) fault)) }
     ensures near { IfOk result (λ read. read.audit.next_order ≤ journal.new + 2 ^ 63) }
     ensures few { IfOk result (λ read. read.entries ≤ journal.new) }
@@ -81,10 +79,10 @@ fn read_up<D: Disk>(
     }
 }
 
-/// Opens a disk of a version, as [`recover`](journal_disk::recover) finds it: audits the entries that it keeps, and gets it ready to keep more.
-/// `pair` is the buffer for entries, with room for one with a plain reply. The errors are those of [`audit_kept`]. Costs the audit of the
-/// entries, and memory for the longest of them.
-pub fn open_kept<D: Disk>(
+// Opens a disk of a version, as [`recover`](journal_disk::recover) finds it: audits the entries that it keeps, and gets it ready to keep more.
+// `pair` is the buffer for entries, with room for one with a plain reply. The errors are those of [`audit_kept`]. Costs the audit of the
+// entries, and memory for the longest of them.
+fn open_kept<D: Disk>(
     alloc: Global,
     disk: &mut D,
     version: Version,
@@ -93,7 +91,7 @@ pub fn open_kept<D: Disk>(
     requires found { IfSome (D.state disk.old).content (λ held. IsFound (Some version) held (D.state disk.old)) }
     requires room { longest_plain_pair ≤ vec_capacity pair }
     ensures begun { IfOk result (λ writer. IfSome (D.state disk.old).content
-        (λ held. IsKeptOn version held writer.session writer.appender (D.state disk.new))) }
+        (λ held. IsKeptOn version held writer.session writer.entries writer.appender (D.state disk.new))) }
     ensures refused { IfErr result (λ fault. IfSome (D.state disk.old).content (λ held. OpensNot held (D.state disk.new) fault)) }
     ensures untouched { IfSome (D.state disk.old).content (λ held. KeepNone held → OnlyLooks (D.state disk.old) (D.state disk.new)) }
     ensures moments { (was : Start) (old : List (Pair Record Outcome)) (market : market_value) → HoldsLegal (D.state disk.old) was old market →
@@ -102,7 +100,6 @@ pub fn open_kept<D: Disk>(
     ensures told { OnOk result (IsSome (D.state disk.new).content → IsSome (D.state disk.old).content) }
     ensures room { IfOk result (λ writer. longest_plain_pair ≤ vec_capacity writer.pair) }
     ensures near { IfOk result (λ writer. (writer.session.next_order ≤ writer.appender + 2 ^ 63) × (writer.appender ≤ 2 ^ 60)) }
-    ensures counted { IfOk result (λ writer. IfSome (D.state disk.old).content (IsCounted writer.entries)) }
     ensures few { IfOk result (λ writer. writer.entries ≤ writer.appender) }
     ensures cause { Blames (result ≡ Err OpenFault.Disk) (D.state disk.old).faults (D.state disk.new).faults }
 {
@@ -121,9 +118,9 @@ pub fn open_kept<D: Disk>(
     }
 }
 
-/// Makes a new disk one that begins so: with the magic of a version, and with this first entry as it is stored, if it has bytes. The only error
-/// is `Disk`, and only if the disk's count rose.
-pub fn make_disk<D: Disk>(
+// Makes a new disk one that begins so: with the magic of a version, and with this first entry as it is stored, if it has bytes. The only error
+// is `Disk`, and only if the disk's count rose.
+fn make_disk<D: Disk>(
     appender: &mut Appender,
     disk: &mut D,
     version: Version,
@@ -156,91 +153,72 @@ pub fn make_disk<D: Disk>(
     }
 }
 
-// Opens a disk of a version, and then the source, which has to be of that version.
-fn begin_kept<S: Source, D: Disk>(
+// Opens a disk of a version, and then the input.
+fn begin_kept<I: Input, S: Source, D: Disk>(
     alloc: Global,
     limit: u64,
     source: &mut S,
     disk: &mut D,
     version: Version,
-) -> Result<Begun, BeginFault>
+    pair: Vec<u8>,
+) -> Result<Ready<I>, BeginFault>
+    requires few { limit ≤ 2 ^ 32 }
     requires found { IfSome (D.state disk.old).content (λ held. IsFound (Some version) held (D.state disk.old)) }
-    ensures begun { IfOk result (λ b. HasBegun limit (D.state disk.old) (D.state disk.new) b.window (S.rest source.old) (S.rest source.new)
-        b.writer.session b.writer.appender) }
-    ensures ready { IfOk result (λ b. (b.writer.session.next_order ≤ b.writer.appender + 2 ^ 63) × (b.writer.appender ≤ 2 ^ 60) × (longest_plain_pair ≤ vec_capacity b.writer.pair)) }
-    ensures refused { IfErr result (λ fault. IfSome (D.state disk.old).content (λ held. NotBegun limit held (S.rest source.old) (S.rest source.new) (D.state disk.new) fault)) }
-    ensures unread { IfErr result (Unread limit (S.rest source.old) (S.rest source.new)) }
-    ensures taken { IsErr result → TakesAtMost (S.rest source.old) (S.rest source.new) (limit + 1) }
+    requires room { longest_plain_pair ≤ vec_capacity pair }
+    ensures begun { IfOk result (λ b. HasBegun I.format limit (D.state disk.old) (D.state disk.new) (I.window b.input) (S.rest source.old) (S.rest source.new)
+        b.writer.session b.writer.entries b.writer.appender) }
+    ensures opened { IfOk result (λ b. I.is_open b.input (S.rest source.new)) }
+    ensures room { IfOk result (λ b. longest_plain_pair ≤ vec_capacity b.writer.pair) }
+    ensures fails { IfErr result (HasNotBegun I.format limit (D.state disk.old) (D.state disk.new) (S.rest source.old) (S.rest source.new)) }
     ensures unasked { (fault : OpenFault) → result ≡ Err (BeginFault.Open fault) → source.new ≡ source.old }
-    ensures untouched { IfSome (D.state disk.old).content
-        (λ held. KeepNone held → IsErr result × OnlyLooks (D.state disk.old) (D.state disk.new) × (source.new ≡ source.old)) }
-    ensures safe { IsErr result → (was : Start) (old : List (Pair Record Outcome)) (market : market_value) → HoldsLegal (D.state disk.old) was old market →
-        OpensSafely limit (S.rest source.old) (D.state disk.old) (D.state disk.new) was old market }
-    ensures lengths { IsErr result → GrowsAtMost limit (S.rest source.old) (D.state disk.old) (D.state disk.new) }
-    ensures told { OnOk result (IsSome (D.state disk.new).content → IsSome (D.state disk.old).content) }
     ensures disk_cause { Blames ((result ≡ Err (BeginFault.Open OpenFault.Disk)) ⊎ (result ≡ Err BeginFault.Make)) (D.state disk.old).faults (D.state disk.new).faults }
     ensures source_cause { Blames (result ≡ Err (BeginFault.Input InputFault.Read)) (S.faults source.old) (S.faults source.new) }
 {
-    let pair = match Vec::with_capacity(alloc, MOST_PLAIN_PAIR) {
-        Ok(pair) => pair,
-        Err(_) => return Err(BeginFault::Open(OpenFault::Memory)),
-    };
     let writer = match open_kept(alloc, disk, version, pair) {
         Ok(writer) => writer,
         Err(fault) => return Err(BeginFault::Open(fault)),
     };
-    match open_source(alloc, limit, source, version) {
-        Ok(window) => Ok(Begun { window, writer }),
+    match I::open_as(alloc, limit, source, version) {
+        Ok(input) => Ok(Ready { input, writer }),
         Err(fault) => Err(BeginFault::Input(fault)),
     }
 }
 
-// Opens the source, and then makes a new disk one that begins as the source does.
-fn begin_new<S: Source, D: Disk>(
+// Opens the input, and then makes a new disk one that begins as the input does.
+fn begin_new<I: Input + Drop, S: Source, D: Disk>(
     alloc: Global,
     limit: u64,
     source: &mut S,
     disk: &mut D,
-) -> Result<Begun, BeginFault>
+    pair: Vec<u8>,
+) -> Result<Ready<I>, BeginFault>
     requires few { limit ≤ 2 ^ 32 }
     requires found { IfSome (D.state disk.old).content (λ held. IsFound None held (D.state disk.old)) }
-    ensures begun { IfOk result (λ b. HasBegun limit (D.state disk.old) (D.state disk.new) b.window (S.rest source.old) (S.rest source.new)
-        b.writer.session b.writer.appender) }
-    ensures ready { IfOk result (λ b. (b.writer.session.next_order ≤ b.writer.appender + 2 ^ 63) × (b.writer.appender ≤ 2 ^ 60) × (longest_plain_pair ≤ vec_capacity b.writer.pair)) }
-    ensures refused { IfErr result (λ fault. IfSome (D.state disk.old).content (λ held. NotBegun limit held (S.rest source.old) (S.rest source.new) (D.state disk.new) fault)) }
-    ensures unread { IfErr result (Unread limit (S.rest source.old) (S.rest source.new)) }
-    ensures taken { IsErr result → TakesAtMost (S.rest source.old) (S.rest source.new) (limit + 1) }
+    requires room { longest_plain_pair ≤ vec_capacity pair }
+    ensures begun { IfOk result (λ b. HasBegun I.format limit (D.state disk.old) (D.state disk.new) (I.window b.input) (S.rest source.old) (S.rest source.new)
+        b.writer.session b.writer.entries b.writer.appender) }
+    ensures opened { IfOk result (λ b. I.is_open b.input (S.rest source.new)) }
+    ensures room { IfOk result (λ b. longest_plain_pair ≤ vec_capacity b.writer.pair) }
+    ensures fails { IfErr result (HasNotBegun I.format limit (D.state disk.old) (D.state disk.new) (S.rest source.old) (S.rest source.new)) }
     ensures unasked { (fault : OpenFault) → result ≡ Err (BeginFault.Open fault) → source.new ≡ source.old }
-    ensures untouched { IfSome (D.state disk.old).content
-        (λ held. KeepNone held → IsErr result × OnlyLooks (D.state disk.old) (D.state disk.new) × (source.new ≡ source.old)) }
-    ensures safe { IsErr result → (was : Start) (old : List (Pair Record Outcome)) (market : market_value) → HoldsLegal (D.state disk.old) was old market →
-        OpensSafely limit (S.rest source.old) (D.state disk.old) (D.state disk.new) was old market }
-    ensures lengths { IsErr result → GrowsAtMost limit (S.rest source.old) (D.state disk.old) (D.state disk.new) }
-    ensures told { OnOk result (IsSome (D.state disk.new).content → IsSome (D.state disk.old).content) }
-    ensures made { IfErr result (λ _. OnlyLooks (D.state disk.old) (D.state disk.new)
-        ⊎ IfSome (S.rest source.old) (λ bytes. HasTakenStart limit bytes (S.rest source.new))) }
     ensures disk_cause { Blames ((result ≡ Err (BeginFault.Open OpenFault.Disk)) ⊎ (result ≡ Err BeginFault.Make)) (D.state disk.old).faults (D.state disk.new).faults }
     ensures source_cause { Blames (result ≡ Err (BeginFault.Input InputFault.Read)) (S.faults source.old) (S.faults source.new) }
 {
-    let pair = match Vec::with_capacity(alloc, MOST_PLAIN_PAIR) {
-        Ok(pair) => pair,
-        Err(_) => return Err(BeginFault::Open(OpenFault::Memory)),
-    };
     let mut appender = match Appender::for_new(alloc) {
         Ok(appender) => appender,
         Err(_) => return Err(BeginFault::Open(OpenFault::Memory)),
     };
-    let OpenStart {
-        window,
+    let NewInput {
+        input,
         market,
         stored,
-    } = match open_start(alloc, limit, source) {
+    } = match I::open_first(alloc, limit, source) {
         Ok(opened) => opened,
         Err(fault) => return Err(BeginFault::Input(fault)),
     };
     match make_disk(&mut appender, disk, market.version(), &stored) {
-        Ok(()) => Ok(Begun {
-            window,
+        Ok(()) => Ok(Ready {
+            input,
             writer: Writer {
                 session: Session::over(market),
                 appender,
@@ -252,36 +230,31 @@ fn begin_new<S: Source, D: Disk>(
     }
 }
 
-// Opens the disk and the source. A disk that has a version is opened first, with its entries; for a new one the source is looked at
-// first, since it says how the disk begins.
-pub(crate) fn begin<S: Source, D: Disk>(
+/// Opens the disk and the input. A disk that has a version is opened first, with its entries; for a new one the input is looked at first,
+/// since it says how the disk begins. Costs the audit of the kept entries, and holds the longest entry.
+pub fn begin<I: Input + Drop, S: Source, D: Disk>(
     alloc: Global,
     limit: u64,
     source: &mut S,
     disk: &mut D,
-) -> Result<Begun, BeginFault>
+) -> Result<Ready<I>, BeginFault>
     requires few { limit ≤ 2 ^ 32 }
-    ensures begun { IfOk result (λ b. HasBegun limit (D.state disk.old) (D.state disk.new) b.window (S.rest source.old) (S.rest source.new)
-        b.writer.session b.writer.appender) }
-    ensures ready { IfOk result (λ b. (b.writer.session.next_order ≤ b.writer.appender + 2 ^ 63) × (b.writer.appender ≤ 2 ^ 60) × (longest_plain_pair ≤ vec_capacity b.writer.pair)) }
-    ensures refused { IfErr result (λ fault. IfSome (D.state disk.old).content (λ held. NotBegun limit held (S.rest source.old) (S.rest source.new) (D.state disk.new) fault)) }
-    ensures unread { IfErr result (Unread limit (S.rest source.old) (S.rest source.new)) }
-    ensures taken { IsErr result → TakesAtMost (S.rest source.old) (S.rest source.new) (limit + 1) }
+    ensures begun { IfOk result (λ b. HasBegun I.format limit (D.state disk.old) (D.state disk.new) (I.window b.input) (S.rest source.old) (S.rest source.new)
+        b.writer.session b.writer.entries b.writer.appender) }
+    ensures opened { IfOk result (λ b. I.is_open b.input (S.rest source.new)) }
+    ensures room { IfOk result (λ b. longest_plain_pair ≤ vec_capacity b.writer.pair) }
+    ensures fails { IfErr result (HasNotBegun I.format limit (D.state disk.old) (D.state disk.new) (S.rest source.old) (S.rest source.new)) }
     ensures unasked { (fault : OpenFault) → result ≡ Err (BeginFault.Open fault) → source.new ≡ source.old }
-    ensures untouched { IfSome (D.state disk.old).content
-        (λ held. KeepNone held → IsErr result × OnlyLooks (D.state disk.old) (D.state disk.new) × (source.new ≡ source.old)) }
-    ensures safe { IsErr result → (was : Start) (old : List (Pair Record Outcome)) (market : market_value) → HoldsLegal (D.state disk.old) was old market →
-        OpensSafely limit (S.rest source.old) (D.state disk.old) (D.state disk.new) was old market }
-    ensures lengths { IsErr result → GrowsAtMost limit (S.rest source.old) (D.state disk.old) (D.state disk.new) }
-    ensures told { OnOk result (IsSome (D.state disk.new).content → IsSome (D.state disk.old).content) }
-    ensures made { IfErr result (λ _. IfSome (D.state disk.old).content
-        (λ held. IsMadeAfterStart limit held (D.state disk.old) (D.state disk.new) (S.rest source.old) (S.rest source.new))) }
     ensures disk_cause { Blames ((result ≡ Err (BeginFault.Open OpenFault.Disk)) ⊎ (result ≡ Err BeginFault.Make)) (D.state disk.old).faults (D.state disk.new).faults }
     ensures source_cause { Blames (result ≡ Err (BeginFault.Input InputFault.Read)) (S.faults source.old) (S.faults source.new) }
 {
+    let pair = match Vec::with_capacity(alloc, MOST_PLAIN_PAIR) {
+        Ok(pair) => pair,
+        Err(_) => return Err(BeginFault::Open(OpenFault::Memory)),
+    };
     match recover(disk) {
-        Ok(Some(version)) => begin_kept(alloc, limit, source, disk, version),
-        Ok(None) => begin_new(alloc, limit, source, disk),
+        Ok(Some(version)) => begin_kept(alloc, limit, source, disk, version, pair),
+        Ok(None) => begin_new(alloc, limit, source, disk, pair),
         Err(fault) => Err(BeginFault::Open(OpenFault::from(fault))),
     }
 }

@@ -10,7 +10,9 @@ ghost use Rattle.market_rules.specs.Market.{Market as market_value};
 ghost use Rattle.market_snapshot.specs.Checkpoints.{IsCheckpoint, checkpoint_bytes};
 ghost use Rattle.market_history.specs.Histories.{Empty};
 ghost use Rattle.journal_disk.specs.Entries.{framed};
-ghost use Rattle.journal_keeping.specs.Beginning.{IsAfterStart, OpensStart, IsOfSource};
+ghost use Rattle.journal_keeping.specs.Inputs.{NotTaken};
+ghost use Rattle.journal_keeping.specs.Starts.{source_format};
+ghost use Rattle.journal_keeping.specs.Beginning.{IsAfterSource, OpensStart};
 
 use crate::fault::InputFault;
 use crate::version::is_same;
@@ -60,8 +62,8 @@ pub(crate) fn open_source<S: Source>(
     source: &mut S,
     version: Version,
 ) -> Result<Window, InputFault>
-    ensures following { IfOk result (λ window. IsAfterStart limit (Empty version) window (S.rest source.old) (S.rest source.new)) }
-    ensures of_source { IfErr result (IsOfSource (Some version) limit (S.rest source.old) (S.rest source.new)) }
+    ensures following { IfOk result (λ window. IsAfterSource limit (Empty version) window (S.rest source.old) (S.rest source.new)) }
+    ensures of_source { IfErr result (NotTaken source_format limit (Some version) (S.rest source.old) (S.rest source.new)) }
     ensures taken { IsErr result → TakesAtMost (S.rest source.old) (S.rest source.new) (limit + 1) }
     ensures cause { Blames (result ≡ Err InputFault.Read) (S.faults source.old) (S.faults source.new) }
 {
@@ -113,7 +115,7 @@ fn after_checkpoint<S: Source>(
     ensures market { IfOk result (λ o. o.market ≡ market) }
     ensures of_source { IfErr result (λ fault. (before : Option (List ℕ)) → IsCheckpoint market (checkpoint_bytes market) →
         Takes before (S.rest source.old) (checkpoint_bytes market ++ window.held) →
-        IsOfSource None window.limit before (S.rest source.new) fault × TakesAtMost before (S.rest source.new) (window.limit + 1)) }
+        NotTaken source_format window.limit None before (S.rest source.new) fault × TakesAtMost before (S.rest source.new) (window.limit + 1)) }
     ensures cause { Blames (result ≡ Err InputFault.Read) (S.faults source.old) (S.faults source.new) }
 {
     let mut window = window;
@@ -153,7 +155,7 @@ fn start_at<S: Source>(
         OpensStart window.limit o.market o.stored.items o.window before (S.rest source.new)) }
     ensures numbers { IfOk result (λ o. o.market.next_order ≤ 2 ^ 63) }
     ensures of_source { IfErr result (λ fault. (before : Option (List ℕ)) → Takes before (S.rest source.old) window.held →
-        IsOfSource None window.limit before (S.rest source.new) fault × TakesAtMost before (S.rest source.new) (window.limit + 1)) }
+        NotTaken source_format window.limit None before (S.rest source.new) fault × TakesAtMost before (S.rest source.new) (window.limit + 1)) }
     ensures cause { Blames (result ≡ Err InputFault.Read) (S.faults source.old) (S.faults source.new) }
 {
     let mut window = window;
@@ -189,7 +191,7 @@ pub(crate) fn open_start<S: Source>(
     requires few { limit ≤ 2 ^ 32 }
     ensures opens { IfOk result (λ o. OpensStart limit o.market o.stored.items o.window (S.rest source.old) (S.rest source.new)) }
     ensures numbers { IfOk result (λ o. o.market.next_order ≤ 2 ^ 63) }
-    ensures of_source { IfErr result (IsOfSource None limit (S.rest source.old) (S.rest source.new)) }
+    ensures of_source { IfErr result (NotTaken source_format limit None (S.rest source.old) (S.rest source.new)) }
     ensures taken { IsErr result → TakesAtMost (S.rest source.old) (S.rest source.new) (limit + 1) }
     ensures cause { Blames (result ≡ Err InputFault.Read) (S.faults source.old) (S.faults source.new) }
 {

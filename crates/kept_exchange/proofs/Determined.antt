@@ -7,16 +7,16 @@ use Rattle.wire_records.specs.Commands.{Pair}
 use Rattle.flow_orders.specs.Outcomes.{Outcome}
 use Rattle.market_rules.specs.Market.{Market}
 use Rattle.market_snapshot.specs.Checkpoints.{checkpoint_bytes}
-use Rattle.market_history.specs.Histories.{Start}
+use Rattle.market_history.specs.Histories.{Start, Empty, Kept}
 use Rattle.disk_edge.specs.Disks.{DiskState}
-use Rattle.journal_keeping.specs.Starts.{BeginsUnsound}
+use Rattle.journal_keeping.specs.Inputs.{BeginsUnsound}
+use Rattle.journal_keeping.specs.Starts.{source_format}
 use Rattle.journal_keeping.specs.Openings.{OpensAs}
 use Rattle.journal_keeping.specs.Openings as opening
 use Rattle.journal_keeping.specs.Ended.{HasKeptAll, HasLeftAll}
 use Rattle.journal_keeping.proofs.SourceStart.{unsound_none}
-use Rattle.line_keeping.specs.Inputs.{IsBefore, HasLinesWithin}
+use Rattle.line_keeping.specs.Inputs.{lines_format, IsBefore, HasLinesWithin}
 use Rattle.line_keeping.specs.Outputs.{Output}
-use Rattle.line_keeping.specs.Ended as lines
 use Rattle.exit_status.specs.Statuses.{ending_status}
 use Rattle.exit_status.specs.declared.status.Status.{Status}
 use Rattle.exit_status.specs.declared.status.Status.TheVariants as status
@@ -37,7 +37,7 @@ module _ (limit : ℕ) (held : List ℕ) (end : DiskState) (source out : Change)
   asks_all : (records : List Record) (ending : reading.Ending) → HasKeptAll limit held source.before end out.before out.after records ending → Asked (ending_status limit ending)
   asks_all records ending has = by_opening has.opens
     where
-      by_opening : OpensAs held has.begin has.old has.market has.input → Asked (ending_status limit ending)
+      by_opening : OpensAs source_format held has.begin has.old has.market has.input → Asked (ending_status limit ending)
       by_opening (inl legal) =
           if_some source.before _ _ (λ (bytes : List ℕ) reads. (opening.Legal has.begin has.old has.market, legal.0, (reading.File has.input records ending, (legal.1, reads), refl))) has.reads
       by_opening (inr new) = if_some source.before _ _ (λ (bytes : List ℕ) reads. (opening.New, new.0, (reading.File has.input records ending, reads, refl))) has.reads
@@ -77,9 +77,9 @@ module _ (limit : ℕ) (end : DiskState) (source out : Change) (ends : Status) w
 -- ---- lines
 
 -- what is before the lines isn't an unsound checkpoint
-sound : (bytes : List ℕ) (before : Option Market) (text : List ℕ) → IsBefore bytes before text → ¬ BeginsUnsound bytes
-sound bytes None text is unsound = is.0 unsound.0
-sound bytes (Some market) text is unsound = unsound.1 market (checkpoint_bytes market) text is.0 is.1
+sound : (bytes : List ℕ) (before : Start) (text : List ℕ) → IsBefore bytes before text → ¬ BeginsUnsound bytes
+sound bytes (Empty version) text is unsound = is.0 unsound.0
+sound bytes (Kept market) text is unsound = unsound.1 market (checkpoint_bytes market) text is.0 is.1
 
 module _ (limit : ℕ) (held : List ℕ) (content left : Option (List ℕ)) (end : DiskState) (out later : Output) where
   -- the input, if its content is known, leads to this status
@@ -87,10 +87,10 @@ module _ (limit : ℕ) (held : List ℕ) (content left : Option (List ℕ)) (end
   LinesAsked ends = IfSome content (λ bytes. LinesAskStatus limit held bytes ends)
 
   -- all lines were answered: the status is that of their end
-  asks_end : (bytes : List ℕ) (begin : Start) (old : List (Pair Record Outcome)) (market : Market) (before : Option Market) (read : List (List ℕ)) (ends : Status)
-      → lines.OpensAs held begin old market before → HasLinesWithin limit bytes before read → IsEnd limit bytes ends → LinesAskStatus limit held bytes ends
+  asks_end : (bytes : List ℕ) (begin : Start) (old : List (Pair Record Outcome)) (market : Market) (before : Start) (read : List (List ℕ)) (ends : Status)
+      → OpensAs lines_format held begin old market before → HasLinesWithin limit bytes before read → IsEnd limit bytes ends → LinesAskStatus limit held bytes ends
   asks_end bytes begin old market before read ends (inl legal) has at_end =
-      let has_none = subst (λ (b : Option Market). HasLinesWithin limit bytes b read) legal.1 has in
+      let has_none = subst (λ (b : Start). HasLinesWithin limit bytes b read) legal.1 has in
       (opening.Legal begin old market, legal.0, inr (has_none.1.0, at_end))
   asks_end bytes begin old market before read ends (inr new) has at_end = (opening.New, new.0, inr (sound (take limit bytes) before has.0 has.1, at_end))
 

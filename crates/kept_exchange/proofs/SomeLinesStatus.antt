@@ -4,7 +4,7 @@ use Rattle.std.proofs.lemmas.Bool.{cases_lt}
 use Rattle.word_driver.specs.Laws.{IsNotDenied}
 use Rattle.word_driver.proofs.Denying.{not_denied, follows, one_of}
 use Rattle.market_snapshot.specs.Checkpoints.{HasCheckpointMagic}
-use Rattle.journal_keeping.specs.Starts.{BeginsUnsound}
+use Rattle.journal_keeping.specs.Inputs.{BeginsUnsound}
 use Rattle.journal_keeping.specs.Openings.{Opening, Foreign, New, Damaged, Rejected, Legal, IsOpening}
 use Rattle.journal_keeping.proofs.SomeOpening.{some_opening}
 use Rattle.exit_status.specs.declared.status.Status.{Status}

@@ -13,7 +13,8 @@ use Rattle.wire_records.proofs.Numbered.{same_number}
 use Rattle.word_driver.specs.Laws.{IsNotDenied}
 use Rattle.word_driver.proofs.Denying.{not_denied, follows, one_of}
 use Rattle.market_history.specs.Histories.{Start, Empty}
-use Rattle.journal_keeping.specs.Starts.{version_of, source_start, sources, BeginsUnsound}
+use Rattle.journal_keeping.specs.Inputs.{BeginsUnsound}
+use Rattle.journal_keeping.specs.Starts.{version_of, source_start, sources}
 use Rattle.journal_keeping.specs.Openings.{Opening, Foreign, New, Damaged, Rejected, Legal, IsOpening}
 use Rattle.journal_keeping.proofs.SomeOpening.{some_opening}
 use Rattle.journal_keeping.proofs.Starts.{of_source}

@@ -10,10 +10,10 @@ use Rattle.flow_orders.specs.Outcomes.{Outcome}
 use Rattle.market_rules.specs.Market.{Market}
 use Rattle.market_history.specs.Histories.{Start}
 use Rattle.disk_edge.specs.Disks.{DiskState}
-use Rattle.journal_keeping.specs.Starts.{BeginsUnsound}
+use Rattle.journal_keeping.specs.Inputs.{BeginsUnsound, IsInCheckpoint}
 use Rattle.journal_keeping.specs.Keeping.{HoldsLegal, KeepsIn}
 use Rattle.journal_keeping.specs.Openings as opening
-use Rattle.journal_keeping.specs.Pacing.{ReadsAll, IsNear, IsInCheckpoint}
+use Rattle.journal_keeping.specs.Pacing.{ReadsAll, IsNear}
 use Rattle.journal_keeping.specs.Ended.{IsRefused, HasKeptAll, StaysNew, HasLeftAll}
 use Rattle.exit_status.specs.declared.status.Status.{Status}
 use Rattle.exit_status.specs.declared.status.Status.TheVariants.{Done, Usage, NotFlow, Torn, ReadFault, WriteFault, NoMemory, Rejected, TooLong, BadText, BadCheckpoint, NoAccount, DiskFault, NotDisk, Damaged}

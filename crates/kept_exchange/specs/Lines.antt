@@ -13,14 +13,16 @@ use Rattle.market_snapshot.specs.Checkpoints.{HasCheckpointMagic}
 use Rattle.market_history.specs.Histories.{Start}
 use Rattle.disk_edge.specs.Disks.{DiskState}
 use Rattle.journal_disk.specs.Entries.{Keeps}
-use Rattle.journal_keeping.specs.Starts.{head_of, BeginsUnsound}
+use Rattle.journal_keeping.specs.Inputs.{BeginsUnsound}
+use Rattle.journal_keeping.specs.Starts.{head_of}
 use Rattle.journal_keeping.specs.Keeping.{HoldsLegal}
 use Rattle.journal_keeping.specs.Openings.{Foreign, Damaged, Rejected, Legal, IsOpening}
 use Rattle.journal_keeping.specs.Ended.{IsRefused, StaysNew}
+use Rattle.journal_keeping.specs.Pacing.{RunsOutEarly}
 use Rattle.line_keeping.specs.Outputs.{Output}
 use Rattle.line_keeping.specs.Inputs.{HasLines, HasLinesWithin}
 use Rattle.line_keeping.specs.Keeping.{ServesIn}
-use Rattle.line_keeping.specs.Ended.{HasAnswered, BreaksOff, KeepsJust, RunsOutAt, IsNotOpened, IsNotBegun, RunsOutEarly}
+use Rattle.line_keeping.specs.Ended.{HasAnswered, BreaksOff, KeepsJust, RunsOutAt, IsNotOpened, IsNotBegun}
 use Rattle.exit_status.specs.declared.status.Status.{Status}
 use Rattle.exit_status.specs.declared.status.Status.TheVariants as status
 use Rattle.exit_status.specs.Statuses.{line_of}
@@ -40,7 +42,7 @@ module _ (limit : ℕ) (held : List ℕ) (content left : Option (List ℕ)) (end
   LinesEndWith status.DiskFault = IsNotBegun limit content left out later ⊎ BreaksOff limit held content left ⊥ out later (λ begin pairs line. ⊤)
   LinesEndWith status.NoMemory =
       ((left ≡ content) × (later ≡ out))
-      ⊎ (RunsOutEarly limit held content left end out later ⊎ BreaksOff limit held content left ⊥ out later (RunsOutAt end))
+      ⊎ (RunsOutEarly limit held content left end (later ≡ out) ⊎ BreaksOff limit held content left ⊥ out later (RunsOutAt end))
   -- a checkpoint is before the lines, but the disk isn't new
   LinesEndWith status.NotFlow =
       (later ≡ out) × (begin : Start) × (old : List (Pair Record Outcome)) × (market : Market) × IsOpening held (Legal begin old market)

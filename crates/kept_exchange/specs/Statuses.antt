@@ -7,7 +7,8 @@ use Rattle.wire_records.specs.Formats.{commands}
 use Rattle.wire_records.specs.declared.version.Version.{Version}
 use Rattle.market_snapshot.specs.Checkpoints.{HasCheckpointMagic}
 use Rattle.market_history.specs.Histories.{Start, Empty}
-use Rattle.journal_keeping.specs.Starts.{version_of, sources, BeginsUnsound}
+use Rattle.journal_keeping.specs.Inputs.{BeginsUnsound}
+use Rattle.journal_keeping.specs.Starts.{version_of, sources}
 use Rattle.journal_keeping.specs.declared.fault.KeepFault.{KeepFault}
 use Rattle.journal_keeping.specs.declared.fault.KeepFault.TheVariants as kept
 use Rattle.journal_keeping.specs.Openings.{Opening, Foreign, New, Damaged, Rejected, Legal, IsOpening}

@@ -3,9 +3,10 @@ ghost use Rattle.std.specs.Prelude.{◌≡◌, ◌≤◌, ◌^◌, IfSome};
 ghost use Rattle.flow_io.specs.Changes.{change};
 ghost use Rattle.journal_disk.specs.Looking.{OnlyLooks};
 ghost use Rattle.journal_keeping.specs.Openings.{KeepNone};
+ghost use Rattle.journal_keeping.specs.Making.{IsMadeAfterStart};
+ghost use Rattle.journal_keeping.specs.Lengths.{GrowsAtMost};
 ghost use Rattle.line_keeping.specs.Outputs.{output};
-ghost use Rattle.line_keeping.specs.Making.{IsMadeAfterStart};
-ghost use Rattle.line_keeping.specs.Lengths.{GrowsAtMost};
+ghost use Rattle.line_keeping.specs.Inputs.{lines_format};
 ghost use Rattle.kept_exchange.specs.Keeping.{IsRefusal};
 ghost use Rattle.kept_exchange.specs.Lines.{ServesLines};
 
@@ -31,8 +32,8 @@ pub fn flow_lines_limited<S: Source, D: Disk, K: Sink, N: Sink>(
     ensures untouched { IfSome (D.state disk.old).content
         (λ held. KeepNone held → OnlyLooks (D.state disk.old) (D.state disk.new) × (source.new ≡ source.old) × (out.new ≡ out.old)) }
     ensures made { IfSome (D.state disk.old).content
-        (λ held. IsMadeAfterStart limit held (D.state disk.old) (D.state disk.new) (S.rest source.old) (S.rest source.new)) }
-    ensures lengths { IfSome (D.state disk.old).content (λ _. GrowsAtMost limit (S.rest source.old) (D.state disk.old) (D.state disk.new)) }
+        (λ held. IsMadeAfterStart lines_format limit held (D.state disk.old) (D.state disk.new) (S.rest source.old) (S.rest source.new)) }
+    ensures lengths { IfSome (D.state disk.old).content (λ _. GrowsAtMost 8421856 limit (S.rest source.old) (D.state disk.old) (D.state disk.new)) }
     // If the disk is refused, nothing is read from the source, and nothing is written to `out`.
     ensures idle { IsRefusal result → (source.new ≡ source.old) × (out.new ≡ out.old) }
 {
@@ -72,10 +73,10 @@ pub fn flow_lines<S: Source, D: Disk, K: Sink, N: Sink>(
         (λ held. KeepNone held → OnlyLooks (D.state disk.old) (D.state disk.new) × (source.new ≡ source.old) × (out.new ≡ out.old)) }
     // A new disk is never changed, whatever the status, unless what was taken of the input shows what is before its lines.
     ensures made { IfSome (D.state disk.old).content
-        (λ held. IsMadeAfterStart (2 ^ 32) held (D.state disk.old) (D.state disk.new) (S.rest source.old) (S.rest source.new)) }
+        (λ held. IsMadeAfterStart lines_format (2 ^ 32) held (D.state disk.old) (D.state disk.new) (S.rest source.old) (S.rest source.new)) }
     // At each moment a crash leaves at most 8,421,856 bytes for each byte of the source more than it might have left at the start, or than the
     // 9 of a new disk. So if that was at most 2^59, and the source has at most 2^32 bytes, what it leaves has at most 2^60.
-    ensures lengths { IfSome (D.state disk.old).content (λ _. GrowsAtMost (2 ^ 32) (S.rest source.old) (D.state disk.old) (D.state disk.new)) }
+    ensures lengths { IfSome (D.state disk.old).content (λ _. GrowsAtMost 8421856 (2 ^ 32) (S.rest source.old) (D.state disk.old) (D.state disk.new)) }
     ensures idle { IsRefusal result → (source.new ≡ source.old) × (out.new ≡ out.old) }
 {
     flow_lines_limited(alloc, INPUT_LIMIT, source, disk, out, notes)

@@ -2,6 +2,7 @@
 ghost use Rattle.std.specs.Prelude.{◌≡◌, ◌≤◌, ◌^◌, IfSome};
 ghost use Rattle.flow_io.specs.Changes.{change};
 ghost use Rattle.journal_disk.specs.Looking.{OnlyLooks};
+ghost use Rattle.journal_keeping.specs.Starts.{source_format};
 ghost use Rattle.journal_keeping.specs.Openings.{KeepNone};
 ghost use Rattle.journal_keeping.specs.Making.{IsMadeAfterStart};
 ghost use Rattle.journal_keeping.specs.Lengths.{GrowsAtMost};
@@ -30,8 +31,8 @@ pub fn flow_disk_limited<S: Source, D: Disk, K: Sink, N: Sink>(
     ensures untouched { IfSome (D.state disk.old).content
         (λ held. KeepNone held → OnlyLooks (D.state disk.old) (D.state disk.new) × (source.new ≡ source.old) × (out.new ≡ out.old)) }
     ensures made { IfSome (D.state disk.old).content
-        (λ held. IsMadeAfterStart limit held (D.state disk.old) (D.state disk.new) (S.rest source.old) (S.rest source.new)) }
-    ensures lengths { IfSome (D.state disk.old).content (λ _. GrowsAtMost limit (S.rest source.old) (D.state disk.old) (D.state disk.new)) }
+        (λ held. IsMadeAfterStart source_format limit held (D.state disk.old) (D.state disk.new) (S.rest source.old) (S.rest source.new)) }
+    ensures lengths { IfSome (D.state disk.old).content (λ _. GrowsAtMost 263183 limit (S.rest source.old) (D.state disk.old) (D.state disk.new)) }
     ensures paced { IsPaced limit result (change S.rest S.faults source.old source.new) (change K.held K.faults out.old out.new) }
     ensures allocates { result ≡ Status.NoMemory → IfSome (D.state disk.old).content
         (λ held. RunsOut limit held (S.rest source.old) (S.rest source.new) (D.state disk.new) (K.held out.old) (K.held out.new)) }
@@ -86,10 +87,10 @@ pub fn flow_disk<S: Source, D: Disk, K: Sink, N: Sink>(
     // A new disk is never changed, whatever the status, unless the whole beginning of a source was taken: the magic of a command file, or a
     // checkpoint and the magic after it.
     ensures made { IfSome (D.state disk.old).content
-        (λ held. IsMadeAfterStart (2 ^ 32) held (D.state disk.old) (D.state disk.new) (S.rest source.old) (S.rest source.new)) }
+        (λ held. IsMadeAfterStart source_format (2 ^ 32) held (D.state disk.old) (D.state disk.new) (S.rest source.old) (S.rest source.new)) }
     // At each moment a crash leaves at most 263,183 bytes for each byte of the source more than it might have left at the start, or than the
     // 9 of a new disk. So if that was at most 2^59, and the source has at most 2^32 bytes, what it leaves has at most 2^60.
-    ensures lengths { IfSome (D.state disk.old).content (λ _. GrowsAtMost (2 ^ 32) (S.rest source.old) (D.state disk.old) (D.state disk.new)) }
+    ensures lengths { IfSome (D.state disk.old).content (λ _. GrowsAtMost 263183 (2 ^ 32) (S.rest source.old) (D.state disk.old) (D.state disk.new)) }
     // How far was read, if something failed or memory ran out.
     ensures paced { IsPaced (2 ^ 32) result (change S.rest S.faults source.old source.new) (change K.held K.faults out.old out.new) }
     // Memory runs out before anything is read or written, for a checkpoint of the source, or at a record that may allocate.

@@ -10,9 +10,6 @@ pub mod Lines
 pub mod Turning
 pub mod Reaching
 pub mod InputStart
-pub mod Safety
-pub mod KeptBegun
-pub mod NewBegun
 pub mod Shown
 pub mod Whole
 pub mod Asking

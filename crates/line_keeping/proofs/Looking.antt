@@ -45,7 +45,7 @@ module _ (old now : WindowState) (before rest : Option (List ℕ)) (is : HasLook
   held_within : length now.held ≤ now.limit
   held_within = omega (arith, is.is_open.within, is.place)
 
-  shown_no : (¬ HasCheckpointMagic (take now.limit (known now.held rest))) → ((¬ IsUnopened now.held) ⊎ (HasEnded now rest ⊎ (now.limit ≡ length now.held))) → ShowsStart old now before rest false
+  shown_no : (¬ HasCheckpointMagic (take now.limit (known now.held rest))) → ((¬ IsUnopened None now.held) ⊎ (HasEnded now rest ⊎ (now.limit ≡ length now.held))) → ShowsStart old now before rest false
   shown_no other why = record {
     takes = is.takes;
     limit = is.limit;
@@ -71,7 +71,7 @@ module _ (old now : WindowState) (before rest : Option (List ℕ)) (is : HasLook
       shown_no (λ has. absurd (let bad = back (whole_magic now.held _ has.0 many (sym (within_known now.limit now.held rest held_within) ∙ has.1)) in cc))
       (inl (λ unopened. unopened_not unopened))
     where
-      unopened_not : IsUnopened now.held → ⊥
+      unopened_not : IsUnopened None now.held → ⊥
       unopened_not (inl part) = omega (arith, part.2, many)
       unopened_not (inr unsound) = absurd (let bad = back unsound.0 in cc)
 
@@ -81,7 +81,7 @@ module _ (old now : WindowState) (before rest : Option (List ℕ)) (is : HasLook
       shown_no (λ has. let part = part_magic now.held _ has.0 few (sym (within_known now.limit now.held rest held_within) ∙ has.1) in not part.0 part.1)
       (inl (λ unopened. unopened_not unopened))
     where
-      unopened_not : IsUnopened now.held → ⊥
+      unopened_not : IsUnopened None now.held → ⊥
       unopened_not (inl part) = not part.0 part.1
       unopened_not (inr unsound) = too_few now.held few unsound.0
 

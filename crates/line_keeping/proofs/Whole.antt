@@ -1,5 +1,5 @@
 -- What serving lines results in, from what its parts did.
-use Rattle.std.proofs.Common.{◌≡◌, ◌≢◌, ◌⊎◌, inl, inr, ℕ, zero, suc, ◌+◌, ◌-◌, ◌*◌, ◌<◌, ◌≤◌, ◌^◌, List, [], ◌∷◌, ◌++◌, Option, None, Some, IfSome, IsSome, Result, Ok, Err, Contains, length, length-append, length-take, take, drop, get_or, map, refl, sym, ap, subst, ◌∙◌, arith, append_assoc, take-append-drop}
+use Rattle.std.proofs.Common.{◌≡◌, ◌≢◌, ◌⊎◌, inl, inr, ℕ, zero, suc, ◌+◌, ◌-◌, ◌*◌, ◌<◌, ◌≤◌, List, [], ◌∷◌, ◌++◌, Option, None, Some, IfSome, Result, Ok, Err, Contains, length, length-append, take, drop, get_or, map, refl, sym, ap, subst, ◌∙◌, arith, append_assoc, take-append-drop}
 use Rattle.std.specs.Prelude.{⊤}
 use Rattle.std.proofs.lemmas.List.{append-nil}
 use Rattle.std.proofs.lemmas.List.Elements.{All-nil, Contains-append_left}
@@ -9,15 +9,15 @@ use Rattle.flow_io.specs.Streams.{Takes, TakesAtMost}
 use Rattle.flow_io.specs.Windows.{WindowState}
 use Rattle.flow_io.proofs.Reading.{Takes-more}
 use Rattle.file_units.specs.Inputs.{known}
-use Rattle.file_units.proofs.Gone.{went_well}
 use Rattle.journal_records.specs.Formats.{records_of}
 use Rattle.market_rules.specs.Market.{Market}
-use Rattle.market_snapshot.specs.Checkpoints.{checkpoint_magic, checkpoint_bytes, IsCheckpoint, HasCheckpointMagic}
-use Rattle.market_history.specs.Histories.{Start, CanStart}
+use Rattle.market_snapshot.specs.Checkpoints.{checkpoint_magic, HasCheckpointMagic}
+use Rattle.wire_records.specs.declared.version.Version.{Version}
+use Rattle.market_history.specs.Histories.{Start, Empty, Kept, CanStart}
 use Rattle.market_history.proofs.Starting.{magic_on}
 use Rattle.disk_edge.specs.Disks.{DiskState, IsDisk, AtEachMoment}
 use Rattle.disk_edge.proofs.Moments.{weaker, then_more, at_the_end}
-use Rattle.journal_disk.specs.Entries.{IsNewDisk, Keeps}
+use Rattle.journal_disk.specs.Entries.{Keeps}
 use Rattle.journal_disk.specs.Lengths.{HasAtMost, LeavesAtMost, ReachesAtMost}
 use Rattle.line_records.specs.Lines.{HasNoFeed, AreLines, ended_by_feeds}
 use Rattle.line_records.proofs.Pieces.{lines_after}
@@ -32,32 +32,29 @@ use Rattle.journal_keeping.specs.declared.fault.BeginFault.TheVariants.{Open, In
 use Rattle.journal_keeping.specs.declared.fault.ServeFault.{ServeFault}
 use Rattle.journal_keeping.specs.declared.fault.ServeFault.TheVariants.{Disk, Write, Memory}
 use Rattle.journal_keeping.specs.Faults.{of_begin, kept_result}
-use Rattle.journal_keeping.specs.Starts.{head_of}
-use Rattle.journal_keeping.specs.Keeping.{IsKeptJournal, HoldsLegal}
-use Rattle.journal_keeping.specs.Openings.{KeepNone}
-use Rattle.journal_keeping.specs.Lengths.{BringsAtMost, HasYetAtMost}
-use Rattle.journal_keeping.specs.Ended.{IsRefusal, MayBeginAgain}
+use Rattle.journal_keeping.specs.Inputs.{InputBegins, IsNearStart, IsAfterStart}
+use Rattle.journal_keeping.specs.Starts.{version_of, head_of}
+use Rattle.journal_keeping.specs.Keeping.{IsKeptJournal, HoldsLegal, GoesOnIn}
+use Rattle.journal_keeping.specs.Lengths.{GrowsAtMost, BringsAtMost, HasYetAtMost}
+use Rattle.journal_keeping.specs.Ended.{MayBeginAgain}
+use Rattle.journal_keeping.specs.Beginning.{IsBegun, OpensSafely, NotBegun, Unread}
 use Rattle.journal_keeping.specs.Pacing.{asked_of}
-use Rattle.journal_keeping.proofs.Auditing.{none_read}
-use Rattle.journal_keeping.proofs.Begun.{Opens, opened_old, new_again}
+use Rattle.journal_keeping.proofs.Starting.{opens_journal, brought}
+use Rattle.journal_keeping.proofs.Begun.{Opens}
 use Rattle.journal_keeping.proofs.Lengths.{last_commit, left_less}
 use Rattle.journal_keeping.proofs.Magic.{at_most}
 use Rattle.journal_keeping.proofs.Serving.{unbegun, opened_first}
-use Rattle.journal_keeping.proofs.Whole.{after_run, not_refused_legal}
-use Rattle.journal_keeping.proofs.Counts.{if_some}
-use Rattle.journal_keeping.proofs.Faults.{begin_refusal}
+use Rattle.journal_keeping.proofs.Whole.{after_run, wanted_one}
 use Rattle.line_keeping.specs.Answers.{AreLinesAnswered, AreAnsweredInto, AreFirstAnswered}
-use Rattle.line_keeping.specs.Inputs.{bytes_before, IsBefore, HasLines, HasLinesWithin}
+use Rattle.line_keeping.specs.Inputs.{bytes_before, IsBefore, IsPartOfMagic, lines_format, HasLines, HasLinesWithin}
 use Rattle.line_keeping.specs.Outputs.{Output}
-use Rattle.line_keeping.specs.Keeping.{GoesOnIn, InputBegins, ServesIn}
-use Rattle.line_keeping.specs.Lengths.{GrowsAtMost}
-use Rattle.line_keeping.specs.Ended.{OpensAs, HasAnswered, BreaksOff, KeepsJust, RunsOutAt, ComesTo, LeavesNone}
-use Rattle.line_keeping.specs.Private.{IsBehind, IsBegun, OpensSafely, IsPart, NotBegun, StopAt, AreRead, AreDone, BrokeOff, AnswersOn}
+use Rattle.line_keeping.specs.Keeping.{ServesIn}
+use Rattle.line_keeping.specs.Ended.{HasAnswered, BreaksOff, KeepsJust, RunsOutAt, ComesTo, LeavesNone}
+use Rattle.line_keeping.specs.Private.{StopAt, AreRead, AreDone, BrokeOff, AnswersOn}
 use Rattle.line_keeping.proofs.Joining.{Pairs, Texts}
 use Rattle.line_keeping.proofs.Gaining.{gains_none, gains_wider}
 use Rattle.line_keeping.proofs.Endings.{less_or_not}
 use Rattle.line_keeping.proofs.Looking.{too_few}
-use Rattle.line_keeping.proofs.Safety.{brought}
 
 -- ---- nothing was answered
 
@@ -77,8 +74,8 @@ magic_piece (k, inside, is) = not_ten k inside is
     not_ten (suc (suc (suc (suc (suc (suc (suc (suc k)))))))) inside is = omega (arith, inside)
 
 -- a part of the magic has no lines
-part_lines : (x rest : List ℕ) → checkpoint_magic ≡ x ++ rest → length x < 8 → HasLines ⊤ x None []
-part_lines x rest e few = (
+part_lines : (version : Version) (x : List ℕ) → IsPartOfMagic x → HasLines ⊤ x (Empty version) []
+part_lines version x (rest, e, few) = (
   x,
   (too_few x few, refl),
   record {
@@ -91,29 +88,38 @@ part_lines x rest e few = (
   },
 )
 
-part_read : (limit : ℕ) (held : List ℕ) (content left : Option (List ℕ)) (end : DiskState) → IsPart limit held content left end content
-    → IfSome content (λ bytes. (n : ℕ) × IsTaken bytes left n × HasLines ⊤ (take n (take limit bytes)) None [])
-part_read limit held None left end part = tt
-part_read limit held (Some bytes) left end (n, taken, rest, e, few) =
-    (n, taken, part_lines (take n (take limit bytes)) rest e (omega (arith, few, length-take n (take limit bytes))))
+part_read : (version : Version) (limit : ℕ) (content left : Option (List ℕ)) → IfSome content (λ bytes. (n : ℕ) × IsTaken bytes left n × IsPartOfMagic (take n (take limit bytes)))
+    → IfSome content (λ bytes. (n : ℕ) × IsTaken bytes left n × HasLines ⊤ (take n (take limit bytes)) (Empty version) [])
+part_read version limit None left part = tt
+part_read version limit (Some bytes) left (n, taken, part) = (n, taken, part_lines version (take n (take limit bytes)) part)
 
-pub comes_not_begun : (limit : ℕ) (held : List ℕ) (content left : Option (List ℕ)) (end : DiskState) (out : Output) (fault : BeginFault) → NotBegun limit held content left end fault → ComesTo limit held content left end out out (Err (of_begin fault))
-comes_not_begun limit held content left end out (Open unopened.NotDisk) is = (refl, is.0)
-comes_not_begun limit held content left end out (Open (unopened.Damaged place)) is = (refl, is.0)
-comes_not_begun limit held content left end out (Open (unopened.Rejected number)) is = (refl, is.0)
-comes_not_begun limit held content left end out (Open unopened.Disk) is = inl (refl, inl is.1)
-comes_not_begun limit held content left end out (Open unopened.Memory) is = inl (is.1, refl)
-comes_not_begun limit held content left end out (Input input.NotFlow) is = (refl, is.0, is.1, is.2, is.3, is.4, is.5, is.6)
-comes_not_begun limit held content left end out (Input input.BadCheckpoint) is = (refl, is)
-comes_not_begun limit held content left end out (Input input.Read) (inl (begin, old, market, opens, part, place, keeps)) =
+-- what follows a beginning has lines
+near_lines : (limit : ℕ) (content left : Option (List ℕ)) → IfSome content (λ bytes. IsNearStart lines_format limit bytes left)
+    → IfSome content (λ bytes. (before : Start) × (lines : Texts) × HasLinesWithin limit bytes before lines × (taken : ℕ) × IsTaken bytes left taken × (taken ≤ length (bytes_before before) + 65538))
+near_lines limit None left near = tt
+near_lines limit (Some bytes) left (n, taken, input, body, begins, few) =
+    let lines = lines_after (limit < length bytes) (less_or_not limit (length bytes)) body body [] refl (All-nil HasNoFeed) in
+    (input, lines.0, (body, begins, lines.1), n, taken, few)
+
+pub comes_not_begun : (limit : ℕ) (held : List ℕ) (content left : Option (List ℕ)) (end : DiskState) (out : Output) (fault : BeginFault) → NotBegun lines_format limit held content left end fault → Unread lines_format limit content left fault → ComesTo limit held content left end out out (Err (of_begin fault))
+comes_not_begun limit held content left end out (Open unopened.NotDisk) is unread = (refl, is)
+comes_not_begun limit held content left end out (Open (unopened.Damaged place)) is unread = (refl, is)
+comes_not_begun limit held content left end out (Open (unopened.Rejected number)) is unread = (refl, is)
+comes_not_begun limit held content left end out (Open unopened.Disk) is unread = inl (refl, inl unread)
+comes_not_begun limit held content left end out (Open unopened.Memory) is unread = inl (unread, refl)
+comes_not_begun limit held content left end out (Input input.NotFlow) (inl kept) unread = (refl, kept.0, kept.1, kept.2, kept.3, kept.4, kept.5, kept.6)
+comes_not_begun limit held content left end out (Input input.NotFlow) (inr (new, same, images, why)) unread = absurd why
+comes_not_begun limit held content left end out (Input input.BadCheckpoint) (inl (begin, old, market, opens, why, place, keeps)) unread = absurd (wanted_one (version_of begin) why.0)
+comes_not_begun limit held content left end out (Input input.BadCheckpoint) (inr (new, same, images, why)) unread = (refl, (new, why.1, same, images))
+comes_not_begun limit held content left end out (Input input.Read) (inl (begin, old, market, opens, part, place, keeps)) unread =
     inl (record {
       begin = begin;
       old = old;
       market = market;
-      before = None;
+      before = Empty (version_of begin);
       opens = inl (opens, refl);
       lines = [];
-      are = part_read limit held content left end part;
+      are = part_read (version_of begin) limit content left part;
       new = [];
       texts = [];
       now = market;
@@ -123,26 +129,20 @@ comes_not_begun limit held content left end out (Input input.Read) (inl (begin, 
       keeps = subst (λ (l : Pairs). Keeps (head_of begin) (map records_of l) place end) (sym (append-nil old)) keeps;
       gained = gains_none ⊥ out;
     })
-comes_not_begun limit held content left end out (Input input.Read) (inr not) = inr (not out)
-comes_not_begun limit held content left end out (Input input.Memory) early = inr (inl (early out))
-comes_not_begun limit held content left end out Make is = inl (is out)
-
--- a disk that holds a valid journal isn't refused
-pub refused_not_legal : (begin : Start) (limit : ℕ) (content left : Option (List ℕ)) (start end : DiskState) (old : Pairs) (market : Market) (fault : BeginFault) → HoldsLegal start begin old market → IfSome start.content (λ held. length held ≤ 2 ^ 60)
-    → IfSome start.content (λ held. NotBegun limit held content left end fault) → ¬ IsRefusal (Err (of_begin fault))
-refused_not_legal begin limit content left start end old market fault holds small is refusal =
-    let of = begin_refusal fault refusal in
-    not_refused_legal begin start end old market of.0 holds small
-    (if_some start.content _ _ (λ (held : List ℕ) not. (subst (NotBegun limit held content left end) of.1 not).0) is)
-    (subst (λ (f : BeginFault). IsRefusal (Err (of_begin f))) of.1 refusal)
+comes_not_begun limit held content left end out (Input input.Read) (inr (new, same, images, why)) unread = inr (new, same, images, refl, why)
+comes_not_begun limit held content left end out (Input input.Memory) (inl (begin, old, market, opens, inl same, place, keeps)) unread = inl (same, refl)
+comes_not_begun limit held content left end out (Input input.Memory) (inl (begin, old, market, opens, inr new, place, keeps)) unread = absurd (wanted_one (version_of begin) new.0)
+comes_not_begun limit held content left end out (Input input.Memory) (inr (new, same, images, inl none)) unread = inl (none, refl)
+comes_not_begun limit held content left end out (Input input.Memory) (inr (new, same, images, inr early)) unread = inr (inl (new, same, refl, early.1))
+comes_not_begun limit held content left end out Make is near = inl (refl, inr (near_lines limit content left near))
 
 -- before the first line
-pub keeps_none : (limit : ℕ) (content : Option (List ℕ)) (Cut : Type 0) (begin : Start) (start next : DiskState) (old : Pairs) (market : Market) (out : Output) → IsDisk next → OpensSafely limit content start next begin old market
+pub keeps_none : (limit : ℕ) (content : Option (List ℕ)) (Cut : Type 0) (begin : Start) (start next : DiskState) (old : Pairs) (market : Market) (out : Output) → IsDisk next → OpensSafely lines_format limit content start next begin old market
     → ServesIn limit content Cut begin start next old market out out
 keeps_none limit content Cut begin start next old market out is_disk safe = (
   safe.of,
   safe.from,
-  safe.before,
+  safe.input,
   safe.goes,
   record {
     new = [];
@@ -181,53 +181,6 @@ cut_wider limit content Less Cut wider begin start end old market out later (of,
   },
 )
 
--- ---- a disk that was opened
-
--- the old entries are a valid journal
-opens_journal : (held : List ℕ) (begin : Start) (old : Pairs) (m : Market) (before : Option Market) → CanStart begin → OpensAs held begin old m before → IsKeptJournal begin old m
-opens_journal held begin old m before starts (inl legal) = legal.0.2
-opens_journal held begin old m before starts (inr new) = subst (λ (l : Pairs). IsKeptJournal begin l m) (sym new.2) (none_read begin m starts new.3)
-
--- lines can be answered
-pub can_serve : (content now : Option (List ℕ)) (begin : Start) (before : Option Market) (m : Market) (count place : ℕ) (mid : DiskState) → CanStart begin → (IsSome now → IsSome content) → IfSome content (λ held. IsBegun held begin before m count place mid)
-    → IfSome now (λ _. (w : Start) × (old : Pairs) × IsKeptJournal w old m × Keeps (head_of w) (map records_of old) place mid)
-can_serve content None begin before m count place mid starts told begun = tt
-can_serve None (Some bytes) begin before m count place mid starts told begun = absurd (went_well (told refl))
-can_serve (Some held) (Some bytes) begin before m count place mid starts told begun = (begin, begun.0, opens_journal held begin begun.0 m before starts begun.1, begun.3)
-
--- a disk that keeps no valid journal wasn't opened
-pub none_begun : (content : Option (List ℕ)) (begin : Start) (before : Option Market) (m : Market) (count place : ℕ) (mid : DiskState) (P : Type 0) → IfSome content (λ held. IsBegun held begin before m count place mid) → IfSome content (λ held. KeepNone held → P)
-none_begun None begin before m count place mid P begun = tt
-none_begun (Some held) begin before m count place mid P begun = λ none. absurd (opened_not begun.1 none)
-  where
-    opened_not : OpensAs held begin begun.0 m before → ¬ KeepNone held
-    opened_not (inl legal) none = none.1 begin begun.0 m legal.0
-    opened_not (inr new) none = none.0 new.0
-
--- how the journal goes on, with the old entries
-module _ (start : DiskState) (v : Start) (old : Pairs) (market : Market) (holds : HoldsLegal start v old market) where
-  begun_is : (limit : ℕ) (content : Option (List ℕ)) (held : List ℕ) (next : DiskState) (of : Start) (before : Option Market) (m : Market) (count place : ℕ) → start.content ≡ Some held → CanStart of → InputBegins limit content before → IsBegun held of before m count place next
-      → GoesOnIn limit content start v market of m before × IsKeptJournal of old m × (count ≡ length old) × Keeps (head_of of) (map records_of old) place next
-  begun_is limit content held next of before m count place told starts begins (other, inl legal, counted, at) =
-      let same = opened_old start v old market holds held told of other m legal.0 in (
-        inl (sym same.0, sym same.2, legal.1),
-        subst (λ (l : Pairs). IsKeptJournal of l m) (sym same.1) legal.0.2,
-        counted ∙ ap length (sym same.1),
-        subst (λ (l : Pairs). Keeps (head_of of) (map records_of l) place next) (sym same.1) at,
-      )
-  begun_is limit content held next of before m count place told starts begins (other, inr new, counted, at) =
-      let none = new_again start v old market holds held told new.0.0 in (
-        inr (subst (λ (o : Option (List ℕ)). IfSome o IsNewDisk) (sym told) new.0.0, new.1, new.3, begins),
-        subst (λ (l : Pairs). IsKeptJournal of l m) (sym none) (none_read of m starts new.3),
-        counted ∙ ap length (new.2 ∙ sym none),
-        subst (λ (l : Pairs). Keeps (head_of of) (map records_of l) place next) (new.2 ∙ sym none) at,
-      )
-
-  pub begun_known : (limit : ℕ) (content : Option (List ℕ)) (next : DiskState) (of : Start) (before : Option Market) (m : Market) (count place : ℕ) → CanStart of → InputBegins limit content before → IfSome start.content (λ held. IsBegun held of before m count place next)
-      → GoesOnIn limit content start v market of m before × IsKeptJournal of old m × (count ≡ length old) × Keeps (head_of of) (map records_of old) place next
-  begun_known limit content next of before m count place starts begins begun =
-      begun_is limit content holds.bytes next of before m count place holds.told starts begins (subst (λ (o : Option (List ℕ)). IfSome o (λ (held : List ℕ). IsBegun held of before m count place next)) holds.told begun)
-
 -- ---- the lines of the input
 
 -- lines are the same if more of the text follows alike
@@ -251,15 +204,15 @@ lines_go_on More more k bytes read are =
     ended_are (inl (is, why)) = is
     ended_are (inr (is, not, some)) = absurd (not tt)
 
-before_is : (before : Option Market) (bytes text : List ℕ) → IfSome before (λ market. IsCheckpoint market (checkpoint_bytes market)) → (before ≡ None → ¬ HasCheckpointMagic bytes) → bytes ≡ bytes_before before ++ text → IsBefore bytes before text
-before_is None bytes text lawful other is = (other refl, sym is)
-before_is (Some market) bytes text lawful other is = (lawful, is)
+before_is : (before : Start) (bytes text : List ℕ) → CanStart before → ((version : Version) → before ≡ Empty version → ¬ HasCheckpointMagic bytes) → bytes ≡ bytes_before before ++ text → IsBefore bytes before text
+before_is (Empty version) bytes text starts other is = (other version refl, sym is)
+before_is (Kept market) bytes text starts other is = (starts, is)
 
 -- the first bytes don't have the magic if all don't
 none_first : (n : ℕ) (bytes : List ℕ) → ¬ HasCheckpointMagic bytes → ¬ HasCheckpointMagic (take n bytes)
 none_first n bytes none has = none (subst HasCheckpointMagic (take-append-drop n bytes) (magic_on (take n bytes) (drop n bytes) has))
 
-module _ (limit : ℕ) (before : Option Market) (w : WindowState) (content mid left : Option (List ℕ)) (following : IsBehind limit before w content mid) (taken : List ℕ) (takes : Takes mid left taken) where
+module _ (limit : ℕ) (before : Start) (w : WindowState) (content mid left : Option (List ℕ)) (following : IsAfterStart lines_format limit before w content mid) (taken : List ℕ) (takes : Takes mid left taken) where
   abbrev all : List ℕ
   all = w.held ++ known taken left
 
@@ -270,7 +223,7 @@ module _ (limit : ℕ) (before : Option Market) (w : WindowState) (content mid l
   far = w.limit - w.place
 
   start_few : length (bytes_before before) ≤ limit
-  start_few = omega (arith, following.place, following.limited, following.is_open.within)
+  start_few = omega (arith, following.place, following.limited, following.within)
 
   parts : limit ≡ length (bytes_before before) + far
   parts = omega (arith, start_few, following.place, following.limited)
@@ -285,11 +238,10 @@ module _ (limit : ℕ) (before : Option Market) (w : WindowState) (content mid l
     within_is : take limit bytes ≡ bytes_before before ++ take far all
     within_is = ap (take limit) whole_is ∙ ap (λ (n : ℕ). take n (bytes_before before ++ all)) parts ∙ take-append-add (bytes_before before) all far
 
-    none_is : before ≡ None → ¬ HasCheckpointMagic (take limit bytes)
-    none_is is =
-        let first = subst (λ (o : Option (List ℕ)). Takes o (Some m) (bytes_before before ++ w.held)) is_content (subst (λ (o : Option (List ℕ)). Takes content o (bytes_before before ++ w.held)) is_mid following.takes) in
-        let bare : bytes ≡ w.held ++ m = first ∙ ap (λ (o : Option Market). (bytes_before o ++ w.held) ++ m) is in
-        subst (λ (k : List ℕ). ¬ HasCheckpointMagic (take limit k)) (sym bare) (subst (λ (o : Option (List ℕ)). ¬ HasCheckpointMagic (take limit (known w.held o))) is_mid (following.other is))
+    none_is : (version : Version) → before ≡ Empty version → ¬ HasCheckpointMagic (take limit bytes)
+    none_is version is =
+        let begins = subst (λ (o : Option (List ℕ)). InputBegins lines_format limit o before) is_content following.begins in
+        (subst (λ (b : Start). IsBefore (take limit bytes) b begins.0) is begins.1).0
 
     size_is : length bytes ≡ length (bytes_before before) + length all
     size_is = ap length whole_is ∙ length-append (bytes_before before) all
@@ -297,7 +249,7 @@ module _ (limit : ℕ) (before : Option Market) (w : WindowState) (content mid l
     lines_are : (lines : Texts) → AreLines (far < length all) (take far all) lines → HasLinesWithin limit bytes before lines
     lines_are lines are = (
       take far all,
-      before_is before (take limit bytes) (take far all) following.lawful none_is within_is,
+      before_is before (take limit bytes) (take far all) following.starts none_is within_is,
       lines_alike (far < length all) (limit < length bytes) (take far all) lines (λ more. omega (arith, more, parts, size_is)) (λ more. omega (arith, more, parts, size_is)) are,
     )
 
@@ -314,7 +266,7 @@ module _ (limit : ℕ) (before : Option Market) (w : WindowState) (content mid l
     read_is read are =
         let n = length (bytes_before before) + length seen in
         let first : take n (take limit bytes) ≡ bytes_before before ++ take (length seen) (take far all) = ap (take n) within_is ∙ take-append-add (bytes_before before) (take far all) (length seen) in
-        (n, taken_is, (take (length seen) (take far all), before_is before (take n (take limit bytes)) (take (length seen) (take far all)) following.lawful (λ is. none_first n (take limit bytes) (none_is is)) first, are))
+        (n, taken_is, (take (length seen) (take far all), before_is before (take n (take limit bytes)) (take (length seen) (take far all)) following.starts (λ version is. none_first n (take limit bytes) (none_is version is)) first, are))
 
   -- if the input's content is known
   if_known : (P : List ℕ → Type 0) → ((bytes m l : List ℕ) → content ≡ Some bytes → mid ≡ Some m → left ≡ Some l → P bytes) → IfSome content P
@@ -366,8 +318,8 @@ module _ (limit : ℕ) (before : Option Market) (w : WindowState) (content mid l
 -- ---- lines were answered
 
 -- what it does to the disk and to the output
-pub keeps_served : (limit : ℕ) (content mid left : Option (List ℕ)) (w : WindowState) (of : Start) (before : Option Market) (following : IsBehind limit before w content mid) (result : Result Ending (TakeFault ServeFault)) (begin : Start) (start begun end : DiskState) (old : Pairs) (market session : Market) (count place : ℕ) (out later : Output)
-    → GoesOnIn limit content start begin market of session before × IsKeptJournal of old session × (count ≡ length old) × Keeps (head_of of) (map records_of old) place begun → Opens of start begun old
+pub keeps_served : (limit : ℕ) (content mid left : Option (List ℕ)) (w : WindowState) (of before : Start) (following : IsAfterStart lines_format limit before w content mid) (result : Result Ending (TakeFault ServeFault)) (begin : Start) (start begun end : DiskState) (old : Pairs) (market session : Market) (count place : ℕ) (out later : Output)
+    → GoesOnIn lines_format limit content start begin market of session before × IsKeptJournal of old session × (count ≡ length old) × Keeps (head_of of) (map records_of old) place begun → Opens of start begun old
     → AnswersOn w mid left result session count place begun end out later → ServesIn limit content (result ≡ Err (Broken Write)) begin start end old market out later
 keeps_served limit content mid left w of before following result begin start begun end old market session count place out later is opens on =
     let all = on.pairs ++ on.more in (
@@ -391,12 +343,12 @@ keeps_served limit content mid left w of before following result begin start beg
     )
 
 -- what it results in
-module _ (limit : ℕ) (held : List ℕ) (content : Option (List ℕ)) (begun : DiskState) (begin : Start) (before : Option Market) (market : Market) (count place : ℕ) (is : IsBegun held begin before market count place begun) (starts : CanStart begin)
-    (mid left : Option (List ℕ)) (w : WindowState) (following : IsBehind limit before w content mid) (end : DiskState) (out later : Output) where
+module _ (limit : ℕ) (held : List ℕ) (content : Option (List ℕ)) (begun : DiskState) (begin before : Start) (market : Market) (count place : ℕ) (is : IsBegun lines_format held begin before market count place begun)
+    (mid left : Option (List ℕ)) (w : WindowState) (following : IsAfterStart lines_format limit before w content mid) (end : DiskState) (out later : Output) where
   journal : IsKeptJournal begin is.0 market
-  journal = opens_journal held begin is.0 market before starts is.1
+  journal = opens_journal lines_format limit held begin before is.0 market following.starts is.1
 
-  all_answered : (result : Result Ending (TakeFault ServeFault)) (on : AnswersOn w mid left result market count place begun end out later) (Are : List ℕ → Option Market → Texts → Type 0) → ¬ BrokeOff result → AreLinesAnswered market count 1 on.read on.pairs on.texts on.market
+  all_answered : (result : Result Ending (TakeFault ServeFault)) (on : AnswersOn w mid left result market count place begun end out later) (Are : List ℕ → Start → Texts → Type 0) → ¬ BrokeOff result → AreLinesAnswered market count 1 on.read on.pairs on.texts on.market
       → IfSome content (λ bytes. Are bytes before on.read) → HasAnswered held content end out later Are
   all_answered result on Are whole answered are =
       let kept = (on.whole (λ e. whole (Disk, e))).1 begin is.0 journal is.3 in
@@ -485,7 +437,7 @@ module _ (far : ℕ) (all seen : List ℕ) (left : Option (List ℕ)) (read : Te
   leaves_none (Err (Broken fault)) reads = tt
 
 -- at most one byte past the limit was taken
-pub taken_few : (limit : ℕ) (before : Option Market) (w : WindowState) (content mid left : Option (List ℕ)) (taken : List ℕ) → IsBehind limit before w content mid → Takes mid left taken → w.place + (length w.held + length taken) ≤ w.limit + 1 → TakesAtMost content left (limit + 1)
+pub taken_few : (limit : ℕ) (before : Start) (w : WindowState) (content mid left : Option (List ℕ)) (taken : List ℕ) → IsAfterStart lines_format limit before w content mid → Takes mid left taken → w.place + (length w.held + length taken) ≤ w.limit + 1 → TakesAtMost content left (limit + 1)
 taken_few limit before w content mid left taken following takes few =
     at_most content left ((bytes_before before ++ w.held) ++ taken) (limit + 1) (Takes-more content mid left (bytes_before before ++ w.held) taken following.takes takes)
     (omega (arith, few, following.place, following.limited, length-append (bytes_before before ++ w.held) taken, length-append (bytes_before before) w.held))
@@ -493,26 +445,31 @@ taken_few limit before w content mid left taken following takes few =
 -- ---- how long the disk is
 
 -- the window follows what is before the lines: so many bytes fewer may be served
-yet_after : (limit count : ℕ) (before : Option Market) (w : WindowState) (content after : Option (List ℕ)) → IsBehind limit before w content after → BringsAtMost limit content count → HasYetAtMost (count - length (bytes_before before)) w after
-yet_after limit count before w content after following (inl up) = inl (omega (arith, up, following.limited, following.place, following.is_open.within))
+yet_after : (limit count : ℕ) (before : Start) (w : WindowState) (content after : Option (List ℕ)) → IsAfterStart lines_format limit before w content after → BringsAtMost limit content count → HasYetAtMost (count - length (bytes_before before)) w after
+yet_after limit count before w content after following (inl up) = inl (omega (arith, up, following.limited, following.place, following.within))
 yet_after limit count before w content after following (inr has) =
     let less = left_less (bytes_before before ++ w.held) content after has.0 following.takes has.1 in
     inr (less.0, less.1, omega (arith, has.2, less.2, length-append (bytes_before before) w.held))
 
-grows_by : (limit : ℕ) (begin : Start) (before : Option Market) (w : WindowState) (content after : Option (List ℕ)) → IsBehind limit before w content after → (start mid end : DiskState) → IsDisk mid
+grows_by : (limit : ℕ) (begin : Start) (before : Start) (w : WindowState) (content after : Option (List ℕ)) → IsAfterStart lines_format limit before w content after → (start mid end : DiskState) → IsDisk mid
     → ((most : ℕ) → 9 ≤ most → LeavesAtMost most start → AtEachMoment start mid (HasAtMost (most + 2 * length (bytes_before before)))) → (pairs : Pairs) (place : ℕ) → Keeps (head_of begin) (map records_of pairs) place mid
-    → ((count : ℕ) → HasYetAtMost count w after → ReachesAtMost (place + (8421856 * count + 1)) mid end) → GrowsAtMost limit content start end
+    → ((count : ℕ) → HasYetAtMost count w after → ReachesAtMost (place + (8421856 * count + 1)) mid end) → GrowsAtMost 8421856 limit content start end
 grows_by limit begin before w content after following start mid end is_disk within pairs place keeps served = λ most count nine short brings.
     let size = length (bytes_before before) in
     let run = within most nine short in
     let there = at_the_end start mid (HasAtMost (most + 2 * size)) is_disk run in
     let last = last_commit (head_of begin) (map records_of pairs) place (most + 2 * size) mid is_disk keeps there in
-    let few = brought limit count before w content after following brings in
+    let few = brought lines_format limit before w content after following count brings in
     let all = most + 8421856 * count in
     then_more start mid end (HasAtMost all) (weaker start mid (HasAtMost (most + 2 * size)) (HasAtMost all) (λ image le. omega (arith, le, few)) run)
     (served (count - size) (yet_after limit count before w content after following brings) all (omega (arith, last, few)) (λ image left. omega (arith, there image left, few)))
 
-pub grows_served : (limit : ℕ) (begin : Start) (before : Option Market) (w : WindowState) (content after : Option (List ℕ)) → IsBehind limit before w content after → (start mid end : DiskState) → IsDisk mid
-    → ((most : ℕ) → 9 ≤ most → LeavesAtMost most start → AtEachMoment start mid (HasAtMost (most + 2 * length (bytes_before before)))) → (held : List ℕ) (market : Market) (count place : ℕ) → IsBegun held begin before market count place mid
-    → ((more : ℕ) → HasYetAtMost more w after → ReachesAtMost (place + (8421856 * more + 1)) mid end) → GrowsAtMost limit content start end
+pub grows_served : (limit : ℕ) (begin : Start) (before : Start) (w : WindowState) (content after : Option (List ℕ)) → IsAfterStart lines_format limit before w content after → (start mid end : DiskState) → IsDisk mid
+    → ((most : ℕ) → 9 ≤ most → LeavesAtMost most start → AtEachMoment start mid (HasAtMost (most + 2 * length (bytes_before before)))) → (held : List ℕ) (market : Market) (count place : ℕ) → IsBegun lines_format held begin before market count place mid
+    → ((more : ℕ) → HasYetAtMost more w after → ReachesAtMost (place + (8421856 * more + 1)) mid end) → GrowsAtMost 8421856 limit content start end
 grows_served limit begin before w content after following start mid end is_disk within held market count place begun served = grows_by limit begin before w content after following start mid end is_disk within begun.0 place begun.3 served
+
+-- a disk that grew by two bytes for each that was brought grew by no more than for 32 entries
+pub grows_unserved : (limit : ℕ) (content : Option (List ℕ)) (start end : DiskState) → GrowsAtMost 2 limit content start end → GrowsAtMost 8421856 limit content start end
+grows_unserved limit content start end grows = λ most count nine short brings.
+    weaker start end (HasAtMost (most + 2 * count)) (HasAtMost (most + 8421856 * count)) (λ image le. omega (arith, le)) (grows most count nine short brings)

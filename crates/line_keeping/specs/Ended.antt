@@ -7,39 +7,33 @@ use Rattle.flow_orders.specs.Outcomes.{Outcome}
 use Rattle.journal_records.specs.Formats.{records_of}
 use Rattle.market_rules.specs.Market.{Market}
 use Rattle.market_snapshot.specs.Checkpoints.{HasCheckpointMagic}
-use Rattle.market_history.specs.Histories.{Start, market_of}
+use Rattle.market_history.specs.Histories.{Start}
 use Rattle.disk_edge.specs.Disks.{DiskState}
 use Rattle.disk_edge.specs.Images.{LeavesOnly}
 use Rattle.journal_disk.specs.Entries.{Keeps}
 use Rattle.line_records.specs.Lines.{ended_by_feeds}
-use Rattle.journal_keeping.specs.Starts.{head_of, BeginsUnsound}
+use Rattle.journal_keeping.specs.Inputs.{BeginsUnsound}
+use Rattle.journal_keeping.specs.Starts.{head_of}
 use Rattle.journal_keeping.specs.Keeping.{IsKeptJournal}
-use Rattle.journal_keeping.specs.Openings.{New, Legal, IsOpening}
+use Rattle.journal_keeping.specs.Openings.{New, Legal, IsOpening, OpensAs}
 use Rattle.journal_keeping.specs.Openings as opening
 use Rattle.journal_keeping.specs.Ended.{IsRefused, StaysNew}
-use Rattle.journal_keeping.specs.Pacing.{IsInCheckpoint}
+use Rattle.journal_keeping.specs.Pacing.{RunsOutEarly}
 use Rattle.journal_keeping.specs.declared.fault.KeepFault.{KeepFault}
 use Rattle.journal_keeping.specs.declared.fault.KeepFault.TheVariants.{Read, Write, Disk, Memory, NotDisk, Damaged, Rejected, NotFlow, BadCheckpoint, Torn, TooLong}
 use Rattle.line_keeping.specs.Answers.{MayRunOut, AreLinesAnswered, AreAnsweredInto}
-use Rattle.line_keeping.specs.Inputs.{start_after, bytes_before, HasLines, HasLinesWithin, IsUnopened}
+use Rattle.line_keeping.specs.Inputs.{bytes_before, lines_format, HasLines, HasLinesWithin, IsUnopened}
 use Rattle.line_keeping.specs.Outputs.{Output, Gains}
-
--- How a disk with these bytes is continued: its old entries and their market, and what has to be before the lines. A new disk has no entries, and
--- begins with the checkpoint before the lines, or in the highest version.
-abbrev pub OpensAs : List ℕ → Start → List (Pair Record Outcome) → Market → Option Market → Type 0
-OpensAs held begin old market before =
-    (IsOpening held (Legal begin old market) × (before ≡ None))
-    ⊎ (IsOpening held New × (begin ≡ start_after before) × (old ≡ []) × (market ≡ market_of begin))
 
 -- The disk held the bytes of a valid journal, or was new, and all these lines of the input were answered, from the market after the old entries. The
 -- disk keeps its beginning, the old entries and after them those that the lines added, a crash leaves just that, and the output gained exactly the
 -- answers.
-pub record HasAnswered (held : List ℕ) (content : Option (List ℕ)) (end : DiskState) (out later : Output) (Are : List ℕ → Option Market → List (List ℕ) → Type 0) : Type 0 where
+pub record HasAnswered (held : List ℕ) (content : Option (List ℕ)) (end : DiskState) (out later : Output) (Are : List ℕ → Start → List (List ℕ) → Type 0) : Type 0 where
   pub begin : Start
   pub old : List (Pair Record Outcome)
   pub market : Market
-  pub before : Option Market
-  pub opens : OpensAs held begin old market before
+  pub before : Start
+  pub opens : OpensAs lines_format held begin old market before
   pub lines : List (List ℕ)
   pub are : IfSome content (λ bytes. Are bytes before lines)
   pub new : List (Pair Record Outcome)
@@ -57,8 +51,8 @@ pub record BreaksOff (limit : ℕ) (held : List ℕ) (content left : Option (Lis
   pub begin : Start
   pub old : List (Pair Record Outcome)
   pub market : Market
-  pub before : Option Market
-  pub opens : OpensAs held begin old market before
+  pub before : Start
+  pub opens : OpensAs lines_format held begin old market before
   pub read : List (List ℕ)
   pub line : List ℕ
   pub more : List (List ℕ)
@@ -83,19 +77,14 @@ RunsOutAt end begin pairs line = KeepsJust end begin pairs line × MayRunOut lin
 abbrev pub IsNotOpened : ℕ → List ℕ → Option (List ℕ) → Option (List ℕ) → DiskState → Output → Output → Type 0
 IsNotOpened limit held content left end out later =
     IsOpening held New × (end.content ≡ Some held) × LeavesOnly end.images held × (later ≡ out)
-    × IfSome content (λ bytes. (n : ℕ) × IsTaken bytes left n × IsUnopened (take n (take limit bytes)))
+    × IfSome content (λ bytes. (n : ℕ) × IsTaken bytes left n × IsUnopened None (take n (take limit bytes)))
 
 -- nothing was answered, and the source was read no further than 65,538 bytes past what is before its lines
 abbrev pub IsNotBegun : ℕ → Option (List ℕ) → Option (List ℕ) → Output → Output → Type 0
 IsNotBegun limit content left out later =
     (later ≡ out)
-    × ((left ≡ content) ⊎ IfSome content (λ bytes. (before : Option Market) × (lines : List (List ℕ)) × HasLinesWithin limit bytes before lines
+    × ((left ≡ content) ⊎ IfSome content (λ bytes. (before : Start) × (lines : List (List ℕ)) × HasLinesWithin limit bytes before lines
     × (taken : ℕ) × IsTaken bytes left taken × (taken ≤ length (bytes_before before) + 65538)))
-
--- memory ran out for a checkpoint before the lines: the disk was new, and keeps what it held, and nothing was answered
-abbrev pub RunsOutEarly : ℕ → List ℕ → Option (List ℕ) → Option (List ℕ) → DiskState → Output → Output → Type 0
-RunsOutEarly limit held content left end out later =
-    IsOpening held New × (end.content ≡ Some held) × (later ≡ out) × IsInCheckpoint limit content left
 
 -- what serving lines results in, if the disk is known to have held these bytes
 module _ (limit : ℕ) (held : List ℕ) (content left : Option (List ℕ)) (end : DiskState) (out later : Output) where
@@ -110,7 +99,7 @@ module _ (limit : ℕ) (held : List ℕ) (content left : Option (List ℕ)) (end
   ComesTo (Err Disk) = IsNotBegun limit content left out later ⊎ BreaksOff limit held content left ⊥ out later (λ begin pairs line. ⊤)
   ComesTo (Err Memory) =
       ((left ≡ content) × (later ≡ out))
-      ⊎ (RunsOutEarly limit held content left end out later ⊎ BreaksOff limit held content left ⊥ out later (RunsOutAt end))
+      ⊎ (RunsOutEarly limit held content left end (later ≡ out) ⊎ BreaksOff limit held content left ⊥ out later (RunsOutAt end))
   -- a checkpoint is before the lines, but the disk isn't new
   ComesTo (Err NotFlow) =
       (later ≡ out) × (begin : Start) × (old : List (Pair Record Outcome)) × (market : Market) × IsOpening held (Legal begin old market)

@@ -1,5 +1,5 @@
 -- What holds of lines that are answered, whatever the code.
-use Rattle.std.specs.Prelude.{◌≡◌, ℕ, ◌+◌, ◌*◌, ◌^◌, ◌<◌, List, ◌++◌, length, All, map, Option}
+use Rattle.std.specs.Prelude.{◌≡◌, ℕ, ◌+◌, ◌*◌, ◌^◌, ◌<◌, List, ◌++◌, length, All, map}
 use Rattle.wire_records.specs.Records.{Record}
 use Rattle.wire_records.specs.Commands.{Command, Pair}
 use Rattle.wire_records.specs.CommandRecords.{record_of}
@@ -14,13 +14,13 @@ use Rattle.market_history.specs.Histories.{Start}
 use Rattle.line_records.specs.Lines.{Say}
 use Rattle.input_lines.specs.Long.{IsLong}
 use Rattle.line_keeping.specs.Answers.{AreLinesAnswered}
-use Rattle.line_keeping.specs.Inputs.{HasLinesWithin}
-use Rattle.line_keeping.specs.Ended.{OpensAs}
+use Rattle.journal_keeping.specs.Openings.{OpensAs}
+use Rattle.line_keeping.specs.Inputs.{bytes_before, lines_format, HasLinesWithin}
 
--- an input has at most one list of lines, and at most one thing before them
+-- an input has at most one list of lines, and the same bytes are before them
 abbrev pub OneInput : Type 0
-OneInput = (limit : ℕ) (bytes : List ℕ) (before other : Option Market) (lines others : List (List ℕ)) → HasLinesWithin limit bytes before lines → HasLinesWithin limit bytes other others
-    → (before ≡ other) × (lines ≡ others)
+OneInput = (limit : ℕ) (bytes : List ℕ) (before other : Start) (lines others : List (List ℕ)) → HasLinesWithin limit bytes before lines → HasLinesWithin limit bytes other others
+    → (bytes_before before ≡ bytes_before other) × (lines ≡ others)
 
 -- lines add one list of entries, are answered in one way, and lead to one market
 abbrev pub OneAnswer : Type 0
@@ -33,8 +33,8 @@ OneAnswer = (old : Market) (count number : ℕ) (lines : List (List ℕ)) (pairs
 pub record LeadsTo (limit : ℕ) (held bytes : List ℕ) (begin : Start) (pairs : List (Pair Record Outcome)) (texts : List (List ℕ)) (new : Market) : Type 0 where
   pub old : List (Pair Record Outcome)
   pub market : Market
-  pub before : Option Market
-  pub opens : OpensAs held begin old market before
+  pub before : Start
+  pub opens : OpensAs lines_format held begin old market before
   pub lines : List (List ℕ)
   pub are : HasLinesWithin limit bytes before lines
   pub added : List (Pair Record Outcome)

@@ -3,7 +3,5 @@ pub mod Inputs
 pub mod Outputs
 pub mod Keeping
 pub mod Ended
-pub mod Making
-pub mod Lengths
 pub mod Private
 pub mod Laws

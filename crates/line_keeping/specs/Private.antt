@@ -11,41 +11,30 @@ use Rattle.canonical_rule.specs.Canonical.{IsCanonicalOutcome}
 use Rattle.journal_records.specs.Pairs.{IsPair, pair_encoding}
 use Rattle.journal_records.specs.Formats.{records_of}
 use Rattle.market_rules.specs.Market.{Market, IsConsistent}
-use Rattle.market_snapshot.specs.Checkpoints.{checkpoint_magic, checkpoint_bytes, IsCheckpoint, HasCheckpointMagic}
+use Rattle.market_snapshot.specs.Checkpoints.{checkpoint_magic, HasCheckpointMagic}
 use Rattle.market_rules.specs.Journal.{Step}
-use Rattle.market_history.specs.Histories.{Start, market_of, CanStart}
+use Rattle.market_history.specs.Histories.{Start}
 use Rattle.batch_report.specs.Reports.{IsReport}
 use Rattle.file_units.specs.Inputs.{known}
-use Rattle.word_driver.specs.Does.{IsTaken}
 use Rattle.disk_edge.specs.Disks.{DiskState, AtEachMoment}
 use Rattle.journal_disk.specs.Pairs.{RecordPair}
 use Rattle.journal_disk.specs.Entries.{Head, WithOrWithout, Keeps}
-use Rattle.journal_disk.specs.Lengths.{HasAtMost, LeavesAtMost, ReachesAtMost}
+use Rattle.journal_disk.specs.Lengths.{ReachesAtMost}
 use Rattle.line_records.specs.Lines.{HasNoFeed, AreLines, ended_by_feeds}
-use Rattle.journal_keeping.specs.Starts.{head_of, BeginsUnsound}
-use Rattle.journal_keeping.specs.Keeping.{IsKeptJournal, HoldsLegal, Runs}
-use Rattle.journal_keeping.specs.Openings.{Legal, IsOpening}
-use Rattle.journal_keeping.specs.Ended.{StaysNew}
-use Rattle.journal_keeping.specs.Beginning.{OpensNot, IsStored, WhileOpening}
-use Rattle.journal_keeping.specs.Pacing.{asked_of, IsInCheckpoint}
+use Rattle.journal_keeping.specs.Starts.{head_of}
+use Rattle.journal_keeping.specs.Keeping.{IsKeptJournal, Runs}
+use Rattle.journal_keeping.specs.Pacing.{asked_of}
 use Rattle.journal_keeping.specs.Private.{KeepsOneMore, SoFar}
 use Rattle.file_units.specs.declared.units.Ending.{Ending}
 use Rattle.file_units.specs.declared.units.Ending.TheVariants.{End, Torn, TooLong}
 use Rattle.file_units.specs.declared.input.TakeFault.{TakeFault}
 use Rattle.file_units.specs.declared.input.TakeFault.TheVariants.{Read, Broken}
 use Rattle.flow_io.specs.declared.sink.WriteFailed.{WriteFailed}
-use Rattle.journal_keeping.specs.declared.fault.InputFault.{InputFault}
-use Rattle.journal_keeping.specs.declared.fault.InputFault.TheVariants as input
-use Rattle.journal_keeping.specs.declared.fault.BeginFault.{BeginFault}
-use Rattle.journal_keeping.specs.declared.fault.BeginFault.TheVariants.{Open, Input, Make}
 use Rattle.journal_keeping.specs.declared.fault.ServeFault.{ServeFault}
 use Rattle.journal_keeping.specs.declared.fault.ServeFault.TheVariants.{Disk, Write, Memory}
 use Rattle.input_lines.specs.Finding.{IsOpen, HasEnded}
 use Rattle.line_keeping.specs.Answers.{no_command_text, AreAnswered, IsLineAnswered, IsLineBegun, AreLinesAnswered, AreAnsweredInto, MayRunOut}
-use Rattle.line_keeping.specs.Inputs.{start_after, bytes_before, IsUnopened}
-use Rattle.line_keeping.specs.Making.{HasShownStart}
-use Rattle.line_keeping.specs.Keeping.{GoesOnIn}
-use Rattle.line_keeping.specs.Ended.{OpensAs, IsNotOpened, IsNotBegun, RunsOutEarly}
+use Rattle.line_keeping.specs.Inputs.{IsUnopened}
 use Rattle.line_keeping.specs.Outputs.{Output, Gains}
 
 -- ---- what is before the lines
@@ -59,7 +48,7 @@ pub record ShowsStart (old new : WindowState) (before after : Option (List ℕ))
   pub is_open : IsOpen new after
   pub unended : IsTrue found → new.over ≡ None
   pub magic : IsTrue found → HasCheckpointMagic new.held
-  pub other : ¬ IsTrue found → (¬ HasCheckpointMagic (take new.limit (known new.held after))) × (¬ IsUnopened new.held ⊎ HasEnded new after ⊎ (new.limit ≡ length new.held))
+  pub other : ¬ IsTrue found → (¬ HasCheckpointMagic (take new.limit (known new.held after))) × (¬ IsUnopened None new.held ⊎ HasEnded new after ⊎ (new.limit ≡ length new.held))
 
 -- the first bytes of an input were taken, and a window holds them
 pub record HasLooked (old now : WindowState) (before rest : Option (List ℕ)) : Type 0 where
@@ -79,55 +68,6 @@ pub record ShowsNone (limit : ℕ) (before after : Option (List ℕ)) : Type 0 w
 
 -- ---- commands
 
--- a window is past what is before the lines of an input, and was filled no further than the limit
-pub record IsBehind (limit : ℕ) (before : Option Market) (window : WindowState) (rest after : Option (List ℕ)) : Type 0 where
-  pub limited : window.limit ≡ limit
-  pub place : window.place ≡ length (bytes_before before)
-  pub is_open : IsOpen window after
-  pub takes : Takes rest after (bytes_before before ++ window.held)
-  pub lawful : IfSome before (λ market. IsCheckpoint market (checkpoint_bytes market))
-  pub other : before ≡ None → ¬ HasCheckpointMagic (take limit (known window.held after))
-
--- An input was opened: a window is past what is before its lines, this is the market in which the journal of a new disk begins, and its first entry as stored.
-pub record OpensInput (limit : ℕ) (market : Market) (stored : List ℕ) (window : WindowState) (rest after : Option (List ℕ)) : Type 0 where
-  pub before : Option Market
-  pub following : IsBehind limit before window rest after
-  pub market_is : market ≡ market_of (start_after before)
-  pub stored_is : IsStored (start_after before) stored
-  pub shown : IfSome rest (λ bytes. HasShownStart limit bytes after)
-
--- why an input wasn't opened
-abbrev pub NotOpened : ℕ → Option (List ℕ) → Option (List ℕ) → InputFault → Type 0
-NotOpened limit content left input.BadCheckpoint = IfSome content (λ bytes. BeginsUnsound (take limit bytes))
-NotOpened limit content left input.Read = IfSome content (λ bytes. (n : ℕ) × IsTaken bytes left n × IsUnopened (take n (take limit bytes)))
-NotOpened limit content left input.Memory = IsInCheckpoint limit content left
-NotOpened limit content left input.NotFlow = ⊥
-
--- the journal of a disk was opened, with so many entries, and the disk holds nothing after its commit byte; or the disk was new, and was made one that begins so
-abbrev pub IsBegun : List ℕ → Start → Option Market → Market → ℕ → ℕ → DiskState → Type 0
-IsBegun held begin before market count place now =
-    (old : List (Pair Record Outcome)) × OpensAs held begin old market before × (count ≡ length old) × Keeps (head_of begin) (map records_of old) place now
-
--- The disk and the input were opened: how the journal begins and what is before the lines, what was opened, and what a crash leaves meanwhile.
-pub record HasBegun (limit : ℕ) (start end : DiskState) (window : WindowState) (rest after : Option (List ℕ)) (market : Market) (count place : ℕ) : Type 0 where
-  pub begin : Start
-  pub before : Option Market
-  pub starts : CanStart begin
-  pub following : IsBehind limit before window rest after
-  pub shown : IfSome rest (λ bytes. HasShownStart limit bytes after)
-  pub begun : IfSome start.content (λ held. IsBegun held begin before market count place end)
-  pub moments : (was : Start) (old : List (Pair Record Outcome)) (m : Market) → HoldsLegal start was old m → AtEachMoment start end (WhileOpening begin start old)
-  pub lengths : (most : ℕ) → 9 ≤ most → LeavesAtMost most start → AtEachMoment start end (HasAtMost (most + 2 * length (bytes_before before)))
-
--- Opening leaves no more than that.
-pub record OpensSafely (limit : ℕ) (content : Option (List ℕ)) (start end : DiskState) (begin : Start) (old : List (Pair Record Outcome)) (market : Market) : Type 0 where
-  pub of : Start
-  pub from : Market
-  pub before : Option Market
-  pub goes : GoesOnIn limit content start begin market of from before
-  pub journal : IsKeptJournal of old from
-  pub moments : AtEachMoment start end (WhileOpening of start old)
-
 -- the room of the text that a line is no command: "line ", at most 20 digits, and the rest
 abbrev pub refusal_room : ℕ
 refusal_room = 40
@@ -138,26 +78,6 @@ pub record IsReadyToServe (market : Market) (entries place room : ℕ) : Type 0 
   pub counted : entries ≤ place
   pub few : place ≤ 2 ^ 60
   pub text : refusal_room ≤ room
-
--- why nothing was answered, if the disk held these bytes
-module _ (limit : ℕ) (held : List ℕ) (content left : Option (List ℕ)) (end : DiskState) where
-  -- the disk keeps the entries of the valid journal that it held
-  abbrev pub StaysKept : (Option (List ℕ) → Type 0) → Type 0
-  StaysKept Are =
-      (begin : Start) × (old : List (Pair Record Outcome)) × (market : Market) × IsOpening held (Legal begin old market) × Are content
-      × (place : ℕ) × Keeps (head_of begin) (map records_of old) place end
-
-  -- what was taken of the input is a part of the magic of a checkpoint
-  abbrev pub IsPart : Option (List ℕ) → Type 0
-  IsPart input = IfSome input (λ bytes. (n : ℕ) × IsTaken bytes left n × (rest : List ℕ) × (checkpoint_magic ≡ take n (take limit bytes) ++ rest) × (n < 8))
-
-  abbrev pub NotBegun : BeginFault → Type 0
-  NotBegun (Open fault) = OpensNot held end fault × (left ≡ content)
-  NotBegun (Input input.NotFlow) = StaysKept (λ input. IfSome input (λ bytes. HasCheckpointMagic (take limit bytes)))
-  NotBegun (Input input.BadCheckpoint) = StaysNew BeginsUnsound limit held content end
-  NotBegun (Input input.Read) = StaysKept IsPart ⊎ ((out : Output) → IsNotOpened limit held content left end out out)
-  NotBegun (Input input.Memory) = (out : Output) → RunsOutEarly limit held content left end out out
-  NotBegun Make = (out : Output) → IsNotBegun limit content left out out
 
 -- what is kept and written may go on: the numbers of orders and entries are below the place on the disk, which has room for so many entries more
 pub record IsReadyFor (market : Market) (entries place left : ℕ) : Type 0 where

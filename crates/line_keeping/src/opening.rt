@@ -1,34 +1,19 @@
-//! Opens a disk and an input of lines: audits the kept entries, looks what is before the lines, and makes a new disk.
-ghost use Rattle.std.specs.Prelude.{◌≡◌, ◌≤◌, ◌<◌, ◌+◌, ◌^◌, ◌⊎◌, ℕ, List, [], Option, Some, None, Err, IfSome, IsSome, IfOk, IfErr, OnOk, OnErr, IsErr, length, vec_capacity};
+//! An input of lines: looks what is before them, and moves past it.
+ghost use Rattle.std.specs.Prelude.{◌≡◌, ◌≤◌, ◌+◌, ◌^◌, ℕ, List, Option, None, Err, IfOk, IfErr, IsErr, length, vec_capacity};
 ghost use Rattle.flow_io.specs.Faults.{Blames};
 ghost use Rattle.flow_io.specs.Streams.{TakesAtMost};
 ghost use Rattle.flow_io.specs.Windows.{empty_window};
-ghost use Rattle.wire_records.specs.Records.{Record};
-ghost use Rattle.wire_records.specs.Commands.{Pair};
-ghost use Rattle.flow_orders.specs.Outcomes.{Outcome};
-ghost use Rattle.journal_records.specs.Pairs.{longest_plain_pair};
-ghost use Rattle.market_rules.specs.Market.{Market as market_value};
-ghost use Rattle.market_history.specs.Histories.{Start, CanStart};
-ghost use Rattle.journal_disk.specs.Looking.{OnlyLooks};
-ghost use Rattle.journal_disk.specs.Recovering.{IsFound};
-ghost use Rattle.journal_keeping.specs.Keeping.{HoldsLegal};
-ghost use Rattle.journal_keeping.specs.Openings.{KeepNone};
+ghost use Rattle.journal_keeping.specs.Inputs.{NotTaken};
+ghost use Rattle.journal_keeping.specs.Beginning.{TakesStart};
 ghost use Rattle.input_lines.specs.Long.{most_line};
-ghost use Rattle.line_keeping.specs.Making.{HasShownStart, IsMadeAfterStart};
-ghost use Rattle.line_keeping.specs.Lengths.{GrowsAtMost};
-ghost use Rattle.line_keeping.specs.Private.{HasBegun, OpensSafely, IsReadyToServe, NotBegun, OpensInput, NotOpened, refusal_room};
+ghost use Rattle.input_lines.specs.Finding.{IsOpen};
+ghost use Rattle.line_keeping.specs.Inputs.{lines_format};
+ghost use Rattle.line_keeping.specs.Private.{refusal_room};
 
-use crate::answering::Desk;
 use crate::input::has_checkpoint;
-use disk_edge::Disk;
-use exchange_session::Session;
 use flow_io::{Source, Window};
 use input_lines::MOST_LINE;
-use journal_disk::{Appender, recover};
-use journal_keeping::{
-    BeginFault, InputFault, OpenFault, Writer, make_disk, open_kept, stored_checkpoint,
-};
-use journal_records::MOST_PLAIN_PAIR;
+use journal_keeping::{Input, InputFault, NewInput, stored_checkpoint};
 use market_core::Market;
 use market_history::{StartFault, kept_market};
 use std::alloc::Global;
@@ -40,34 +25,21 @@ const NEWEST: Version = Version::Four;
 // Memory for the text that a line is no command: "line ", at most 20 digits, and the rest.
 const REFUSAL_ROOM: usize = 40;
 
-// A disk and an input that are opened.
+// An input of lines, and the buffers in which commands are served and texts are written.
 #[derive(Drop)]
-pub(crate) struct Begun {
+pub(crate) struct Lines {
     pub(crate) window: Window,
-    pub(crate) desk: Desk,
+    pub(crate) record: Vec<u8>,
+    pub(crate) text: Vec<u8>,
 }
 
-// The buffers that a call needs, besides those of the disk.
-#[derive(Drop)]
-struct Buffers {
-    window: Window,
-    pair: Vec<u8>,
-    record: Vec<u8>,
-    text: Vec<u8>,
-}
-
-// Allocates the buffers.
-fn make_buffers(alloc: Global, limit: u64) -> Result<Buffers, Memory>
+// Allocates the window and the buffers.
+fn make_lines(alloc: Global, limit: u64) -> Result<Lines, Memory>
     ensures window { IfOk result (λ b. b.window ≡ empty_window (most_line + 1) limit) }
-    ensures pair { IfOk result (λ b. longest_plain_pair ≤ vec_capacity b.pair) }
     ensures text { IfOk result (λ b. refusal_room ≤ vec_capacity b.text) }
 {
     let window = match Window::new(alloc, MOST_LINE + 1, limit) {
         Ok(window) => window,
-        Err(_) => return Err(Memory),
-    };
-    let pair = match Vec::with_capacity(alloc, MOST_PLAIN_PAIR) {
-        Ok(pair) => pair,
         Err(_) => return Err(Memory),
     };
     let record = match Vec::with_capacity(alloc, MOST_RECORD) {
@@ -78,70 +50,10 @@ fn make_buffers(alloc: Global, limit: u64) -> Result<Buffers, Memory>
         Ok(text) => text,
         Err(_) => return Err(Memory),
     };
-    Ok(Buffers {
+    Ok(Lines {
         window,
-        pair,
         record,
         text,
-    })
-}
-
-// Opens a disk of a version, and then the input, before whose lines there has to be no checkpoint.
-fn begin_kept<S: Source, D: Disk>(
-    alloc: Global,
-    limit: u64,
-    source: &mut S,
-    disk: &mut D,
-    version: Version,
-) -> Result<Begun, BeginFault>
-    requires few { limit ≤ 2 ^ 32 }
-    requires found { IfSome (D.state disk.old).content (λ held. IsFound (Some version) held (D.state disk.old)) }
-    ensures begun { IfOk result (λ b. HasBegun limit (D.state disk.old) (D.state disk.new) b.window (S.rest source.old) (S.rest source.new)
-        b.desk.writer.session b.desk.entries b.desk.writer.appender) }
-    ensures ready { IfOk result (λ b. IsReadyToServe b.desk.writer.session b.desk.entries b.desk.writer.appender (vec_capacity b.desk.text)) }
-    ensures first { IfOk result (λ b. b.desk.lines ≡ 0) }
-    ensures refused { IfErr result (λ fault. IfSome (D.state disk.old).content (λ held. NotBegun limit held (S.rest source.old) (S.rest source.new) (D.state disk.new) fault)) }
-    ensures taken { IsErr result → TakesAtMost (S.rest source.old) (S.rest source.new) (limit + 1) }
-    ensures unasked { (fault : OpenFault) → result ≡ Err (BeginFault.Open fault) → source.new ≡ source.old }
-    ensures untouched { IfSome (D.state disk.old).content
-        (λ held. KeepNone held → IsErr result × OnlyLooks (D.state disk.old) (D.state disk.new) × (source.new ≡ source.old)) }
-    ensures safe { IsErr result → (was : Start) (old : List (Pair Record Outcome)) (market : market_value) → HoldsLegal (D.state disk.old) was old market →
-        OpensSafely limit (S.rest source.old) (D.state disk.old) (D.state disk.new) was old market }
-    ensures lengths { IsErr result → GrowsAtMost limit (S.rest source.old) (D.state disk.old) (D.state disk.new) }
-    ensures told { OnOk result (IsSome (D.state disk.new).content → IsSome (D.state disk.old).content) }
-    ensures disk_cause { Blames ((result ≡ Err (BeginFault.Open OpenFault.Disk)) ⊎ (result ≡ Err BeginFault.Make)) (D.state disk.old).faults (D.state disk.new).faults }
-    ensures source_cause { Blames (result ≡ Err (BeginFault.Input InputFault.Read)) (S.faults source.old) (S.faults source.new) }
-{
-    let Buffers {
-        window,
-        pair,
-        record,
-        text,
-    } = match make_buffers(alloc, limit) {
-        Ok(buffers) => buffers,
-        Err(_) => return Err(BeginFault::Open(OpenFault::Memory)),
-    };
-    let writer = match open_kept(alloc, disk, version, pair) {
-        Ok(writer) => writer,
-        Err(fault) => return Err(BeginFault::Open(fault)),
-    };
-    let mut window = window;
-    match has_checkpoint(&mut window, source, limit) {
-        Ok(false) => {}
-        Ok(true) => return Err(BeginFault::Input(InputFault::NotFlow)),
-        Err(_) => return Err(BeginFault::Input(InputFault::Read)),
-    }
-    let entries = writer.entries;
-    Ok(Begun {
-        window,
-        desk: Desk {
-            alloc,
-            writer,
-            lines: 0,
-            entries,
-            record,
-            text,
-        },
     })
 }
 
@@ -162,9 +74,11 @@ fn open_input<S: Source>(
 ) -> Result<OpenInput, InputFault>
     requires few { limit ≤ 2 ^ 32 }
     requires window { window.old ≡ empty_window (most_line + 1) limit }
-    ensures opens { IfOk result (λ o. OpensInput limit o.market o.stored.items window.new (S.rest source.old) (S.rest source.new)) }
+    ensures opens { IfOk result (λ o. length window.new.held ≤ 65538 →
+        TakesStart lines_format limit o.market o.stored.items window.new (S.rest source.old) (S.rest source.new)) }
+    ensures opened { IfOk result (λ _. IsOpen window.new (S.rest source.new)) }
     ensures numbers { IfOk result (λ o. o.market.next_order ≤ 2 ^ 63) }
-    ensures refused { IfErr result (NotOpened limit (S.rest source.old) (S.rest source.new)) }
+    ensures fails { IfErr result (NotTaken lines_format limit None (S.rest source.old) (S.rest source.new)) }
     ensures taken { IsErr result → TakesAtMost (S.rest source.old) (S.rest source.new) (limit + 1) }
     ensures cause { Blames (result ≡ Err InputFault.Read) (S.faults source.old) (S.faults source.new) }
 {
@@ -191,104 +105,58 @@ fn open_input<S: Source>(
     }
 }
 
-// Opens the input, and then makes a new disk one that begins with what is before its lines.
-fn begin_new<S: Source, D: Disk>(
-    alloc: Global,
-    limit: u64,
-    source: &mut S,
-    disk: &mut D,
-) -> Result<Begun, BeginFault>
-    requires few { limit ≤ 2 ^ 32 }
-    requires found { IfSome (D.state disk.old).content (λ held. IsFound None held (D.state disk.old)) }
-    ensures begun { IfOk result (λ b. HasBegun limit (D.state disk.old) (D.state disk.new) b.window (S.rest source.old) (S.rest source.new)
-        b.desk.writer.session b.desk.entries b.desk.writer.appender) }
-    ensures ready { IfOk result (λ b. IsReadyToServe b.desk.writer.session b.desk.entries b.desk.writer.appender (vec_capacity b.desk.text)) }
-    ensures first { IfOk result (λ b. b.desk.lines ≡ 0) }
-    ensures refused { IfErr result (λ fault. IfSome (D.state disk.old).content (λ held. NotBegun limit held (S.rest source.old) (S.rest source.new) (D.state disk.new) fault)) }
-    ensures taken { IsErr result → TakesAtMost (S.rest source.old) (S.rest source.new) (limit + 1) }
-    ensures unasked { (fault : OpenFault) → result ≡ Err (BeginFault.Open fault) → source.new ≡ source.old }
-    ensures untouched { IfSome (D.state disk.old).content
-        (λ held. KeepNone held → IsErr result × OnlyLooks (D.state disk.old) (D.state disk.new) × (source.new ≡ source.old)) }
-    ensures safe { IsErr result → (was : Start) (old : List (Pair Record Outcome)) (market : market_value) → HoldsLegal (D.state disk.old) was old market →
-        OpensSafely limit (S.rest source.old) (D.state disk.old) (D.state disk.new) was old market }
-    ensures lengths { IsErr result → GrowsAtMost limit (S.rest source.old) (D.state disk.old) (D.state disk.new) }
-    ensures told { OnOk result (IsSome (D.state disk.new).content → IsSome (D.state disk.old).content) }
-    ensures made { IfErr result (λ _. OnlyLooks (D.state disk.old) (D.state disk.new)
-        ⊎ IfSome (S.rest source.old) (λ bytes. HasShownStart limit bytes (S.rest source.new))) }
-    ensures disk_cause { Blames ((result ≡ Err (BeginFault.Open OpenFault.Disk)) ⊎ (result ≡ Err BeginFault.Make)) (D.state disk.old).faults (D.state disk.new).faults }
-    ensures source_cause { Blames (result ≡ Err (BeginFault.Input InputFault.Read)) (S.faults source.old) (S.faults source.new) }
-{
-    let Buffers {
-        window,
-        pair,
-        record,
-        text,
-    } = match make_buffers(alloc, limit) {
-        Ok(buffers) => buffers,
-        Err(_) => return Err(BeginFault::Open(OpenFault::Memory)),
-    };
-    let mut appender = match Appender::for_new(alloc) {
-        Ok(appender) => appender,
-        Err(_) => return Err(BeginFault::Open(OpenFault::Memory)),
-    };
-    let mut window = window;
-    let OpenInput { market, stored } = match open_input(alloc, limit, &mut window, source) {
-        Ok(opened) => opened,
-        Err(fault) => return Err(BeginFault::Input(fault)),
-    };
-    // Called for its contract: the window holds no more than it has room for.
-    let _held = window.held();
-    match make_disk(&mut appender, disk, market.version(), &stored) {
-        Ok(()) => Ok(Begun {
-            window,
-            desk: Desk {
-                alloc,
-                writer: Writer {
-                    session: Session::over(market),
-                    appender,
-                    entries: 0,
-                    pair,
-                },
-                lines: 0,
-                entries: 0,
-                record,
-                text,
-            },
-        }),
-        Err(_) => Err(BeginFault::Make),
-    }
-}
+impl Input for Lines {
+    ghost use Rattle.input_lines.specs.Finding.{IsOpen};
+    ghost use Rattle.line_keeping.specs.Inputs.{lines_format};
+    ghost use Rattle.line_keeping.specs.Private.{refusal_room};
 
-// Opens the disk and the input. A disk that has a version is opened first, with its entries; for a new one it is looked first what is before the lines,
-// since that says how the disk begins.
-pub(crate) fn begin<S: Source, D: Disk>(
-    alloc: Global,
-    limit: u64,
-    source: &mut S,
-    disk: &mut D,
-) -> Result<Begun, BeginFault>
-    requires few { limit ≤ 2 ^ 32 }
-    ensures begun { IfOk result (λ b. HasBegun limit (D.state disk.old) (D.state disk.new) b.window (S.rest source.old) (S.rest source.new)
-        b.desk.writer.session b.desk.entries b.desk.writer.appender) }
-    ensures ready { IfOk result (λ b. IsReadyToServe b.desk.writer.session b.desk.entries b.desk.writer.appender (vec_capacity b.desk.text)) }
-    ensures first { IfOk result (λ b. b.desk.lines ≡ 0) }
-    ensures refused { IfErr result (λ fault. IfSome (D.state disk.old).content (λ held. NotBegun limit held (S.rest source.old) (S.rest source.new) (D.state disk.new) fault)) }
-    ensures taken { IsErr result → TakesAtMost (S.rest source.old) (S.rest source.new) (limit + 1) }
-    ensures unasked { (fault : OpenFault) → result ≡ Err (BeginFault.Open fault) → source.new ≡ source.old }
-    ensures untouched { IfSome (D.state disk.old).content
-        (λ held. KeepNone held → IsErr result × OnlyLooks (D.state disk.old) (D.state disk.new) × (source.new ≡ source.old)) }
-    ensures safe { IsErr result → (was : Start) (old : List (Pair Record Outcome)) (market : market_value) → HoldsLegal (D.state disk.old) was old market →
-        OpensSafely limit (S.rest source.old) (D.state disk.old) (D.state disk.new) was old market }
-    ensures lengths { IsErr result → GrowsAtMost limit (S.rest source.old) (D.state disk.old) (D.state disk.new) }
-    ensures told { OnOk result (IsSome (D.state disk.new).content → IsSome (D.state disk.old).content) }
-    ensures made { IfErr result (λ _. IfSome (D.state disk.old).content
-        (λ held. IsMadeAfterStart limit held (D.state disk.old) (D.state disk.new) (S.rest source.old) (S.rest source.new))) }
-    ensures disk_cause { Blames ((result ≡ Err (BeginFault.Open OpenFault.Disk)) ⊎ (result ≡ Err BeginFault.Make)) (D.state disk.old).faults (D.state disk.new).faults }
-    ensures source_cause { Blames (result ≡ Err (BeginFault.Input InputFault.Read)) (S.faults source.old) (S.faults source.new) }
-{
-    match recover(disk) {
-        Ok(Some(version)) => begin_kept(alloc, limit, source, disk, version),
-        Ok(None) => begin_new(alloc, limit, source, disk),
-        Err(fault) => Err(BeginFault::Open(OpenFault::from(fault))),
+    ghost format = { lines_format };
+
+    ghost window = { λ lines. lines.window };
+
+    ghost is_open = { λ lines left. IsOpen lines.window left × (refusal_room ≤ vec_capacity lines.text) };
+
+    fn open_as<S: Source>(
+        alloc: Global,
+        limit: u64,
+        source: &mut S,
+        version: Version,
+    ) -> Result<Lines, InputFault> {
+        let mut lines = match make_lines(alloc, limit) {
+            Ok(lines) => lines,
+            Err(_) => return Err(InputFault::Memory),
+        };
+        match has_checkpoint(&mut lines.window, source, limit) {
+            Ok(false) => {
+                // Called for its contract: the window holds no more than it has room for.
+                let _held = lines.window.held();
+                Ok(lines)
+            }
+            Ok(true) => Err(InputFault::NotFlow),
+            Err(_) => Err(InputFault::Read),
+        }
+    }
+
+    fn open_first<S: Source>(
+        alloc: Global,
+        limit: u64,
+        source: &mut S,
+    ) -> Result<NewInput<Lines>, InputFault> {
+        let mut lines = match make_lines(alloc, limit) {
+            Ok(lines) => lines,
+            Err(_) => return Err(InputFault::Memory),
+        };
+        match open_input(alloc, limit, &mut lines.window, source) {
+            Ok(OpenInput { market, stored }) => {
+                // Called for its contract: the window holds no more than it has room for.
+                let _held = lines.window.held();
+                Ok(NewInput {
+                    input: lines,
+                    market,
+                    stored,
+                })
+            }
+            Err(fault) => Err(fault),
+        }
     }
 }

@@ -14,23 +14,23 @@ ghost use Rattle.journal_disk.specs.Lengths.{ReachesAtMost};
 ghost use Rattle.journal_keeping.specs.Starts.{head_of};
 ghost use Rattle.journal_keeping.specs.Keeping.{IsKeptJournal, HoldsLegal};
 ghost use Rattle.journal_keeping.specs.Openings.{KeepNone};
-ghost use Rattle.journal_keeping.specs.Lengths.{HasYetAtMost};
+ghost use Rattle.journal_keeping.specs.Lengths.{GrowsAtMost, HasYetAtMost};
+ghost use Rattle.journal_keeping.specs.Making.{IsMadeAfterStart};
 ghost use Rattle.journal_keeping.specs.Ended.{IsRefusal, MayBeginAgain};
 ghost use Rattle.line_keeping.specs.Outputs.{output};
 ghost use Rattle.line_keeping.specs.Keeping.{ServesIn};
 ghost use Rattle.line_keeping.specs.Ended.{ComesTo, LeavesNone};
-ghost use Rattle.line_keeping.specs.Making.{IsMadeAfterStart};
-ghost use Rattle.line_keeping.specs.Lengths.{GrowsAtMost};
+ghost use Rattle.line_keeping.specs.Inputs.{lines_format};
 ghost use Rattle.input_lines.specs.Finding.{IsOpen};
 ghost use Rattle.line_keeping.specs.Private.{IsReadyToServe, AnswersOn};
 
 use crate::answering::Desk;
-use crate::opening::begin;
+use crate::opening::Lines;
 use disk_edge::Disk;
 use file_units::{Ending, TakeFault};
 use flow_io::{Sink, Source, Window};
 use input_lines::{Next, next_line};
-use journal_keeping::{KeepFault, ServeFault, kept};
+use journal_keeping::{KeepFault, Ready, ServeFault, begin, kept};
 use std::alloc::Global;
 
 // Answers the lines of an input, from those that a window holds on.
@@ -131,7 +131,7 @@ pub fn serve_lines<S: Source, D: Disk, K: Sink>(
         (output K.held K.calls K.faults out.old) (output K.held K.calls K.faults out.new) }
     ensures again { (begin : Start) (old : List (Pair Record Outcome)) (market : Market) → HoldsLegal (D.state disk.old) begin old market →
         MayBeginAgain (D.state disk.old) (D.state disk.new) }
-    ensures lengths { IfSome (D.state disk.old).content (λ _. GrowsAtMost limit (S.rest source.old) (D.state disk.old) (D.state disk.new)) }
+    ensures lengths { IfSome (D.state disk.old).content (λ _. GrowsAtMost 8421856 limit (S.rest source.old) (D.state disk.old) (D.state disk.new)) }
     ensures comes { IfSome (D.state disk.old).content (λ held. ComesTo limit held (S.rest source.old) (S.rest source.new) (D.state disk.new)
         (output K.held K.calls K.faults out.old) (output K.held K.calls K.faults out.new) result) }
     ensures legal { (begin : Start) (old : List (Pair Record Outcome)) (market : Market) → HoldsLegal (D.state disk.old) begin old market →
@@ -139,7 +139,7 @@ pub fn serve_lines<S: Source, D: Disk, K: Sink>(
     ensures untouched { IfSome (D.state disk.old).content
         (λ held. KeepNone held → OnlyLooks (D.state disk.old) (D.state disk.new) × (source.new ≡ source.old) × (out.new ≡ out.old)) }
     ensures made { IfSome (D.state disk.old).content
-        (λ held. IsMadeAfterStart limit held (D.state disk.old) (D.state disk.new) (S.rest source.old) (S.rest source.new)) }
+        (λ held. IsMadeAfterStart lines_format limit held (D.state disk.old) (D.state disk.new) (S.rest source.old) (S.rest source.new)) }
     ensures taken { TakesAtMost (S.rest source.old) (S.rest source.new) (limit + 1) }
     ensures left { LeavesNone result (S.rest source.new) }
     ensures unasked { IsRefusal result → (source.new ≡ source.old) × (out.new ≡ out.old) }
@@ -147,8 +147,24 @@ pub fn serve_lines<S: Source, D: Disk, K: Sink>(
     ensures source_cause { Blames (result ≡ Err KeepFault.Read) (S.faults source.old) (S.faults source.new) }
     ensures out_cause { Blames (result ≡ Err KeepFault.Write) (K.faults out.old) (K.faults out.new) }
 {
-    match begin(alloc, limit, source, disk) {
-        Ok(mut begun) => kept(serve_on(&mut begun.window, source, &mut begun.desk, disk, out)),
+    match begin::<Lines, S, D>(alloc, limit, source, disk) {
+        Ok(Ready { input, writer }) => {
+            let Lines {
+                mut window,
+                record,
+                text,
+            } = input;
+            let entries = writer.entries;
+            let mut desk = Desk {
+                alloc,
+                writer,
+                lines: 0,
+                entries,
+                record,
+                text,
+            };
+            kept(serve_on(&mut window, source, &mut desk, disk, out))
+        }
         Err(fault) => Err(KeepFault::from(fault)),
     }
 }

@@ -10,19 +10,20 @@ use Rattle.journal_keeping.specs.Faults.{of_begin, kept_result}
 use Rattle.journal_keeping.specs.Pacing.{KeepsPace}
 use Rattle.journal_keeping.specs.Ended.{ComesTo, IsRefusal}
 use Rattle.journal_keeping.proofs.Faults.{same_kept, same_begin, begin_read, begin_disk, begin_write, disk_begin, begin_refusal, went_read, went_write, went_disk, went_memory, went_refused}
-use Rattle.journal_keeping.proofs.Counts.{if_some, uncalled, later_call, blames_alike}
-use Rattle.journal_keeping.proofs.Making.{each_some, start_taken, source_begins}
-use Rattle.journal_keeping.proofs.Begun.{begun_known, none_begun, can_serve}
+use Rattle.journal_keeping.proofs.Counts.{if_some, if_both, uncalled, later_call, blames_alike}
+use Rattle.journal_keeping.specs.Starts.{source_format}
+use Rattle.journal_keeping.proofs.Making.{each_some, start_taken, as_source}
+use Rattle.journal_keeping.proofs.Starting.{begun_known, none_begun, none_open, can_serve}
 use Rattle.journal_keeping.proofs.Pacing.{paced_unread, unread_out, taken_at_most, paced_served, wants_next}
 use Rattle.journal_keeping.proofs.Whole.{keeps_none, may_begin_again, comes_not_begun, comes_served, keeps_served, cut_wider, refused_not_legal}
-use Rattle.journal_keeping.proofs.Lengths.{grows_served}
+use Rattle.journal_keeping.proofs.Lengths.{grows_served, grows_unserved}
 use Rattle.journal_keeping.proofs.keeping.keep.Goals as goal
 
 -- ---- nothing was served
 
 pub returns-in-Err-clause-keeps : goal.returns-in-Err-clause-keeps
 returns-in-Err-clause-keeps g c = λ begin old market legal.
-    keeps_none c.args.limit (g.S.Source.rest c.args.source.now) _ begin (g.D.Disk.state c.args.disk.now) (g.D.Disk.state c.begin.new.disk) old market (g.K.Sink.held c.args.out.now) (g.met.D.Disk.is_disk c.begin.new.disk) (c.in-Err.ensures.safe refl begin old market legal)
+    keeps_none c.args.limit (g.S.Source.rest c.args.source.now) _ begin (g.D.Disk.state c.args.disk.now) (g.D.Disk.state c.begin.new.disk) old market (g.K.Sink.held c.args.out.now) (g.met.D.Disk.is_disk c.begin.new.disk) (c.in-Err.ensures.fails.safe begin old market legal)
 
 pub returns-in-Err-clause-again : goal.returns-in-Err-clause-again
 returns-in-Err-clause-again g c = λ begin old market legal.
@@ -31,34 +32,42 @@ returns-in-Err-clause-again g c = λ begin old market legal.
     let content = g.S.Source.rest c.args.source.now in
     let held = g.K.Sink.held c.args.out.now in
     let is_disk = g.met.D.Disk.is_disk c.begin.new.disk in
-    may_begin_again c.args.limit content ⊤ begin start end old market held held legal is_disk (keeps_none c.args.limit content ⊤ begin start end old market held is_disk (c.in-Err.ensures.safe refl begin old market legal))
+    may_begin_again c.args.limit content ⊤ begin start end old market held held legal is_disk (keeps_none c.args.limit content ⊤ begin start end old market held is_disk (c.in-Err.ensures.fails.safe begin old market legal))
 
 pub returns-in-Err-clause-comes : goal.returns-in-Err-clause-comes
 returns-in-Err-clause-comes g c =
     subst (λ (f : KeepFault). IfSome (g.D.Disk.state c.args.disk.now).content (λ held. ComesTo c.args.limit held (g.S.Source.rest c.args.source.now) (g.D.Disk.state c.begin.new.disk) (g.K.Sink.held c.args.out.now) (g.K.Sink.held c.args.out.now) (Err f))) (sym c.from.ensures)
     (if_some (g.D.Disk.state c.args.disk.now).content _ _
     (λ (held : List ℕ) why. comes_not_begun c.args.limit held (g.S.Source.rest c.args.source.now) (g.S.Source.rest c.begin.new.source) (g.D.Disk.state c.begin.new.disk) (g.K.Sink.held c.args.out.now) c.in-Err.fault why)
-    c.in-Err.ensures.refused)
+    c.in-Err.ensures.fails.refused)
 
 pub returns-in-Err-clause-legal : goal.returns-in-Err-clause-legal
 returns-in-Err-clause-legal g c = λ begin old market legal small.
     subst (λ (f : KeepFault). ¬ IsRefusal (Err f)) (sym c.from.ensures)
-    (refused_not_legal begin c.args.limit (g.S.Source.rest c.args.source.now) (g.S.Source.rest c.begin.new.source) (g.D.Disk.state c.args.disk.now) (g.D.Disk.state c.begin.new.disk) old market c.in-Err.fault legal small c.in-Err.ensures.refused)
+    (refused_not_legal source_format begin c.args.limit (g.S.Source.rest c.args.source.now) (g.S.Source.rest c.begin.new.source) (g.D.Disk.state c.args.disk.now) (g.D.Disk.state c.begin.new.disk) old market c.in-Err.fault legal small c.in-Err.ensures.fails.refused)
 
 pub returns-in-Err-clause-untouched : goal.returns-in-Err-clause-untouched
 returns-in-Err-clause-untouched g c =
-    if_some (g.D.Disk.state c.args.disk.now).content _ _ (λ (held : List ℕ) looks. λ none. let it = looks none in (it.1, it.2, refl)) c.in-Err.ensures.untouched
+    if_both (g.D.Disk.state c.args.disk.now).content _ _ _
+    (λ (held : List ℕ) looks not none. let of = none_open source_format c.args.limit held (g.S.Source.rest c.args.source.now) (g.S.Source.rest c.begin.new.source) (g.D.Disk.state c.begin.new.disk) c.in-Err.fault none not in (looks none, c.in-Err.ensures.unasked of.0 (ap Err of.1), refl))
+    c.in-Err.ensures.fails.looks c.in-Err.ensures.fails.refused
+
+pub returns-in-Err-clause-taken : goal.returns-in-Err-clause-taken
+returns-in-Err-clause-taken g c = c.in-Err.ensures.fails.taken
+
+pub returns-in-Err-clause-made : goal.returns-in-Err-clause-made
+returns-in-Err-clause-made g c = c.in-Err.ensures.fails.made
 
 pub returns-in-Err-clause-paced : goal.returns-in-Err-clause-paced
 returns-in-Err-clause-paced g c =
     subst (λ (f : KeepFault). KeepsPace c.args.limit (g.S.Source.rest c.args.source.now) (g.S.Source.rest c.begin.new.source) (g.K.Sink.held c.args.out.now) (g.K.Sink.held c.args.out.now) (Err f)) (sym c.from.ensures)
-    (paced_unread c.args.limit (g.S.Source.rest c.args.source.now) (g.S.Source.rest c.begin.new.source) (g.K.Sink.held c.args.out.now) c.in-Err.fault c.in-Err.ensures.unread)
+    (paced_unread c.args.limit (g.S.Source.rest c.args.source.now) (g.S.Source.rest c.begin.new.source) (g.K.Sink.held c.args.out.now) c.in-Err.fault c.in-Err.ensures.fails.unread)
 
 pub returns-in-Err-clause-allocates : goal.returns-in-Err-clause-allocates
 returns-in-Err-clause-allocates g c = λ lacks.
     if_some (g.D.Disk.state c.args.disk.now).content _ _
-    (λ (held : List ℕ) why. unread_out c.args.limit held (g.S.Source.rest c.args.source.now) (g.S.Source.rest c.begin.new.source) (g.D.Disk.state c.begin.new.disk) (g.K.Sink.held c.args.out.now) c.in-Err.fault why (sym c.from.ensures ∙ same_kept c.from.result _ lacks))
-    c.in-Err.ensures.refused
+    (λ (held : List ℕ) why. unread_out c.args.limit held (g.S.Source.rest c.args.source.now) (g.S.Source.rest c.begin.new.source) (g.D.Disk.state c.begin.new.disk) (g.K.Sink.held c.args.out.now) c.in-Err.fault why c.in-Err.ensures.fails.unread (sym c.from.ensures ∙ same_kept c.from.result _ lacks))
+    c.in-Err.ensures.fails.refused
 
 pub returns-in-Err-clause-unasked : goal.returns-in-Err-clause-unasked
 returns-in-Err-clause-unasked g c = λ refusal.
@@ -86,11 +95,11 @@ returns-in-Err-clause-out_cause g c =
 -- ---- records were served
 
 pub serve_on-requires-clause-longest : goal.serve_on-requires-clause-longest
-serve_on-requires-clause-longest g c = subst (HasLongest commands) (sym c.in-Ok.ensures.begun.following.room) run_is_exact.longest
+serve_on-requires-clause-longest g c = subst (HasLongest commands) (sym c.in-Ok.ensures.opened.0) run_is_exact.longest
 
 pub serve_on-requires-clause-kept : goal.serve_on-requires-clause-kept
 serve_on-requires-clause-kept g c =
-    can_serve (g.D.Disk.state c.args.disk.now).content (g.D.Disk.state c.begin.new.disk).content c.in-Ok.ensures.begun.begin c.in-Ok.ensures.begun.input c.in-Ok.begun.writer.session c.in-Ok.begun.writer.appender (g.D.Disk.state c.begin.new.disk) c.in-Ok.ensures.begun.following.magic.0 c.in-Ok.ensures.told c.in-Ok.ensures.begun.begun
+    can_serve source_format c.args.limit (g.D.Disk.state c.args.disk.now).content (g.D.Disk.state c.begin.new.disk).content c.in-Ok.ensures.begun.begin c.in-Ok.ensures.begun.input c.in-Ok.begun.writer.session c.in-Ok.begun.writer.entries c.in-Ok.begun.writer.appender (g.D.Disk.state c.begin.new.disk) c.in-Ok.ensures.begun.following.starts c.in-Ok.ensures.begun.told c.in-Ok.ensures.begun.begun
 
 pub returns-in-Ok-clause-keeps : goal.returns-in-Ok-clause-keeps
 returns-in-Ok-clause-keeps g c = λ begin old market legal.
@@ -102,10 +111,10 @@ returns-in-Ok-clause-keeps g c = λ begin old market legal.
     let left = g.S.Source.rest c.serve_on.new.source in
     let held = g.K.Sink.held c.args.out.now in
     let holds_out = g.K.Sink.held c.serve_on.new.out in
-    let known = begun_known start begin old market legal c.args.limit content mid c.in-Ok.ensures.begun.begin c.in-Ok.ensures.begun.input c.in-Ok.begun.writer.session c.in-Ok.begun.writer.appender c.in-Ok.ensures.begun.following.magic.0
-    (source_begins c.args.limit c.in-Ok.begun.window c.in-Ok.ensures.begun.input content after c.in-Ok.ensures.begun.following) c.in-Ok.ensures.begun.begun in
+    let known = begun_known source_format c.args.limit start begin old market legal content mid c.in-Ok.ensures.begun.begin c.in-Ok.ensures.begun.input c.in-Ok.begun.writer.session c.in-Ok.begun.writer.entries c.in-Ok.begun.writer.appender c.in-Ok.ensures.begun.following.starts
+    c.in-Ok.ensures.begun.following.begins c.in-Ok.ensures.begun.begun in
     cut_wider c.args.limit content (c.serve_on.result ≡ Err (Broken serve.Write)) _ (λ e. c.kept.ensures ∙ ap kept_result e) begin start end old market held holds_out
-    (keeps_served c.args.limit content after left c.in-Ok.begun.window c.in-Ok.ensures.begun.begin c.in-Ok.ensures.begun.input c.in-Ok.ensures.begun.following c.serve_on.result begin start mid end old market c.in-Ok.begun.writer.session c.in-Ok.begun.writer.appender held holds_out
+    (keeps_served c.args.limit content after left c.in-Ok.begun.input.window c.in-Ok.ensures.begun.begin c.in-Ok.ensures.begun.input (as_source c.args.limit c.in-Ok.begun.input.window c.in-Ok.ensures.begun.input (g.S.Source.rest c.args.source.now) (g.S.Source.rest c.begin.new.source) c.in-Ok.ensures.begun.following c.in-Ok.ensures.opened.0 c.in-Ok.ensures.opened.1) c.serve_on.result begin start mid end old market c.in-Ok.begun.writer.session c.in-Ok.begun.writer.entries c.in-Ok.begun.writer.appender held holds_out
     known (c.in-Ok.ensures.begun.moments begin old market legal) c.serve_on.ensures.goes)
 
 pub returns-in-Ok-clause-again : goal.returns-in-Ok-clause-again
@@ -118,10 +127,10 @@ returns-in-Ok-clause-again g c = λ begin old market legal.
     let left = g.S.Source.rest c.serve_on.new.source in
     let held = g.K.Sink.held c.args.out.now in
     let holds_out = g.K.Sink.held c.serve_on.new.out in
-    let known = begun_known start begin old market legal c.args.limit content mid c.in-Ok.ensures.begun.begin c.in-Ok.ensures.begun.input c.in-Ok.begun.writer.session c.in-Ok.begun.writer.appender c.in-Ok.ensures.begun.following.magic.0
-    (source_begins c.args.limit c.in-Ok.begun.window c.in-Ok.ensures.begun.input content after c.in-Ok.ensures.begun.following) c.in-Ok.ensures.begun.begun in
+    let known = begun_known source_format c.args.limit start begin old market legal content mid c.in-Ok.ensures.begun.begin c.in-Ok.ensures.begun.input c.in-Ok.begun.writer.session c.in-Ok.begun.writer.entries c.in-Ok.begun.writer.appender c.in-Ok.ensures.begun.following.starts
+    c.in-Ok.ensures.begun.following.begins c.in-Ok.ensures.begun.begun in
     may_begin_again c.args.limit content _ begin start end old market held holds_out legal (g.met.D.Disk.is_disk c.serve_on.new.disk)
-    (keeps_served c.args.limit content after left c.in-Ok.begun.window c.in-Ok.ensures.begun.begin c.in-Ok.ensures.begun.input c.in-Ok.ensures.begun.following c.serve_on.result begin start mid end old market c.in-Ok.begun.writer.session c.in-Ok.begun.writer.appender held holds_out
+    (keeps_served c.args.limit content after left c.in-Ok.begun.input.window c.in-Ok.ensures.begun.begin c.in-Ok.ensures.begun.input (as_source c.args.limit c.in-Ok.begun.input.window c.in-Ok.ensures.begun.input (g.S.Source.rest c.args.source.now) (g.S.Source.rest c.begin.new.source) c.in-Ok.ensures.begun.following c.in-Ok.ensures.opened.0 c.in-Ok.ensures.opened.1) c.serve_on.result begin start mid end old market c.in-Ok.begun.writer.session c.in-Ok.begun.writer.entries c.in-Ok.begun.writer.appender held holds_out
     known (c.in-Ok.ensures.begun.moments begin old market legal) c.serve_on.ensures.goes)
 
 pub returns-in-Ok-clause-comes : goal.returns-in-Ok-clause-comes
@@ -136,8 +145,8 @@ returns-in-Ok-clause-comes g c =
     let holds_out = g.K.Sink.held c.serve_on.new.out in
     subst (λ (r : Result ⊤ KeepFault). IfSome start.content (λ held. ComesTo c.args.limit held content end before holds_out r)) (sym c.kept.ensures)
     (if_some start.content _ _
-    (λ (held : List ℕ) begun. comes_served c.args.limit held content mid c.in-Ok.ensures.begun.begin c.in-Ok.ensures.begun.input c.in-Ok.begun.writer.session c.in-Ok.begun.writer.appender begun after left
-    c.in-Ok.begun.window c.in-Ok.ensures.begun.following end before holds_out c.serve_on.result c.serve_on.ensures.goes)
+    (λ (held : List ℕ) begun. comes_served c.args.limit held content mid c.in-Ok.ensures.begun.begin c.in-Ok.ensures.begun.input c.in-Ok.begun.writer.session c.in-Ok.begun.writer.entries c.in-Ok.begun.writer.appender begun after left
+    c.in-Ok.begun.input.window (as_source c.args.limit c.in-Ok.begun.input.window c.in-Ok.ensures.begun.input (g.S.Source.rest c.args.source.now) (g.S.Source.rest c.begin.new.source) c.in-Ok.ensures.begun.following c.in-Ok.ensures.opened.0 c.in-Ok.ensures.opened.1) end before holds_out c.serve_on.result c.serve_on.ensures.goes)
     c.in-Ok.ensures.begun.begun)
 
 pub returns-in-Ok-clause-legal : goal.returns-in-Ok-clause-legal
@@ -148,7 +157,7 @@ returns-in-Ok-clause-unasked g c = λ refusal. absurd (went_refused c.serve_on.r
 
 pub returns-in-Ok-clause-untouched : goal.returns-in-Ok-clause-untouched
 returns-in-Ok-clause-untouched g c =
-    none_begun (g.D.Disk.state c.args.disk.now).content c.in-Ok.ensures.begun.begin c.in-Ok.ensures.begun.input c.in-Ok.begun.writer.session c.in-Ok.begun.writer.appender (g.D.Disk.state c.begin.new.disk) _ c.in-Ok.ensures.begun.begun
+    none_begun source_format c.args.limit (g.D.Disk.state c.args.disk.now).content c.in-Ok.ensures.begun.begin c.in-Ok.ensures.begun.input c.in-Ok.begun.writer.session c.in-Ok.begun.writer.entries c.in-Ok.begun.writer.appender (g.D.Disk.state c.begin.new.disk) _ c.in-Ok.ensures.begun.begun
 
 pub returns-in-Ok-clause-taken : goal.returns-in-Ok-clause-taken
 returns-in-Ok-clause-taken g c =
@@ -160,7 +169,7 @@ returns-in-Ok-clause-taken g c =
     let left = g.S.Source.rest c.serve_on.new.source in
     let held = g.K.Sink.held c.args.out.now in
     let holds_out = g.K.Sink.held c.serve_on.new.out in
-    taken_at_most c.args.limit content after left c.in-Ok.begun.window c.in-Ok.ensures.begun.input c.in-Ok.ensures.begun.following c.in-Ok.begun.writer.session c.in-Ok.begun.writer.appender mid end held holds_out c.serve_on.result c.serve_on.ensures.goes
+    taken_at_most c.args.limit content after left c.in-Ok.begun.input.window c.in-Ok.ensures.begun.input (as_source c.args.limit c.in-Ok.begun.input.window c.in-Ok.ensures.begun.input (g.S.Source.rest c.args.source.now) (g.S.Source.rest c.begin.new.source) c.in-Ok.ensures.begun.following c.in-Ok.ensures.opened.0 c.in-Ok.ensures.opened.1) c.in-Ok.begun.writer.session c.in-Ok.begun.writer.appender mid end held holds_out c.serve_on.result c.serve_on.ensures.goes
 
 pub returns-in-Ok-clause-paced : goal.returns-in-Ok-clause-paced
 returns-in-Ok-clause-paced g c =
@@ -173,7 +182,7 @@ returns-in-Ok-clause-paced g c =
     let held = g.K.Sink.held c.args.out.now in
     let holds_out = g.K.Sink.held c.serve_on.new.out in
     subst (KeepsPace c.args.limit content left held holds_out) (sym c.kept.ensures)
-    (paced_served c.args.limit content after left c.in-Ok.begun.window c.in-Ok.ensures.begun.input c.in-Ok.ensures.begun.following c.in-Ok.begun.writer.session c.in-Ok.begun.writer.appender mid end held holds_out c.serve_on.result c.serve_on.ensures.goes)
+    (paced_served c.args.limit content after left c.in-Ok.begun.input.window c.in-Ok.ensures.begun.input (as_source c.args.limit c.in-Ok.begun.input.window c.in-Ok.ensures.begun.input (g.S.Source.rest c.args.source.now) (g.S.Source.rest c.begin.new.source) c.in-Ok.ensures.begun.following c.in-Ok.ensures.opened.0 c.in-Ok.ensures.opened.1) c.in-Ok.begun.writer.session c.in-Ok.begun.writer.appender mid end held holds_out c.serve_on.result c.serve_on.ensures.goes)
 
 pub returns-in-Ok-clause-allocates : goal.returns-in-Ok-clause-allocates
 returns-in-Ok-clause-allocates g c = λ lacks.
@@ -186,17 +195,17 @@ returns-in-Ok-clause-allocates g c = λ lacks.
     let before = g.K.Sink.held c.args.out.now in
     let holds_out = g.K.Sink.held c.serve_on.new.out in
     if_some start.content _ _
-    (λ (held : List ℕ) begun. wants_next c.args.limit content after left c.in-Ok.begun.window c.in-Ok.ensures.begun.input c.in-Ok.ensures.begun.following c.in-Ok.begun.writer.session c.in-Ok.begun.writer.appender mid end before holds_out held c.in-Ok.ensures.begun.begin begun c.serve_on.result c.serve_on.ensures.goes (went_memory c.serve_on.result (sym c.kept.ensures ∙ lacks)))
+    (λ (held : List ℕ) begun. wants_next c.args.limit content after left c.in-Ok.begun.input.window c.in-Ok.ensures.begun.input (as_source c.args.limit c.in-Ok.begun.input.window c.in-Ok.ensures.begun.input (g.S.Source.rest c.args.source.now) (g.S.Source.rest c.begin.new.source) c.in-Ok.ensures.begun.following c.in-Ok.ensures.opened.0 c.in-Ok.ensures.opened.1) c.in-Ok.begun.writer.session c.in-Ok.begun.writer.appender mid end before holds_out held c.in-Ok.ensures.begun.begin c.in-Ok.begun.writer.entries begun c.serve_on.result c.serve_on.ensures.goes (went_memory c.serve_on.result (sym c.kept.ensures ∙ lacks)))
     c.in-Ok.ensures.begun.begun
 
 pub returns-in-Ok-clause-made : goal.returns-in-Ok-clause-made
 returns-in-Ok-clause-made g c =
     each_some (g.D.Disk.state c.args.disk.now).content _
-    (λ (held : List ℕ) short. inr (start_taken c.args.limit c.in-Ok.begun.window c.in-Ok.ensures.begun.input (g.S.Source.rest c.args.source.now) (g.S.Source.rest c.begin.new.source) (g.S.Source.rest c.serve_on.new.source) c.serve_on.ensures.goes.goes.taken c.in-Ok.ensures.begun.following c.serve_on.ensures.goes.goes.takes))
+    (λ (held : List ℕ) short. inr (start_taken c.args.limit c.in-Ok.begun.input.window c.in-Ok.ensures.begun.input (g.S.Source.rest c.args.source.now) (g.S.Source.rest c.begin.new.source) (g.S.Source.rest c.serve_on.new.source) c.serve_on.ensures.goes.goes.taken (as_source c.args.limit c.in-Ok.begun.input.window c.in-Ok.ensures.begun.input (g.S.Source.rest c.args.source.now) (g.S.Source.rest c.begin.new.source) c.in-Ok.ensures.begun.following c.in-Ok.ensures.opened.0 c.in-Ok.ensures.opened.1) c.serve_on.ensures.goes.goes.takes))
 
 pub returns-in-Err-clause-lengths : goal.returns-in-Err-clause-lengths
 returns-in-Err-clause-lengths g c =
-    each_some (g.D.Disk.state c.args.disk.now).content _ (λ (held : List ℕ). c.in-Err.ensures.lengths refl)
+    each_some (g.D.Disk.state c.args.disk.now).content _ (λ (held : List ℕ). grows_unserved c.args.limit (g.S.Source.rest c.args.source.now) (g.D.Disk.state c.args.disk.now) (g.D.Disk.state c.begin.new.disk) c.in-Err.ensures.fails.lengths)
 
 pub returns-in-Ok-clause-lengths : goal.returns-in-Ok-clause-lengths
 returns-in-Ok-clause-lengths g c =
@@ -206,8 +215,8 @@ returns-in-Ok-clause-lengths g c =
     let content = g.S.Source.rest c.args.source.now in
     let after = g.S.Source.rest c.begin.new.source in
     if_some start.content _ _
-    (λ (held : List ℕ) begun. grows_served c.args.limit c.in-Ok.ensures.begun.begin c.in-Ok.ensures.begun.input c.in-Ok.begun.window content after c.in-Ok.ensures.begun.following start mid end (g.met.D.Disk.is_disk c.begin.new.disk) c.in-Ok.ensures.begun.lengths
-    held c.in-Ok.begun.writer.session c.in-Ok.begun.writer.appender begun c.serve_on.ensures.lengths)
+    (λ (held : List ℕ) begun. grows_served c.args.limit c.in-Ok.ensures.begun.begin c.in-Ok.ensures.begun.input c.in-Ok.begun.input.window content after (as_source c.args.limit c.in-Ok.begun.input.window c.in-Ok.ensures.begun.input (g.S.Source.rest c.args.source.now) (g.S.Source.rest c.begin.new.source) c.in-Ok.ensures.begun.following c.in-Ok.ensures.opened.0 c.in-Ok.ensures.opened.1) start mid end (g.met.D.Disk.is_disk c.begin.new.disk) c.in-Ok.ensures.begun.lengths
+    held c.in-Ok.begun.writer.session c.in-Ok.begun.writer.entries c.in-Ok.begun.writer.appender begun c.serve_on.ensures.lengths)
     c.in-Ok.ensures.begun.begun
 
 pub returns-in-Ok-clause-disk_cause : goal.returns-in-Ok-clause-disk_cause

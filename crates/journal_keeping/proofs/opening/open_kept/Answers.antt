@@ -8,26 +8,26 @@ use Rattle.journal_keeping.proofs.Begun.{begun, begins_known, looks_alone, can_b
 use Rattle.journal_keeping.proofs.opening.open_kept.Goals as goal
 
 pub begin-requires : goal.begin-requires
-begin-requires g c = can_begin (g.D.Disk.state c.args.disk.now).content (g.D.Disk.state c.read_up.new.disk).content c.args.version c.in-Ok.read.audit c.read_up.new.journal (g.D.Disk.state c.read_up.new.disk) c.in-Ok.ensures.looks.content c.in-Ok.ensures.read
+begin-requires g c = can_begin (g.D.Disk.state c.args.disk.now).content (g.D.Disk.state c.read_up.new.disk).content c.args.version c.in-Ok.read.audit c.in-Ok.read.entries c.read_up.new.journal (g.D.Disk.state c.read_up.new.disk) c.in-Ok.ensures.looks.content c.in-Ok.ensures.read
 
 pub returns-in-Ok-begin-clause-begun : goal.returns-in-Ok-begin-clause-begun
 returns-in-Ok-begin-clause-begun g c =
-    subst (λ (m : Market). IfSome (g.D.Disk.state c.args.disk.now).content (λ held. IsKeptOn c.args.version held m c.in-Ok-begin.appender (g.D.Disk.state c.begin.new.disk))) (sym (c.over.ensures ∙ c.into_market.ensures))
-    (begun (g.D.Disk.state c.args.disk.now).content c.args.version c.in-Ok.read.audit c.read_up.new.journal c.in-Ok-begin.appender (g.D.Disk.state c.read_up.new.disk) (g.D.Disk.state c.begin.new.disk) c.in-Ok.ensures.read c.in-Ok-begin.ensures.keeps)
+    subst (λ (m : Market). IfSome (g.D.Disk.state c.args.disk.now).content (λ held. IsKeptOn c.args.version held m c.in-Ok.read.entries c.in-Ok-begin.appender (g.D.Disk.state c.begin.new.disk))) (sym (c.over.ensures ∙ c.into_market.ensures))
+    (begun (g.D.Disk.state c.args.disk.now).content c.args.version c.in-Ok.read.audit c.in-Ok.read.entries c.read_up.new.journal c.in-Ok-begin.appender (g.D.Disk.state c.read_up.new.disk) (g.D.Disk.state c.begin.new.disk) c.in-Ok.ensures.read c.in-Ok-begin.ensures.keeps)
 
 pub returns-in-Ok-begin-clause-moments : goal.returns-in-Ok-begin-clause-moments
 returns-in-Ok-begin-clause-moments g c = λ was old market holds.
-    begins_known (g.D.Disk.state c.args.disk.now) was old market holds c.args.version (g.D.Disk.state c.read_up.new.disk) (g.D.Disk.state c.begin.new.disk) c.in-Ok.read.audit c.read_up.new.journal c.in-Ok.ensures.looks c.in-Ok.ensures.read c.begin.ensures.moments
+    begins_known (g.D.Disk.state c.args.disk.now) was old market holds c.args.version (g.D.Disk.state c.read_up.new.disk) (g.D.Disk.state c.begin.new.disk) c.in-Ok.read.audit c.in-Ok.read.entries c.read_up.new.journal c.in-Ok.ensures.looks c.in-Ok.ensures.read c.begin.ensures.moments
 
 pub returns-in-Err-begin-clause-moments : goal.returns-in-Err-begin-clause-moments
 returns-in-Err-begin-clause-moments g c = λ was old market holds.
-    begins_known (g.D.Disk.state c.args.disk.now) was old market holds c.args.version (g.D.Disk.state c.read_up.new.disk) (g.D.Disk.state c.begin.new.disk) c.in-Ok.read.audit c.read_up.new.journal c.in-Ok.ensures.looks c.in-Ok.ensures.read c.begin.ensures.moments
+    begins_known (g.D.Disk.state c.args.disk.now) was old market holds c.args.version (g.D.Disk.state c.read_up.new.disk) (g.D.Disk.state c.begin.new.disk) c.in-Ok.read.audit c.in-Ok.read.entries c.read_up.new.journal c.in-Ok.ensures.looks c.in-Ok.ensures.read c.begin.ensures.moments
 
 pub returns-in-Ok-begin-clause-untouched : goal.returns-in-Ok-begin-clause-untouched
-returns-in-Ok-begin-clause-untouched g c = none_read_up (g.D.Disk.state c.args.disk.now).content c.args.version c.in-Ok.read.audit c.read_up.new.journal (g.D.Disk.state c.read_up.new.disk) _ c.in-Ok.ensures.read
+returns-in-Ok-begin-clause-untouched g c = none_read_up (g.D.Disk.state c.args.disk.now).content c.args.version c.in-Ok.read.audit c.in-Ok.read.entries c.read_up.new.journal (g.D.Disk.state c.read_up.new.disk) _ c.in-Ok.ensures.read
 
 pub returns-in-Err-begin-clause-untouched : goal.returns-in-Err-begin-clause-untouched
-returns-in-Err-begin-clause-untouched g c = none_read_up (g.D.Disk.state c.args.disk.now).content c.args.version c.in-Ok.read.audit c.read_up.new.journal (g.D.Disk.state c.read_up.new.disk) _ c.in-Ok.ensures.read
+returns-in-Err-begin-clause-untouched g c = none_read_up (g.D.Disk.state c.args.disk.now).content c.args.version c.in-Ok.read.audit c.in-Ok.read.entries c.read_up.new.journal (g.D.Disk.state c.read_up.new.disk) _ c.in-Ok.ensures.read
 
 pub returns-in-Ok-begin-clause-cause : goal.returns-in-Ok-begin-clause-cause
 returns-in-Ok-begin-clause-cause g c =

@@ -1,5 +1,5 @@
 use Rattle.std.proofs.Common.{sym, ◌∙◌}
-use Rattle.journal_keeping.proofs.Begun.{found_looked, first_known, read_known, count_known, stops_known}
+use Rattle.journal_keeping.proofs.Begun.{found_looked, first_known, read_known, stops_known}
 use Rattle.journal_keeping.proofs.opening.read_up.Goals as goal
 
 pub returns-in-Err-first_market-clause-refused : goal.returns-in-Err-first_market-clause-refused
@@ -9,13 +9,7 @@ returns-in-Err-first_market-clause-refused g c =
 
 pub returns-in-Ok-audit_kept-clause-read : goal.returns-in-Ok-audit_kept-clause-read
 returns-in-Ok-audit_kept-clause-read g c =
-    read_known c.args.version (g.D.Disk.state c.args.disk.now).content (g.D.Disk.state c.new.new.disk) (g.D.Disk.state c.first_market.new.disk) (g.D.Disk.state c.audit_kept.new.disk) c.in-Ok-first_market.market c.audit_kept.new.audit c.first_market.new.journal c.audit_kept.new.journal
-    c.in-Ok-first_market.ensures.looks.content c.in-Ok-audit_kept.ensures.looks.content (sym c.in-Ok.ensures.looks.content) (found_looked c.args.version (g.D.Disk.state c.args.disk.now).content (g.D.Disk.state c.args.disk.now) (g.D.Disk.state c.new.new.disk) c.in-Ok.ensures.looks c.requires.found) c.in-Ok-first_market.ensures.begins
-    (λ begin rest starts is holds. let e = c.in-Ok-audit_kept.ensures.ends begin rest starts (c.over-audit.ensures ∙ is) holds in (e.0, e.2, e.3))
-
-pub returns-in-Ok-audit_kept-clause-counted : goal.returns-in-Ok-audit_kept-clause-counted
-returns-in-Ok-audit_kept-clause-counted g c =
-    count_known c.args.version (g.D.Disk.state c.args.disk.now).content (g.D.Disk.state c.new.new.disk) (g.D.Disk.state c.first_market.new.disk) (g.D.Disk.state c.audit_kept.new.disk) c.in-Ok-first_market.market c.audit_kept.new.audit c.first_market.new.journal c.audit_kept.new.journal c.in-Ok-audit_kept.entries
+    read_known c.args.version (g.D.Disk.state c.args.disk.now).content (g.D.Disk.state c.new.new.disk) (g.D.Disk.state c.first_market.new.disk) (g.D.Disk.state c.audit_kept.new.disk) c.in-Ok-first_market.market c.audit_kept.new.audit c.first_market.new.journal c.audit_kept.new.journal c.in-Ok-audit_kept.entries
     c.in-Ok-first_market.ensures.looks.content c.in-Ok-audit_kept.ensures.looks.content (sym c.in-Ok.ensures.looks.content) (found_looked c.args.version (g.D.Disk.state c.args.disk.now).content (g.D.Disk.state c.args.disk.now) (g.D.Disk.state c.new.new.disk) c.in-Ok.ensures.looks c.requires.found) c.in-Ok-first_market.ensures.begins
     (λ begin rest starts is holds. c.in-Ok-audit_kept.ensures.ends begin rest starts (c.over-audit.ensures ∙ is) holds)
 

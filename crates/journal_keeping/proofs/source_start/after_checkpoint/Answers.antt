@@ -4,7 +4,8 @@ use Rattle.wire_records.specs.Formats.{commands}
 use Rattle.wire_records.specs.declared.version.Version.{Version}
 use Rattle.file_units.proofs.Gone.{went_well}
 use Rattle.journal_keeping.specs.declared.fault.InputFault.{InputFault}
-use Rattle.journal_keeping.specs.Beginning.{IsOfSource}
+use Rattle.journal_keeping.specs.Inputs.{NotTaken}
+use Rattle.journal_keeping.specs.Starts.{source_format}
 use Rattle.journal_keeping.proofs.Counts.{went_on}
 use Rattle.journal_keeping.proofs.PastCheckpoint.{few_after, unread_after, ended_after, limit_after, other_after, out_after, opened_after, not_read_then}
 use Rattle.journal_keeping.proofs.source_start.after_checkpoint.Goals as goal
@@ -69,7 +70,7 @@ returns-in-Err-stored_checkpoint-clause-of_source g c = λ before one takes.
     let x = g.S.Source.rest c.args.source.now in
     let y = g.S.Source.rest c.fill.new.source in
     let filled = c.in-Ok-Enough.ensures in (
-      subst (λ (f : InputFault). IsOfSource None c.args.window.limit before y f) (sym c.in-Err-stored_checkpoint.ensures.refused)
+      subst (λ (f : InputFault). NotTaken source_format c.args.window.limit None before y f) (sym c.in-Err-stored_checkpoint.ensures.refused)
           (inr (refl, out_after c.args.market c.args.window c.fill.new.self x y filled.fills filled.within c.requires.placed c.requires.open before one takes (filled.open c.in-Ok-Enough.field-0-is ∙ c.requires.open))),
       few_after c.args.market c.args.window c.fill.new.self x y filled.fills filled.within c.requires.placed c.requires.open before one takes,
     )
@@ -85,7 +86,7 @@ returns-in-Err-after_magic-clause-of_source g c = λ before one takes.
     let filled = c.in-Ok-Enough.ensures in
     let other = c.in-Err-after_magic.ensures.other in
     let none = subst (λ (v : Version). (body : List ℕ) → ¬ BeginsWith commands.magics c.fill.new.self.held v body) c.version.ensures.value other.1 in (
-      subst (λ (f : InputFault). IsOfSource None c.args.window.limit before y f) (sym other.0)
+      subst (λ (f : InputFault). NotTaken source_format c.args.window.limit None before y f) (sym other.0)
           (other_after c.args.market c.args.window c.fill.new.self x y filled.fills filled.within c.requires.placed c.requires.open before one takes (filled.open c.in-Ok-Enough.field-0-is ∙ c.requires.open) (filled.enough.0 c.in-Ok-Enough.field-0-is) none),
       few_after c.args.market c.args.window c.fill.new.self x y filled.fills filled.within c.requires.placed c.requires.open before one takes,
     )

@@ -2,7 +2,8 @@ use Rattle.std.proofs.Common.{Some, ◌+◌, ap, sym, subst, ◌∙◌}
 use Rattle.flow_io.specs.Windows.{WindowState, Fills}
 use Rattle.file_units.proofs.Gone.{went_well}
 use Rattle.journal_keeping.specs.declared.fault.InputFault.{InputFault}
-use Rattle.journal_keeping.specs.Beginning.{IsOfSource}
+use Rattle.journal_keeping.specs.Inputs.{NotTaken}
+use Rattle.journal_keeping.specs.Starts.{source_format}
 use Rattle.journal_keeping.proofs.Counts.{went_on, on_ok, on_err}
 use Rattle.journal_keeping.proofs.Magic.{after_magic, ended_before, limit_before, other_magic, taken_few, unread_few, none_taken}
 use Rattle.journal_keeping.proofs.source_start.open_source.Goals as goal
@@ -23,7 +24,7 @@ returns-in-Ok-Enough-clause-of_source g c =
     let filled = c.in-Ok-Enough.ensures in
     let fills = subst (λ (w : WindowState). Fills w c.fill.new.self before after) c.in-Ok.ensures filled.fills in
     let over = filled.open c.in-Ok-Enough.field-0-is ∙ ap (λ (w : WindowState). w.over) c.in-Ok.ensures in
-    on_err c.after_magic.result _ _ (λ fault found. subst (λ (f : InputFault). IsOfSource (Some c.args.version) c.args.limit before after f) (sym found.0) (other_magic c.args.limit c.fill.new.self before after fills filled.within c.args.version over (filled.enough.0 c.in-Ok-Enough.field-0-is) found.1)) c.after_magic.ensures.other
+    on_err c.after_magic.result _ _ (λ fault found. subst (λ (f : InputFault). NotTaken source_format c.args.limit (Some c.args.version) before after f) (sym found.0) (other_magic c.args.limit c.fill.new.self before after fills filled.within c.args.version over (filled.enough.0 c.in-Ok-Enough.field-0-is) found.1)) c.after_magic.ensures.other
 
 pub returns-in-Ok-Ended : goal.returns-in-Ok-Ended
 returns-in-Ok-Ended g c =

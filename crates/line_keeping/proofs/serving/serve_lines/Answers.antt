@@ -6,20 +6,22 @@ use Rattle.journal_keeping.specs.declared.fault.KeepFault.{KeepFault}
 use Rattle.journal_keeping.specs.Faults.{of_begin, kept_result}
 use Rattle.journal_keeping.specs.Ended.{IsRefusal}
 use Rattle.journal_keeping.proofs.Faults.{same_kept, same_begin, begin_read, begin_disk, begin_write, disk_begin, begin_refusal, went_read, went_write, went_disk, went_refused}
-use Rattle.journal_keeping.proofs.Counts.{if_some, uncalled, later_call, blames_alike}
+use Rattle.journal_keeping.proofs.Starting.{begun_known, none_begun, none_open, can_serve}
+use Rattle.journal_keeping.proofs.Whole.{refused_not_legal}
+use Rattle.journal_keeping.proofs.Counts.{if_some, if_both, uncalled, later_call, blames_alike}
 use Rattle.journal_keeping.proofs.Making.{each_some}
+use Rattle.line_keeping.specs.Inputs.{lines_format}
 use Rattle.line_keeping.specs.Ended.{ComesTo, LeavesNone}
 use Rattle.line_keeping.specs.Outputs.{output}
-use Rattle.line_keeping.proofs.NewBegun.{input_begins}
 use Rattle.line_keeping.proofs.Shown.{shown_more}
-use Rattle.line_keeping.proofs.Whole.{keeps_none, may_begin_again, comes_not_begun, refused_not_legal, can_serve, none_begun, begun_known, keeps_served, comes_served, cut_wider, leaves_none, taken_few, grows_served}
+use Rattle.line_keeping.proofs.Whole.{keeps_none, may_begin_again, comes_not_begun, keeps_served, comes_served, cut_wider, leaves_none, taken_few, grows_served, grows_unserved}
 use Rattle.line_keeping.proofs.serving.serve_lines.Goals as goal
 
 -- ---- nothing was answered
 
 pub returns-in-Err-clause-keeps : goal.returns-in-Err-clause-keeps
 returns-in-Err-clause-keeps g c = λ begin old market legal.
-    keeps_none c.args.limit (g.S.Source.rest c.args.source.now) _ begin (g.D.Disk.state c.args.disk.now) (g.D.Disk.state c.begin.new.disk) old market (output g.K.Sink.held g.K.Sink.calls g.K.Sink.faults c.args.out.now) (g.met.D.Disk.is_disk c.begin.new.disk) (c.in-Err.ensures.safe refl begin old market legal)
+    keeps_none c.args.limit (g.S.Source.rest c.args.source.now) _ begin (g.D.Disk.state c.args.disk.now) (g.D.Disk.state c.begin.new.disk) old market (output g.K.Sink.held g.K.Sink.calls g.K.Sink.faults c.args.out.now) (g.met.D.Disk.is_disk c.begin.new.disk) (c.in-Err.ensures.fails.safe begin old market legal)
 
 pub returns-in-Err-clause-again : goal.returns-in-Err-clause-again
 returns-in-Err-clause-again g c = λ begin old market legal.
@@ -28,26 +30,35 @@ returns-in-Err-clause-again g c = λ begin old market legal.
     let content = g.S.Source.rest c.args.source.now in
     let out = output g.K.Sink.held g.K.Sink.calls g.K.Sink.faults c.args.out.now in
     let is_disk = g.met.D.Disk.is_disk c.begin.new.disk in
-    may_begin_again c.args.limit content ⊤ begin start end old market out out legal is_disk (keeps_none c.args.limit content ⊤ begin start end old market out is_disk (c.in-Err.ensures.safe refl begin old market legal))
+    may_begin_again c.args.limit content ⊤ begin start end old market out out legal is_disk (keeps_none c.args.limit content ⊤ begin start end old market out is_disk (c.in-Err.ensures.fails.safe begin old market legal))
 
 pub returns-in-Err-clause-lengths : goal.returns-in-Err-clause-lengths
-returns-in-Err-clause-lengths g c = each_some (g.D.Disk.state c.args.disk.now).content _ (λ (held : List ℕ). c.in-Err.ensures.lengths refl)
+returns-in-Err-clause-lengths g c =
+    each_some (g.D.Disk.state c.args.disk.now).content _ (λ (held : List ℕ). grows_unserved c.args.limit (g.S.Source.rest c.args.source.now) (g.D.Disk.state c.args.disk.now) (g.D.Disk.state c.begin.new.disk) c.in-Err.ensures.fails.lengths)
 
 pub returns-in-Err-clause-comes : goal.returns-in-Err-clause-comes
 returns-in-Err-clause-comes g c =
     subst (λ (f : KeepFault). IfSome (g.D.Disk.state c.args.disk.now).content (λ held. ComesTo c.args.limit held (g.S.Source.rest c.args.source.now) (g.S.Source.rest c.begin.new.source) (g.D.Disk.state c.begin.new.disk) (output g.K.Sink.held g.K.Sink.calls g.K.Sink.faults c.args.out.now) (output g.K.Sink.held g.K.Sink.calls g.K.Sink.faults c.args.out.now) (Err f))) (sym c.from.ensures)
     (if_some (g.D.Disk.state c.args.disk.now).content _ _
-    (λ (held : List ℕ) why. comes_not_begun c.args.limit held (g.S.Source.rest c.args.source.now) (g.S.Source.rest c.begin.new.source) (g.D.Disk.state c.begin.new.disk) (output g.K.Sink.held g.K.Sink.calls g.K.Sink.faults c.args.out.now) c.in-Err.fault why)
-    c.in-Err.ensures.refused)
+    (λ (held : List ℕ) why. comes_not_begun c.args.limit held (g.S.Source.rest c.args.source.now) (g.S.Source.rest c.begin.new.source) (g.D.Disk.state c.begin.new.disk) (output g.K.Sink.held g.K.Sink.calls g.K.Sink.faults c.args.out.now) c.in-Err.fault why c.in-Err.ensures.fails.unread)
+    c.in-Err.ensures.fails.refused)
 
 pub returns-in-Err-clause-legal : goal.returns-in-Err-clause-legal
 returns-in-Err-clause-legal g c = λ begin old market legal small.
     subst (λ (f : KeepFault). ¬ IsRefusal (Err f)) (sym c.from.ensures)
-    (refused_not_legal begin c.args.limit (g.S.Source.rest c.args.source.now) (g.S.Source.rest c.begin.new.source) (g.D.Disk.state c.args.disk.now) (g.D.Disk.state c.begin.new.disk) old market c.in-Err.fault legal small c.in-Err.ensures.refused)
+    (refused_not_legal lines_format begin c.args.limit (g.S.Source.rest c.args.source.now) (g.S.Source.rest c.begin.new.source) (g.D.Disk.state c.args.disk.now) (g.D.Disk.state c.begin.new.disk) old market c.in-Err.fault legal small c.in-Err.ensures.fails.refused)
 
 pub returns-in-Err-clause-untouched : goal.returns-in-Err-clause-untouched
 returns-in-Err-clause-untouched g c =
-    if_some (g.D.Disk.state c.args.disk.now).content _ _ (λ (held : List ℕ) looks. λ none. let it = looks none in (it.1, it.2, refl)) c.in-Err.ensures.untouched
+    if_both (g.D.Disk.state c.args.disk.now).content _ _ _
+    (λ (held : List ℕ) looks not none. let of = none_open lines_format c.args.limit held (g.S.Source.rest c.args.source.now) (g.S.Source.rest c.begin.new.source) (g.D.Disk.state c.begin.new.disk) c.in-Err.fault none not in (looks none, c.in-Err.ensures.unasked of.0 (ap Err of.1), refl))
+    c.in-Err.ensures.fails.looks c.in-Err.ensures.fails.refused
+
+pub returns-in-Err-clause-taken : goal.returns-in-Err-clause-taken
+returns-in-Err-clause-taken g c = c.in-Err.ensures.fails.taken
+
+pub returns-in-Err-clause-made : goal.returns-in-Err-clause-made
+returns-in-Err-clause-made g c = c.in-Err.ensures.fails.made
 
 pub returns-in-Err-clause-unasked : goal.returns-in-Err-clause-unasked
 returns-in-Err-clause-unasked g c = λ refusal.
@@ -77,7 +88,7 @@ returns-in-Err-clause-out_cause g c =
 pub serve_on-requires-clause-kept : goal.serve_on-requires-clause-kept
 serve_on-requires-clause-kept g c =
     let b = c.in-Ok.ensures.begun in
-    can_serve (g.D.Disk.state c.args.disk.now).content (g.D.Disk.state c.begin.new.disk).content b.begin b.before c.in-Ok.begun.desk.writer.session c.in-Ok.begun.desk.entries c.in-Ok.begun.desk.writer.appender (g.D.Disk.state c.begin.new.disk) b.starts c.in-Ok.ensures.told b.begun
+    can_serve lines_format c.args.limit (g.D.Disk.state c.args.disk.now).content (g.D.Disk.state c.begin.new.disk).content b.begin b.input c.in-Ok.field-0.writer.session c.in-Ok.field-0.writer.entries c.in-Ok.field-0.writer.appender (g.D.Disk.state c.begin.new.disk) b.following.starts b.told b.begun
 
 pub returns-in-Ok-clause-keeps : goal.returns-in-Ok-clause-keeps
 returns-in-Ok-clause-keeps g c = λ begin old market legal.
@@ -90,10 +101,10 @@ returns-in-Ok-clause-keeps g c = λ begin old market legal.
     let out = output g.K.Sink.held g.K.Sink.calls g.K.Sink.faults c.args.out.now in
     let later = output g.K.Sink.held g.K.Sink.calls g.K.Sink.faults c.serve_on.new.out in
     let b = c.in-Ok.ensures.begun in
-    let desk = c.in-Ok.begun.desk in
-    let known = begun_known start begin old market legal c.args.limit content mid b.begin b.before desk.writer.session desk.entries desk.writer.appender b.starts (input_begins c.args.limit b.before c.in-Ok.begun.window content after b.following) b.begun in
+    let writer = c.in-Ok.field-0.writer in
+    let known = begun_known lines_format c.args.limit start begin old market legal content mid b.begin b.input writer.session writer.entries writer.appender b.following.starts b.following.begins b.begun in
     cut_wider c.args.limit content (c.serve_on.result ≡ Err (Broken serve.Write)) _ (λ e. c.kept.ensures ∙ ap kept_result e) begin start end old market out later
-    (keeps_served c.args.limit content after left c.in-Ok.begun.window b.begin b.before b.following c.serve_on.result begin start mid end old market desk.writer.session desk.entries desk.writer.appender out later known (b.moments begin old market legal) c.serve_on.ensures.goes)
+    (keeps_served c.args.limit content after left c.in-Ok.field-0.input.window b.begin b.input b.following c.serve_on.result begin start mid end old market writer.session writer.entries writer.appender out later known (b.moments begin old market legal) c.serve_on.ensures.goes)
 
 pub returns-in-Ok-clause-again : goal.returns-in-Ok-clause-again
 returns-in-Ok-clause-again g c = λ begin old market legal.
@@ -106,10 +117,10 @@ returns-in-Ok-clause-again g c = λ begin old market legal.
     let out = output g.K.Sink.held g.K.Sink.calls g.K.Sink.faults c.args.out.now in
     let later = output g.K.Sink.held g.K.Sink.calls g.K.Sink.faults c.serve_on.new.out in
     let b = c.in-Ok.ensures.begun in
-    let desk = c.in-Ok.begun.desk in
-    let known = begun_known start begin old market legal c.args.limit content mid b.begin b.before desk.writer.session desk.entries desk.writer.appender b.starts (input_begins c.args.limit b.before c.in-Ok.begun.window content after b.following) b.begun in
+    let writer = c.in-Ok.field-0.writer in
+    let known = begun_known lines_format c.args.limit start begin old market legal content mid b.begin b.input writer.session writer.entries writer.appender b.following.starts b.following.begins b.begun in
     may_begin_again c.args.limit content _ begin start end old market out later legal (g.met.D.Disk.is_disk c.serve_on.new.disk)
-    (keeps_served c.args.limit content after left c.in-Ok.begun.window b.begin b.before b.following c.serve_on.result begin start mid end old market desk.writer.session desk.entries desk.writer.appender out later known (b.moments begin old market legal) c.serve_on.ensures.goes)
+    (keeps_served c.args.limit content after left c.in-Ok.field-0.input.window b.begin b.input b.following c.serve_on.result begin start mid end old market writer.session writer.entries writer.appender out later known (b.moments begin old market legal) c.serve_on.ensures.goes)
 
 pub returns-in-Ok-clause-lengths : goal.returns-in-Ok-clause-lengths
 returns-in-Ok-clause-lengths g c =
@@ -117,9 +128,9 @@ returns-in-Ok-clause-lengths g c =
     let mid = g.D.Disk.state c.begin.new.disk in
     let end = g.D.Disk.state c.serve_on.new.disk in
     let b = c.in-Ok.ensures.begun in
-    let desk = c.in-Ok.begun.desk in
+    let writer = c.in-Ok.field-0.writer in
     if_some start.content _ _
-    (λ (held : List ℕ) begun. grows_served c.args.limit b.begin b.before c.in-Ok.begun.window (g.S.Source.rest c.args.source.now) (g.S.Source.rest c.begin.new.source) b.following start mid end (g.met.D.Disk.is_disk c.begin.new.disk) b.lengths held desk.writer.session desk.entries desk.writer.appender begun c.serve_on.ensures.lengths)
+    (λ (held : List ℕ) begun. grows_served c.args.limit b.begin b.input c.in-Ok.field-0.input.window (g.S.Source.rest c.args.source.now) (g.S.Source.rest c.begin.new.source) b.following start mid end (g.met.D.Disk.is_disk c.begin.new.disk) b.lengths held writer.session writer.entries writer.appender begun c.serve_on.ensures.lengths)
     b.begun
 
 pub returns-in-Ok-clause-comes : goal.returns-in-Ok-clause-comes
@@ -130,11 +141,11 @@ returns-in-Ok-clause-comes g c =
     let out = output g.K.Sink.held g.K.Sink.calls g.K.Sink.faults c.args.out.now in
     let later = output g.K.Sink.held g.K.Sink.calls g.K.Sink.faults c.serve_on.new.out in
     let b = c.in-Ok.ensures.begun in
-    let desk = c.in-Ok.begun.desk in
+    let writer = c.in-Ok.field-0.writer in
     subst (λ (r : Result ⊤ KeepFault). IfSome start.content (λ held. ComesTo c.args.limit held (g.S.Source.rest c.args.source.now) (g.S.Source.rest c.serve_on.new.source) end out later r)) (sym c.kept.ensures)
     (if_some start.content _ _
-    (λ (held : List ℕ) begun. comes_served c.args.limit held (g.S.Source.rest c.args.source.now) mid b.begin b.before desk.writer.session desk.entries desk.writer.appender begun b.starts (g.S.Source.rest c.begin.new.source) (g.S.Source.rest c.serve_on.new.source)
-    c.in-Ok.begun.window b.following end out later c.serve_on.result c.serve_on.ensures.goes)
+    (λ (held : List ℕ) begun. comes_served c.args.limit held (g.S.Source.rest c.args.source.now) mid b.begin b.input writer.session writer.entries writer.appender begun (g.S.Source.rest c.begin.new.source) (g.S.Source.rest c.serve_on.new.source)
+    c.in-Ok.field-0.input.window b.following end out later c.serve_on.result c.serve_on.ensures.goes)
     b.begun)
 
 pub returns-in-Ok-clause-legal : goal.returns-in-Ok-clause-legal
@@ -152,18 +163,18 @@ pub returns-in-Ok-clause-taken : goal.returns-in-Ok-clause-taken
 returns-in-Ok-clause-taken g c =
     let b = c.in-Ok.ensures.begun in
     let on = c.serve_on.ensures.goes in
-    taken_few c.args.limit b.before c.in-Ok.begun.window (g.S.Source.rest c.args.source.now) (g.S.Source.rest c.begin.new.source) (g.S.Source.rest c.serve_on.new.source) on.taken b.following on.takes on.few
+    taken_few c.args.limit b.input c.in-Ok.field-0.input.window (g.S.Source.rest c.args.source.now) (g.S.Source.rest c.begin.new.source) (g.S.Source.rest c.serve_on.new.source) on.taken b.following on.takes on.few
 
 pub returns-in-Ok-clause-untouched : goal.returns-in-Ok-clause-untouched
 returns-in-Ok-clause-untouched g c =
     let b = c.in-Ok.ensures.begun in
-    none_begun (g.D.Disk.state c.args.disk.now).content b.begin b.before c.in-Ok.begun.desk.writer.session c.in-Ok.begun.desk.entries c.in-Ok.begun.desk.writer.appender (g.D.Disk.state c.begin.new.disk) _ b.begun
+    none_begun lines_format c.args.limit (g.D.Disk.state c.args.disk.now).content b.begin b.input c.in-Ok.field-0.writer.session c.in-Ok.field-0.writer.entries c.in-Ok.field-0.writer.appender (g.D.Disk.state c.begin.new.disk) _ b.begun
 
 pub returns-in-Ok-clause-made : goal.returns-in-Ok-clause-made
 returns-in-Ok-clause-made g c =
     let b = c.in-Ok.ensures.begun in
     let on = c.serve_on.ensures.goes in
-    each_some (g.D.Disk.state c.args.disk.now).content _ (λ (held : List ℕ) new. inr (shown_more c.args.limit (g.S.Source.rest c.args.source.now) (g.S.Source.rest c.begin.new.source) (g.S.Source.rest c.serve_on.new.source) on.taken b.shown on.takes))
+    each_some (g.D.Disk.state c.args.disk.now).content _ (λ (held : List ℕ) new. inr (shown_more c.args.limit (g.S.Source.rest c.args.source.now) (g.S.Source.rest c.begin.new.source) (g.S.Source.rest c.serve_on.new.source) on.taken b.following.shown on.takes))
 
 pub returns-in-Ok-clause-disk_cause : goal.returns-in-Ok-clause-disk_cause
 returns-in-Ok-clause-disk_cause g c =
