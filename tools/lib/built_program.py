@@ -5,6 +5,7 @@ import os
 import shutil
 import subprocess
 import sys
+import tempfile
 
 from kept_file import Damaged, Foreign, NotCut, put_history
 
@@ -35,19 +36,32 @@ def output_of(word, given):
     return ran.stdout
 
 
+def with_places(front, file):
+    """An open file of which this was read, so that any place of it can be read: itself, or what it holds if it is a pipe."""
+    if file.seekable():
+        file.seek(0)
+        return file
+    whole = tempfile.TemporaryFile()
+    whole.write(front + file.read())
+    whole.seek(0)
+    return whole
+
+
 def history_of(place):
-    """The history in a file: what it holds, or what it keeps if it is one that `flow keep` writes."""
-    held, kept = bytes_of(place), io.BytesIO()
-    if not held.startswith(b"FLOWDSK"):
-        return held
+    """The history in a file: what it holds, or what it keeps if it is one that `flow keep` writes, also while it does."""
+    kept = io.BytesIO()
     try:
-        put_history(io.BytesIO(held), kept)
+        with open(place, "rb") as file:
+            front = file.read(7)
+            if front != b"FLOWDSK":
+                return front + file.read()
+            put_history(with_places(front, file), kept)
     except Foreign:
         sys.exit(f"{os.path.basename(sys.argv[0])}: {place} is not a flow disk")
     except Damaged as at:
         sys.exit(f"{os.path.basename(sys.argv[0])}: {place} is damaged at byte {at}")
-    except NotCut as at:
-        sys.exit(f"{os.path.basename(sys.argv[0])}: {place} is not cut: entries follow byte {at}")
+    except NotCut as why:
+        sys.exit(f"{os.path.basename(sys.argv[0])}: {place} is not cut: {why}")
     return kept.getvalue()
 
 

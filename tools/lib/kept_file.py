@@ -4,11 +4,12 @@ import struct
 from collections import namedtuple
 
 import checkpoint_file
-from formats import HEAD, VERSIONS
+from formats import DONE, HEAD, SKIPPED, VERSIONS
 
 # By the version of the journal.
 MAGICS = {version: b"FLOWDSK%d" % version for version in VERSIONS}
 MAGIC = MAGICS[2]
+FIRST_COMMIT = len(MAGIC)
 OPEN, CLOSED = b"\x01", b"\0"
 
 # A file of at most this many bytes is a new one, whatever it holds. A longer one is new if its first commit byte isn't set.
@@ -20,6 +21,10 @@ MOST_UNKEPT = 2 ** 21
 # The longest bodies of a command's record and of a reply's.
 MOST_ASKED, MOST_ANSWERED = 1_024, 262_144
 LONGEST = MOST_ASKED + MOST_ANSWERED + 2 * HEAD
+
+# The most bytes that one write of an entry has: its length, the entry and the next commit byte. A stop leaves no more after the commit byte
+# that ends the entries, but where a checkpoint was being written.
+MOST_WRITTEN = 4 + LONGEST + 1
 
 # How a file begins that isn't new: its version, and the checkpoint in its first entry, or no bytes.
 Head = namedtuple("Head", "version checkpoint")
@@ -34,7 +39,7 @@ class Damaged(Exception):
 
 
 class NotCut(Exception):
-    """Complete entries follow the commit byte at this place, which isn't set, so the next start cuts them off."""
+    """More follows a commit byte that isn't set than a stop leaves there, and the next start cuts it off. It says what follows which byte."""
 
 
 def is_pair(pair):
@@ -85,18 +90,21 @@ def next_pair(file):
     return pair if len(pair) == length and is_pair(pair) else b""
 
 
-def kept_pairs(file):
-    """The entries that an open file keeps after its beginning, one after the other. Then the file is just after the commit byte that
-    isn't set."""
-    if begin(file) is None:
-        file.seek(MOST_NEW)
-        return
+def stored(file, commit, place, count):
+    """At most this many bytes of an open file from a place on, which is behind a commit byte that wasn't set. None if it is set by now: then
+    a writer is at work, and the entries go on there. While it isn't set, no writer has stored more than one entry behind it."""
+    held = os.pread(file.fileno(), count, place)
+    return b"" if os.pread(file.fileno(), 1, commit) == OPEN else held
+
+
+def pairs_from(file):
+    """The entries of an open file from the next commit byte on, one after the other. Then the file is just after the commit byte that isn't
+    set."""
     while True:
         place, commit = file.tell(), file.read(1)
         if commit and commit != OPEN:
-            if file.seek(0, os.SEEK_END) - (place + 1) > MOST_UNKEPT:
+            if len(stored(file, place, place + 1, MOST_UNKEPT + 1)) > MOST_UNKEPT:
                 raise Damaged(place)
-            file.seek(place + 1)
             return
         pair = next_pair(file) if commit else b""
         if not pair:
@@ -104,13 +112,49 @@ def kept_pairs(file):
         yield pair
 
 
-def refuse_uncut(file):
-    """Refuses a file, open just after the commit byte that ends its entries, if what is stored there is followed by a set commit byte and a
-    complete entry. A stop leaves that nowhere; by a changed commit byte a start would cut off all that follows it."""
-    place = file.tell() - 1
-    file.seek(int.from_bytes(file.read(4), "big"), os.SEEK_CUR)
-    if file.read(1) == OPEN and next_pair(file):
-        raise NotCut(place)
+def kept_pairs(file):
+    """The entries that an open file keeps after its beginning, one after the other."""
+    if begin(file) is not None:
+        yield from pairs_from(file)
+
+
+def is_entry_at(held, at):
+    """Whether the length of an entry is there in what is held, and behind it just two records of which the second is a reply."""
+    pair = held[at + 4:at + 4 + int.from_bytes(held[at:at + 4], "big")]
+    if len(pair) != int.from_bytes(held[at:at + 4], "big") or not is_pair(pair):
+        return False
+    return DONE <= pair[HEAD + int.from_bytes(pair[1:HEAD], "big")] <= SKIPPED
+
+
+def has_entry(held):
+    """Whether a set commit byte and a complete entry behind it are anywhere in these bytes."""
+    at, view = held.find(OPEN), memoryview(held)
+    while at >= 0 and not is_entry_at(view, at + 1):
+        at = held.find(OPEN, at + 1)
+    return at >= 0
+
+
+def is_followed(file, place, held):
+    """Whether entries follow the commit byte at this place, behind which these bytes are: a kept one just after a checkpoint, more than one
+    byte after a complete entry, or a kept entry anywhere if no complete one comes first."""
+    length = int.from_bytes(held[:4], "big")
+    if place == FIRST_COMMIT and held[4:].startswith(checkpoint_file.MAGIC):
+        behind = stored(file, place, place + 1 + 4 + length, 1 + 4 + LONGEST)
+        return behind.startswith(OPEN) and is_entry_at(behind, 1)
+    if is_entry_at(held, 0):
+        return len(held) > 4 + length + 1
+    return has_entry(held)
+
+
+def refuse_uncut(file, place):
+    """Refuses an open file of which the entries end at this commit byte, if more follows than a stop leaves, which is one entry with the
+    next commit byte, or a part of that. If a commit byte or a block was changed, a start would cut off all that follows it."""
+    held = stored(file, place, place + 1, MOST_UNKEPT + 1)
+    if is_followed(file, place, held):
+        raise NotCut(f"entries follow byte {place}")
+    # (at the first one a checkpoint may have been written)
+    if len(held) > MOST_WRITTEN and place > FIRST_COMMIT:
+        raise NotCut(f"more than {MOST_WRITTEN} bytes follow byte {place}")
 
 
 # Of a new file, which has no version yet.
@@ -119,14 +163,14 @@ NO_VERSION_YET = Head(2, b"")
 
 def put_history(file, out):
     """Writes the history that an open file keeps: its checkpoint, or the magic of a journal, and its entries, and says how many these are.
-    Refuses a file with entries that a start would cut off, after it has written the others."""
-    head, count = begin(file) or NO_VERSION_YET, 0
+    Refuses a file of which a start would cut off entries, after it has written the others."""
+    begun, count = begin(file), 0
+    head = begun or NO_VERSION_YET
     out.write(head.checkpoint or b"FLOWJNL%d" % head.version)
-    file.seek(0)
-    for pair in kept_pairs(file):
+    for pair in pairs_from(file) if begun else ():
         out.write(pair)
         count += 1
-    refuse_uncut(file)
+    refuse_uncut(file, file.tell() - 1 if begun else FIRST_COMMIT)
     return count
 
 
