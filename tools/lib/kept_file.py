@@ -39,7 +39,7 @@ class Damaged(Exception):
 
 
 class NotCut(Exception):
-    """More follows a commit byte that isn't set than a stop leaves there, and the next start cuts it off. It says what follows which byte."""
+    """More follows a commit byte that isn't set than a stop leaves, and the next start cuts it off: what follows which byte."""
 
 
 def is_pair(pair):
