@@ -91,8 +91,8 @@ def next_pair(file):
 
 
 def stored(file, commit, place, count):
-    """At most this many bytes of an open file from a place on, which is behind a commit byte that wasn't set. None if it is set by now: then
-    a writer is at work, and the entries go on there. While it isn't set, no writer has stored more than one entry behind it."""
+    """At most this many bytes of an open file from a place on, which comes after a commit byte that wasn't set. None if it is set by now:
+    then a writer is at work, and the entries go on there. While it isn't set, no writer has stored more than one entry after it."""
     held = os.pread(file.fileno(), count, place)
     return b"" if os.pread(file.fileno(), 1, commit) == OPEN else held
 
@@ -119,7 +119,7 @@ def kept_pairs(file):
 
 
 def is_entry_at(held, at):
-    """Whether the length of an entry is there in what is held, and behind it just two records of which the second is a reply."""
+    """Whether the length of an entry is there in what is held, and after it just two records of which the second is a reply."""
     pair = held[at + 4:at + 4 + int.from_bytes(held[at:at + 4], "big")]
     if len(pair) != int.from_bytes(held[at:at + 4], "big") or not is_pair(pair):
         return False
@@ -127,7 +127,7 @@ def is_entry_at(held, at):
 
 
 def has_entry(held):
-    """Whether a set commit byte and a complete entry behind it are anywhere in these bytes."""
+    """Whether a set commit byte and a complete entry after it are anywhere in these bytes."""
     at, view = held.find(OPEN), memoryview(held)
     while at >= 0 and not is_entry_at(view, at + 1):
         at = held.find(OPEN, at + 1)
@@ -135,12 +135,12 @@ def has_entry(held):
 
 
 def is_followed(file, place, held):
-    """Whether entries follow the commit byte at this place, behind which these bytes are: a kept one just after a checkpoint, more than one
+    """Whether entries follow the commit byte at this place, after which these bytes are: a kept one just after a checkpoint, more than one
     byte after a complete entry, or a kept entry anywhere if no complete one comes first."""
     length = int.from_bytes(held[:4], "big")
     if place == FIRST_COMMIT and held[4:].startswith(checkpoint_file.MAGIC):
-        behind = stored(file, place, place + 1 + 4 + length, 1 + 4 + LONGEST)
-        return behind.startswith(OPEN) and is_entry_at(behind, 1)
+        later = stored(file, place, place + 1 + 4 + length, 1 + 4 + LONGEST)
+        return later.startswith(OPEN) and is_entry_at(later, 1)
     if is_entry_at(held, 0):
         return len(held) > 4 + length + 1
     return has_entry(held)
