@@ -1,4 +1,4 @@
--- How the input of a call begins that keeps a journal, and how much was taken of it.
+-- The input of a call that keeps a journal: how it begins, and how much was taken of it.
 use Rattle.std.specs.Prelude.{◌≡◌, ◌⊎◌, ◌+◌, ◌≤◌, ℕ, List, [], ◌++◌, length, take, Option, Some, None, IfSome}
 use Rattle.flow_io.specs.Streams.{Takes}
 use Rattle.flow_io.specs.Windows.{WindowState}

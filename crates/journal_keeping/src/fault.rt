@@ -4,7 +4,7 @@ ghost use Rattle.journal_keeping.specs.Faults.{kept_result};
 use file_units::{Ending, TakeFault};
 use journal_disk::DiskFault;
 
-/// Why a disk wasn't opened. Nothing was asked of the source then.
+/// Why a disk wasn't opened.
 #[derive(Clone, Copy, Debug, PartialEq, Eq)]
 pub enum OpenFault {
     /// A call of the disk failed. The disk has to be opened again.

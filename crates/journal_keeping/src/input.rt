@@ -12,7 +12,7 @@ use market_core::Market;
 use std::alloc::Global;
 use wire_records::Version;
 
-/// The input of a new disk, whose beginning was taken.
+/// An input for a new disk: its beginning was taken.
 #[derive(Drop)]
 pub struct NewInput<I> {
     /// The input, after its beginning.

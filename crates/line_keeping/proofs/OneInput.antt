@@ -31,4 +31,4 @@ one_start bytes (Kept market) (Kept other) text more a b p q =
 pub one_input : OneInput
 one_input limit bytes before other lines others (text, is, are) (more, is_too, are_too) =
     let one = one_before (take limit bytes) before other text more is is_too in
-    (one.0, one_split (limit < length bytes) more lines others (subst (λ (l : List ℕ). AreLines (limit < length bytes) l lines) one.1 are) are_too)
+    (one.0, one_start (take limit bytes) before other text more is is_too, one_split (limit < length bytes) more lines others (subst (λ (l : List ℕ). AreLines (limit < length bytes) l lines) one.1 are) are_too)

@@ -30,6 +30,6 @@ one_output limit held bytes begin other pairs others texts words new last a b =
     let opened = one_begin held (take limit bytes) begin other a.old b.old a.market b.market a.before b.before a.are.0 b.are.0 a.opens b.opens a.are.1 b.are.1 in
     let old = subst (λ (l : Pairs). AreLinesAnswered a.market (length l) 1 a.lines a.added texts new) opened.1 a.answered in
     let market = subst (λ (m : Market). AreLinesAnswered m (length b.old) 1 a.lines a.added texts new) opened.2 old in
-    let lines = subst (λ (l : Texts). AreLinesAnswered b.market (length b.old) 1 l a.added texts new) input.1 market in
+    let lines = subst (λ (l : Texts). AreLinesAnswered b.market (length b.old) 1 l a.added texts new) input.2 market in
     let one = one_answer b.market (length b.old) 1 b.lines a.added b.added texts words new last lines b.answered in
     (opened.0, a.all ∙ ap (λ (l : Pairs). l ++ a.added) opened.1 ∙ ap (λ (l : Pairs). b.old ++ l) one.0 ∙ sym b.all, one.1, one.2)

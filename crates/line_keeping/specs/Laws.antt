@@ -15,12 +15,12 @@ use Rattle.line_records.specs.Lines.{Say}
 use Rattle.input_lines.specs.Long.{IsLong}
 use Rattle.line_keeping.specs.Answers.{AreLinesAnswered}
 use Rattle.journal_keeping.specs.Openings.{OpensAs}
-use Rattle.line_keeping.specs.Inputs.{bytes_before, lines_format, HasLinesWithin}
+use Rattle.line_keeping.specs.Inputs.{bytes_before, BeginsNew, lines_format, HasLinesWithin}
 
--- an input has at most one list of lines, and the same bytes are before them
+-- an input has at most one list of lines, and at most one thing before them: the same bytes, with which a new file begins in one way
 abbrev pub OneInput : Type 0
 OneInput = (limit : ℕ) (bytes : List ℕ) (before other : Start) (lines others : List (List ℕ)) → HasLinesWithin limit bytes before lines → HasLinesWithin limit bytes other others
-    → (bytes_before before ≡ bytes_before other) × (lines ≡ others)
+    → (bytes_before before ≡ bytes_before other) × (BeginsNew before → BeginsNew other → before ≡ other) × (lines ≡ others)
 
 -- lines add one list of entries, are answered in one way, and lead to one market
 abbrev pub OneAnswer : Type 0

@@ -1,4 +1,4 @@
-//! An input of lines: looks what is before them, and moves past it.
+//! An input of lines: finds what is before them, and moves past it.
 ghost use Rattle.std.specs.Prelude.{◌≡◌, ◌≤◌, ◌+◌, ◌^◌, ℕ, List, Option, None, Err, IfOk, IfErr, IsErr, length, vec_capacity};
 ghost use Rattle.flow_io.specs.Faults.{Blames};
 ghost use Rattle.flow_io.specs.Streams.{TakesAtMost};
