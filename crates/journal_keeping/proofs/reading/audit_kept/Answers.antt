@@ -8,7 +8,7 @@ use Rattle.journal_disk.specs.Stepping.{HasEntryAt, StatesAt, Finds}
 use Rattle.journal_disk.proofs.GoingOn.{looks_none, looks_more, looks_hold, entry_holds}
 use Rattle.journal_keeping.specs.Starts.{head_of}
 use Rattle.journal_keeping.specs.Auditing.{StopsAs}
-use Rattle.journal_keeping.specs.declared.fault.KeepFault.{KeepFault}
+use Rattle.journal_keeping.specs.declared.fault.OpenFault.{OpenFault}
 use Rattle.journal_keeping.proofs.Auditing.{by_both, none_read, one_read, stops_finding, stops_judged}
 use Rattle.journal_keeping.proofs.reading.audit_kept.Goals as goal
 
@@ -53,7 +53,7 @@ pub returns-in-Err-clause-stops : goal.returns-in-Err-clause-stops
 returns-in-Err-clause-stops g c = λ begin rest bytes starts new holds told.
     let i = c.pairs.invariant in
     let was = i.reads begin rest starts new holds in
-    subst (λ (f : KeepFault). StopsAs begin f bytes) (sym c.from-in-Err.ensures)
+    subst (λ (f : OpenFault). StopsAs begin f bytes) (sym c.from-in-Err.ensures)
     (stops_finding begin was.0 c.pairs.audit c.pairs.journal was.1 bytes (g.D.Disk.state c.pairs.disk) was.2 was.4 (i.looks.content ∙ told) c.in-Err.fault c.in-Err.ensures.found)
 
 pub returns-in_err-judge-in-Ok-clause-stops : goal.returns-in_err-judge-in-Ok-clause-stops
