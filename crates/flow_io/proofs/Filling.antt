@@ -1,6 +1,7 @@
 -- What a window holds after one read and after several.
-use Rattle.std.proofs.Common.{◌≡◌, ◌≢◌, ◌⊎◌, inl, inr, ◌+◌, ◌-◌, ◌≤◌, ◌<◌, ℕ, List, [], ◌++◌, Option, Some, None, IfSome, length, take, drop, slice_range, refl, sym, ap, subst, ◌∙◌, arith, append_assoc, append-nil, length-append}
-use Rattle.std.proofs.lemmas.List.{take_at, drop_at, take-append-le, drop-append-le, drop-take, drop-drop, length-take-le, length-drop}
+use Rattle.std.proofs.Common.{◌≡◌, ◌≢◌, ◌⊎◌, inl, inr, ◌+◌, ◌-◌, ◌≤◌, ◌<◌, ℕ, List, [], ◌++◌, Option, Some, None, IfSome, Result, Ok, Err, IsOk, is_ok, if◌then◌else◌, length, take, drop, slice_range, refl, sym, ap, subst, ◌∙◌, arith, append_assoc, append-nil, length-append}
+use Rattle.std.proofs.lemmas.Bool.{false≢true}
+use Rattle.std.proofs.lemmas.List.{take_at, take_all, drop_at, take-append-le, drop-append-le, drop-take, drop-drop, length-take-le, length-drop}
 use borrow.Rule.Slice.PartMut.{put_mid, post_of}
 use lib.Seq.{take-add}
 use Rattle.flow_io.specs.declared.window.InputEnd.{InputEnd}
@@ -30,6 +31,20 @@ pub kept : (xs ys : List ℕ) (start end k : ℕ) → start ≤ end → end ≤ 
 kept xs ys start end k ordered within =
     let none : end ≡ end + 0 = omega arith in
     ap (slice_range (put_mid end k xs ys) start) none ∙ grown xs ys start end k 0 ordered within (omega arith) ∙ append-nil _
+
+-- a write behind the bytes of a vector, into room that was laid out behind them
+pub behind : (old zeros xs ys : List ℕ) (end k n : ℕ) → end ≡ length old → xs ≡ old ++ zeros → n ≤ length ys → take (end + n) (put_mid end k xs ys) ≡ old ++ take n ys
+behind old zeros xs ys end k n long filled fits =
+    let within : end ≤ length xs = omega (arith, long, ap length filled, length-append old zeros) in
+    let all : end + n ≡ end + n - 0 = omega arith in
+    let first : end - 0 ≡ end = omega arith in
+    ap (λ j. take j (put_mid end k xs ys)) all ∙ grown xs ys 0 end k n (omega arith) within fits
+    ∙ ap (λ l. l ++ take n ys) (ap (λ j. take j xs) first ∙ ap (take end) filled ∙ take_at old zeros end (sym long))
+
+-- room was laid out behind the bytes of a vector
+pub laid_out : {T E : Type 0} (result : Result T E) (old now first zeros : List ℕ) (m : ℕ) → IsOk result → first ≡ old → length old ≤ m → now ≡ (if is_ok result then take m first ++ zeros else first) → now ≡ old ++ zeros
+laid_out (Ok _) old now first zeros m done same long is = is ∙ ap (λ l. l ++ zeros) (ap (take m) same ∙ take_all m old long)
+laid_out (Err _) old now first zeros m done same long is = absurd (false≢true done)
 
 -- the first bytes of the range are given up
 pub consumed : (xs : List ℕ) (start end count : ℕ) → start + count ≤ end → slice_range xs (start + count) end ≡ drop count (slice_range xs start end)

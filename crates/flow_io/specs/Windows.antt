@@ -37,3 +37,13 @@ pub record Fills (old new : WindowState) (before after : Option (List ℕ)) : Ty
   pub holds : new ≡ record old { held = old.held ++ joined; over = new.over }
   pub taken : Takes before after (joined ++ past)
   pub beyond : IsPast old.over new.over past
+
+-- Bytes were taken from a source past a window that holds nothing, as if it had been filled with them and they had then been moved behind
+-- the prefix.
+pub record FillsPast (old new : WindowState) (prefix now : List ℕ) (before after : Option (List ℕ)) : Type 0 where
+  pub joined : List ℕ
+  pub past : List ℕ
+  pub grew : now ≡ prefix ++ joined
+  pub holds : new ≡ record old { place = old.place + length joined; over = new.over }
+  pub taken : Takes before after (joined ++ past)
+  pub beyond : IsPast old.over new.over past

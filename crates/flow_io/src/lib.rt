@@ -7,12 +7,13 @@
 //! reader, and what is written arrives at the writer, each byte once and in its order.
 //!
 //! [`read_all`] takes all bytes of a source up to a limit, and a [`Window`] holds a part of them at a
-//! time.
+//! time; [`Window::read_past`] reads past it into a vector.
 //!
-//! A read or a write costs as much as the bytes that it moves. Only [`read_all`] and [`Window::new`]
-//! allocate.
+//! A read or a write costs as much as the bytes that it moves. Only [`read_all`], [`Window::new`] and
+//! [`Window::read_past`] allocate.
 #![tactic(auto)]
 
+mod behind;
 mod block;
 pub mod laws;
 mod sink;

@@ -1,12 +1,16 @@
-ghost use Rattle.std.specs.Prelude.{◌≡◌, ◌≢◌, ◌+◌, ◌≤◌, ◌<◌, ◌^◌, ◌↔◌, [], Some, None, ◌⊎◌, length, drop, IfOk, IfSome, OnOk, OnErr, IsErr};
+ghost use Rattle.std.specs.Prelude.{◌≡◌, ◌≢◌, ◌+◌, ◌≤◌, ◌<◌, ◌^◌, ◌↔◌, [], Some, None, Err, ◌⊎◌, length, drop, IfOk, IfSome, OnOk, OnErr, IsErr};
 ghost use Rattle.flow_io.specs.Faults.{Blames};
-ghost use Rattle.flow_io.specs.Windows.{Fills, IsWithin, empty_window};
+ghost use Rattle.flow_io.specs.Windows.{Fills, FillsPast, IsWithin, empty_window};
 
+use crate::behind::read_behind;
 use crate::block::Block;
-use crate::{ReadFailed, Source};
+use crate::{ReadAllFault, ReadFailed, Source};
 use out_of_memory::Memory;
 use std::alloc::Global;
 use std::marker::Model;
+
+// The most bytes that one read past a window asks for.
+const PIECE: usize = 65_536;
 
 /// What filling a window resulted in.
 #[derive(Clone, Copy, PartialEq, Eq)]
@@ -174,5 +178,49 @@ impl Window {
             }
         }
         Ok(Filled::Enough)
+    }
+
+    /// Reads once, past a window that holds nothing, straight into a vector: some bytes, at most `count` and 65,536 and no
+    /// more than the limit leaves, are appended to `into`, the window's place moves past them, and their number is
+    /// returned. It is 0 exactly if the input ends there, which the window remembers, as after [`fill`](Window::fill):
+    /// at the limit one byte more is looked for, taken and discarded.
+    ///
+    /// `Read` comes only if the source's count of faults rose, and `Memory` only if there is none for the bytes. Then
+    /// nothing changed.
+    pub fn read_past<S: Source>(
+        &mut self,
+        source: &mut S,
+        into: &mut Vec<u8>,
+        count: usize,
+    ) -> Result<usize, ReadAllFault>
+        requires none { self.old.held ≡ [] }
+        requires open { self.old.over ≡ None }
+        requires some { 0 < count }
+        ensures fills { FillsPast self.old self.new into.old.items into.new.items (S.rest source.old) (S.rest source.new) }
+        ensures read { IfOk result (λ read. (read ≤ count) × (length into.new.items ≡ length into.old.items + read)) }
+        ensures further { IfOk result (λ read. (self.new.over ≢ None) ↔ (read ≡ 0)) }
+        ensures all { self.new.over ≡ Some InputEnd.Source → IfSome (S.rest source.new) (λ left. left ≡ []) }
+        ensures within { IsWithin self.new.place (length self.new.held) self.new.limit self.new.over }
+        ensures failed { OnErr result ((self.new ≡ self.old) × (into.new.items ≡ into.old.items) × (S.rest source.new ≡ S.rest source.old)) }
+        ensures cause { Blames (result ≡ Err ReadAllFault.Read) (S.faults source.old) (S.faults source.new) }
+    {
+        let left = self.limit - self.place;
+        if left == 0 {
+            return match self.look_past(source) {
+                Ok(()) => Ok(0),
+                Err(_) => Err(ReadAllFault::Read),
+            };
+        }
+        let most = (count.min(PIECE) as u64).min(left) as usize;
+        match read_behind(source, into, most) {
+            Ok(read) => {
+                if read == 0 {
+                    self.over = Some(InputEnd::Source);
+                }
+                self.place += read as u64;
+                Ok(read)
+            }
+            Err(fault) => Err(fault),
+        }
     }
 }
