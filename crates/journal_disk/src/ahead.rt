@@ -1,5 +1,5 @@
 //! A disk that is read ahead in pieces.
-ghost use Rattle.std.specs.Prelude.{◌≡◌, ◌≤◌, ◌+◌, ◌⊎◌, IfSome, IfOk, IfErr, OnOk, OnErr, Err, IsErrOf};
+ghost use Rattle.std.specs.Prelude.{◌≡◌, ◌≤◌, ◌+◌, ◌⊎◌, ℕ, List, [], IfSome, IfOk, IfErr, OnOk, OnErr, Err, IsErrOf};
 ghost use Rattle.flow_io.specs.Faults.{Blames};
 ghost use Rattle.journal_disk.specs.Looking.{OnlyLooks};
 ghost use Rattle.journal_disk.specs.Ahead.{IsPiece, HoldsPart, part_of};
@@ -45,6 +45,14 @@ impl Ahead {
             from: 0,
             size,
         })
+    }
+
+    /// Gives the memory of the piece back: nothing is read ahead any more, and the next reading takes memory for a piece again.
+    pub fn forget(&mut self, alloc: Global)
+        ensures held { self.new ≡ record self.old { held = [] } }
+        ensures piece { (bytes : List ℕ) → IsPiece self.old bytes → IsPiece self.new bytes }
+    {
+        self.held = Vec::new(alloc);
     }
 
     // Returns how many bytes the disk has.

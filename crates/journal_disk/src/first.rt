@@ -3,7 +3,7 @@ ghost use Rattle.std.specs.Prelude.{◌≡◌, ◌⊎◌, ◌≤◌, ◌<◌, �
 ghost use Rattle.flow_io.specs.Faults.{Blames};
 ghost use Rattle.wire_records.specs.declared.version.Version.{Version};
 ghost use Rattle.disk_edge.specs.Disks.{AtEachMoment};
-ghost use Rattle.journal_disk.specs.Entries.{IsHead, framed, IsNewDisk, HasEntries, Keeps};
+ghost use Rattle.journal_disk.specs.Entries.{IsHead, framed, IsNewDisk, HasEntries, Keeps, most_new};
 ghost use Rattle.journal_disk.specs.Lengths.{ReachesAtMost};
 ghost use Rattle.journal_disk.specs.Looking.{OnlyLooks};
 ghost use Rattle.journal_disk.specs.Ahead.{IsPiece, HoldsPart, part_of};
@@ -11,25 +11,43 @@ ghost use Rattle.journal_disk.specs.Stepping.{FindsFirst};
 
 use crate::ahead::Ahead;
 use crate::appender::Appender;
-use crate::calls::{OPEN, set_commit, write_synced};
+use crate::calls::{MOST_NEW, OPEN, length_of, set_commit, write_synced};
 use crate::fault::DiskFault;
-use crate::journal::{DiskJournal, MOST_BYTES};
+use crate::journal::{DiskJournal, MOST_BYTES, MOST_UNKEPT};
 use crate::reading::{byte_at, number_at};
 use disk_edge::Disk;
-use std::alloc::{AllocError, Global};
-use wire_fields::{put_bytes, put_u8, put_u32};
+use std::alloc::AllocError;
+use wire_fields::{put_u8, put_u32};
 
-/// Puts a first entry together as it is stored, with an unset commit byte after it. Takes the memory of its bytes and 5
-/// more, and fails only if there is none.
-pub fn stored_first(alloc: Global, bytes: &[u8]) -> Result<Vec<u8>, AllocError>
-    requires { length bytes.now < 2 ^ 32 }
-    ensures { IfOk result (λ stored. stored.items ≡ framed bytes.now ++ 0 ∷ []) }
+// The bytes of an entry's length.
+const HEAD: usize = 4;
+
+/// Makes of the bytes of a first entry what is stored of it, in place: the length before them, and an unset commit byte after them.
+/// Takes the memory of 5 more bytes, moves the others once, and fails only if there is no memory.
+pub fn stored_first(bytes: Vec<u8>) -> Result<Vec<u8>, AllocError>
+    requires { length bytes.items < 2 ^ 32 }
+    ensures { IfOk result (λ stored. stored.items ≡ framed bytes.items ++ 0 ∷ []) }
 {
-    let mut stored = Vec::with_capacity(alloc, 5 + bytes.len())?;
-    put_u32(&mut stored, bytes.len() as u32);
-    put_bytes(&mut stored, bytes);
+    let mut stored = bytes;
+    let count = stored.len() as u32;
+    stored.reserve(HEAD + 1)?;
+    put_u32(&mut stored, count);
+    stored.rotate_right(HEAD);
     put_u8(&mut stored, 0);
     Ok(stored)
+}
+
+/// Returns whether a disk has more bytes than a crash leaves of a new one whose first entry is stored in so many bytes, which are 0
+/// without a first entry: more than these, and more than 2^21, after the first commit byte. Returns `Failed` only if the disk's count
+/// rose. Takes no memory, and changes nothing of the disk.
+pub fn exceeds_new<D: Disk>(disk: &mut D, stored: usize) -> Result<bool, DiskFault>
+    ensures more { IfOk result (λ more. IfSome (D.state disk.old).content (λ bytes. IsTrue more ↔ (most_new stored < length bytes))) }
+    ensures failed { OnErr result (result ≡ Err DiskFault.Failed) }
+    ensures looks { OnlyLooks (D.state disk.old) (D.state disk.new) }
+    ensures cause { Blames (IsErrOf result DiskFault.Failed) (D.state disk.old).faults (D.state disk.new).faults }
+{
+    let length = length_of(disk)?;
+    Ok(length.saturating_sub(MOST_NEW) > MOST_UNKEPT.max(stored as u64))
 }
 
 impl Appender {

@@ -24,8 +24,8 @@
 //! # Costs
 //!
 //! Entries are read in pieces of 65,536 bytes, so one costs its bytes and a share of such a piece; one that is appended
-//! costs its bytes and two writes with a sync each. Reading takes memory for a piece, which grows to the longest entry,
-//! and `next` for the entry in the caller's buffer too; beginning takes an appender's buffer of 263,183 bytes; opening
+//! costs its bytes and two writes with a sync each. Reading takes memory for a piece, which grows to the longest entry and which
+//! [`Ahead::forget`] gives back, and `next` for the entry in the caller's buffer too; beginning takes an appender's buffer of 263,183 bytes; opening
 //! and appending take none.
 #![tactic(auto)]
 
@@ -43,6 +43,6 @@ mod reading;
 pub use ahead::Ahead;
 pub use appender::Appender;
 pub use fault::{DiskFault, Step};
-pub use first::stored_first;
+pub use first::{exceeds_new, stored_first};
 pub use journal::{DiskJournal, recover};
 pub use pairs::is_whole_pair;
