@@ -11,6 +11,7 @@ pub mod FieldForms
 pub mod Bodies
 pub mod Codes
 pub mod OneAnswer
+pub mod RequestPlaces
 pub mod Readings
 pub mod ReadingLaws
 pub mod RecordCode

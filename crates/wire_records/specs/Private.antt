@@ -48,6 +48,15 @@ pub record EncodesRequest (body : List ℕ) (request : Request) : Type 0 where
 abbrev pub EncodesNoRequest : List ℕ → Type 0
 EncodesNoRequest body = (request : Request) → ¬ EncodesRequest body request
 
+-- the bytes have the encoding of this request, of so many legs, at this place
+pub record IsRequestAt (bytes : List ℕ) (place legs : ℕ) (request : Request) : Type 0 where
+  pub fits : IsRequest request
+  pub count : length request.row ≡ legs
+  pub before : List ℕ
+  pub after : List ℕ
+  pub encoded : bytes ≡ before ++ (request_encoding request ++ after)
+  pub placed : length before ≡ place
+
 -- this body encodes this last batch and, after it, this request
 pub record EncodesUntil (body : List ℕ) (last : ℕ) (request : Request) : Type 0 where
   pub fits : IsUnsigned 4 last × IsRequest request

@@ -24,6 +24,12 @@ head tag n = unsigned 1 tag ++ unsigned 4 n
 unfoldable pub encoding : Record → List ℕ
 encoding r = head r.tag (length r.body) ++ r.body
 
+-- the bytes are the encoding of this record, whose tag and length fit their fields
+pub record AreEncoding (r : Record) (bytes : List ℕ) : Type 0 where
+  pub tag : r.tag < 256
+  pub body : length r.body < 2 ^ 32
+  pub encoded : bytes ≡ encoding r
+
 -- the bytes begin with a head that states this length of a body, whether or not the body follows
 abbrev pub StatesLength : ℕ → List ℕ → Type 0
 StatesLength n bytes = (n < 2 ^ 32) × (tag : ℕ) × (tag < 256) × (rest : List ℕ) × (bytes ≡ head tag n ++ rest)

@@ -5,7 +5,7 @@ ghost use Rattle.wire_records.specs.CommandRecords.{IsRead};
 ghost use Rattle.wire_records.specs.Views.{reading};
 ghost use Rattle.wire_records.specs.Private.{IsAccountTag, IsAssetTag};
 
-use crate::place::{place_in, until_in};
+use crate::place::{place_at, place_in, until_in};
 use crate::{PlaceView, RecordView};
 use weight_rows::EntryList;
 use wire_fields::Cursor;
@@ -84,6 +84,102 @@ pub enum Command {
         asset: u16,
         units: u64,
     },
+}
+
+// The bytes of the head of a record, and those of a last batch after it.
+const HEAD: usize = 5;
+
+const LAST: usize = 4;
+
+impl Command {
+    ghost use Rattle.std.specs.Prelude.{List, ℕ};
+    ghost use Rattle.wire_records.specs.Records.{encoding};
+    ghost use Rattle.wire_records.specs.CommandRecords.{tag_of, record_of, IsCommand};
+    ghost use Rattle.wire_records.specs.Views.{command_in, command_of};
+
+    /// Returns the tag of the command's record, 1 to 12.
+    pub fn tag(&self) -> u8
+        ensures { result ≡ tag_of (command_in self.now) }
+    {
+        match self {
+            Command::AddAsset { .. } => 1,
+            Command::OpenAccount => 2,
+            Command::DepositMoney { .. } => 3,
+            Command::DepositAsset { .. } => 4,
+            Command::WithdrawMoney { .. } => 5,
+            Command::WithdrawAsset { .. } => 6,
+            Command::PlaceOrder { .. } => 7,
+            Command::CancelOrder { .. } => 8,
+            Command::RunBatch { .. } => 9,
+            Command::PlaceUntil { .. } => 10,
+            Command::SetMoneyCredit { .. } => 11,
+            Command::SetUnitCredit { .. } => 12,
+        }
+    }
+
+    /// Returns the command as it is read from bytes that begin with its record, as [`write_command`](crate::write_command)
+    /// wrote it, without a look at them: an order is lent out where it is in the bytes. Constant cost.
+    pub fn view<'a>(&'a self, bytes: &'a [u8]) -> CommandView<'a>
+        requires fits { IsCommand (command_in self.now) }
+        requires written { (rest : List ℕ) × (bytes.now ≡ encoding (record_of (command_in self.now)) ++ rest) }
+        ensures { command_of result ≡ command_in self.now }
+    {
+        match self {
+            Command::AddAsset { ticker } => CommandView::AddAsset(ticker),
+            Command::OpenAccount => CommandView::OpenAccount,
+            Command::DepositMoney { account, ticks } => CommandView::DepositMoney {
+                account: *account,
+                ticks: *ticks,
+            },
+            Command::DepositAsset {
+                account,
+                asset,
+                units,
+            } => CommandView::DepositAsset {
+                account: *account,
+                asset: *asset,
+                units: *units,
+            },
+            Command::WithdrawMoney { account, ticks } => CommandView::WithdrawMoney {
+                account: *account,
+                ticks: *ticks,
+            },
+            Command::WithdrawAsset {
+                account,
+                asset,
+                units,
+            } => CommandView::WithdrawAsset {
+                account: *account,
+                asset: *asset,
+                units: *units,
+            },
+            Command::PlaceOrder { row, .. } => {
+                CommandView::PlaceOrder(place_at(bytes, HEAD, row.as_slice().len()))
+            }
+            Command::CancelOrder { account, order } => CommandView::CancelOrder {
+                account: *account,
+                order: *order,
+            },
+            Command::RunBatch { budget } => CommandView::RunBatch { budget: *budget },
+            Command::PlaceUntil { last, row, .. } => CommandView::PlaceUntil {
+                last: *last,
+                place: place_at(bytes, HEAD + LAST, row.as_slice().len()),
+            },
+            Command::SetMoneyCredit { account, ticks } => CommandView::SetMoneyCredit {
+                account: *account,
+                ticks: *ticks,
+            },
+            Command::SetUnitCredit {
+                account,
+                asset,
+                units,
+            } => CommandView::SetUnitCredit {
+                account: *account,
+                asset: *asset,
+                units: *units,
+            },
+        }
+    }
 }
 
 /// A command in borrowed bytes: the fields are those of [`Command`], in the same units.

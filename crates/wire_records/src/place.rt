@@ -4,8 +4,9 @@ ghost use Rattle.weight_rows.specs.declared.entries.Entry.{Entry};
 ghost use Rattle.weight_rows.specs.declared.faults.RowFault.{RowFault};
 ghost use Rattle.weight_rows.specs.Rows.{IsWeightVector, most_entries};
 ghost use Rattle.weight_rows.specs.Faults.{IsFaultOf};
+ghost use Rattle.wire_records.specs.Commands.{Request};
 ghost use Rattle.wire_records.specs.Bodies.{entry_encoding, IsEntry};
-ghost use Rattle.wire_records.specs.Private.{EncodesRequest, EncodesNoRequest, EncodesUntil, EncodesNoUntil};
+ghost use Rattle.wire_records.specs.Private.{IsRequestAt, EncodesRequest, EncodesNoRequest, EncodesUntil, EncodesNoUntil};
 
 use crate::Memory;
 use crate::record::as_bytes;
@@ -207,6 +208,17 @@ pub(crate) fn place_in(body: &[u8]) -> Option<PlaceView<'_>>
         return None;
     }
     Some(PlaceView { bytes })
+}
+
+// The request of so many legs that is known to be encoded at a place of bytes.
+pub(crate) fn place_at(bytes: &[u8], place: usize, legs: usize) -> PlaceView<'_>
+    requires { (request : Request) × IsRequestAt bytes.now place legs request }
+    ensures { (request : Request) → IsRequestAt bytes.now place legs request → result ≡ request }
+{
+    let end = place + ROW + ENTRY * legs;
+    PlaceView {
+        bytes: as_bytes(&bytes[place..end]),
+    }
 }
 
 // The last batch, and the request after it, that a body encodes, or `None` if it encodes none.

@@ -6,6 +6,9 @@ ghost use Rattle.wire_records.specs.Framing.{IsPrefix};
 use std::marker::Model;
 use wire_fields::Cursor;
 
+// The bytes of a head.
+const HEAD: usize = 5;
+
 // Returns the same slice, with what its type says of its items as a clause.
 pub(crate) fn as_bytes(bytes: &[u8]) -> &[u8]
     ensures value { result.now ≡ bytes.now }
@@ -35,6 +38,20 @@ impl<'a> Model for RecordView<'a> {
 }
 
 impl<'a> RecordView<'a> {
+    ghost use Rattle.wire_records.specs.Records.{Record, AreEncoding};
+
+    /// Returns the record whose encoding these bytes are, as they were written. Constant cost.
+    pub fn of(bytes: &'a [u8]) -> RecordView<'a>
+        requires { (asked : Record) × AreEncoding asked bytes.now }
+        ensures { (asked : Record) → AreEncoding asked bytes.now → result ≡ asked }
+    {
+        RecordView {
+            tag: bytes[0],
+            body: &bytes[HEAD..],
+            bytes,
+        }
+    }
+
     /// Returns the tag, a byte of any value.
     pub fn tag(&self) -> u8
         ensures { result ≡ self.now.tag }
