@@ -28,9 +28,13 @@ longest_pair = 263178
 abbrev pub longest_plain_pair : ℕ
 longest_plain_pair = 1042
 
+-- how many bytes the record of any plain reply takes at most
+abbrev pub plain_reply_room : ℕ
+plain_reply_room = 13
+
 -- how many bytes an entry with any plain reply takes at most
 abbrev pub plain_room : Record → ℕ
-plain_room asked = length (encoding asked) + 13
+plain_room asked = length (encoding asked) + plain_reply_room
 
 -- how many bytes the entry of a batch that cleared takes, with this number of assets and orders
 abbrev pub cleared_room : Record → (assets orders : ℕ) → ℕ

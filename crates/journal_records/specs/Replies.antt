@@ -2,7 +2,7 @@
 use Rattle.std.specs.Prelude.{◌≡◌, ◌≤◌, ℕ, List, [], ◌∷◌, ◌++◌, length, map, All}
 use Rattle.std.specs.List.{flat_map}
 use Rattle.wire_records.specs.declared.reply.Reply.TheVariants.{Done, Asset, Account, Order, Refused}
-use Rattle.wire_records.specs.Records.{Record}
+use Rattle.wire_records.specs.Records.{Record, IsRecord, encoding}
 use Rattle.wire_records.specs.Commands.{Answer, Plain, Batch}
 use Rattle.wire_records.specs.Refusals.{code_of}
 use Rattle.flow_orders.specs.Orders.{most_orders}
@@ -55,6 +55,12 @@ pub record EncodesAnswer (r : Record) (answer : Answer Outcome) : Type 0 where
 -- the longest body of a reply's record, in bytes
 abbrev pub most_reply_body : ℕ
 most_reply_body = 262144
+
+-- the bytes are the record of this answer, whose values fit their fields, and whose body is within its limit
+pub record AreAnswer (answer : Answer Outcome) (bytes : List ℕ) : Type 0 where
+  pub fits : IsAnswer answer
+  pub short : IsRecord most_reply_body (answer_record answer)
+  pub encoded : bytes ≡ encoding (answer_record answer)
 
 -- an outcome of at most 64 assets and 16,384 orders, or of at most as many moves as a budget may have
 abbrev pub IsWithinLimits : Outcome → Type 0

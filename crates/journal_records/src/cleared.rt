@@ -124,3 +124,29 @@ pub fn write_cleared(
     put_cleared(batch, orders, cleared, out);
     Ok(())
 }
+
+/// Appends the record of the reply of a batch that cleared, as [`write_cleared`] does behind its command's record: where the
+/// bytes end with that, this completes the entry. The space is reserved first, and nothing fails after that. Fails with
+/// `Memory` only if `out` lacked the capacity, and then `out` is as before. The cost is that of the bytes, and of a move of
+/// `out` if it has to grow.
+pub fn write_cleared_reply(
+    batch: u32,
+    orders: &[Order],
+    cleared: &Cleared,
+    out: &mut Vec<u8>,
+) -> Result<(), Memory>
+    requires one_rate_each { length cleared.now.rates ≡ length orders.now }
+    requires one_residual_each { length cleared.now.residuals ≡ length cleared.now.prices }
+    requires few_assets { length cleared.now.prices ≤ 64 }
+    requires few_orders { length orders.now ≤ most_orders }
+    ensures written { OnOk result (out.new.items ≡ out.old.items
+        ++ encoding (answer_record (Batch batch (cleared_outcome (clearing_of orders.now cleared.now))))) }
+    ensures stays { OnErr result (out.new.items ≡ out.old.items) }
+    ensures room { vec_capacity out.old ≤ vec_capacity out.new }
+    ensures fits { OnOk result (IsAnswer (Batch batch (cleared_outcome (clearing_of orders.now cleared.now)))) }
+{
+    let body = body_len(cleared.prices.as_slice().len(), orders.len());
+    out.reserve(HEAD + body)?;
+    put_cleared(batch, orders, cleared, out);
+    Ok(())
+}

@@ -3,7 +3,7 @@ ghost use Rattle.std.specs.Prelude.{◌≡◌, ◌+◌, ◌<◌, ◌≤◌, ◌+
 ghost use Rattle.wire_records.specs.Records.{encoding};
 ghost use Rattle.wire_records.specs.Commands.{Plain};
 ghost use Rattle.journal_records.specs.Replies.{answer_record, IsAnswer};
-ghost use Rattle.journal_records.specs.Pairs.{pair_encoding, plain_room};
+ghost use Rattle.journal_records.specs.Pairs.{pair_encoding, plain_room, plain_reply_room};
 
 use core::mem::replace_with;
 use wire_fields::{put_bytes, put_u8, put_u16, put_u32, put_u64};
@@ -31,11 +31,28 @@ pub fn reserve_plain(asked: &RecordView<'_>, out: &mut Vec<u8>) -> Result<(), Me
     Ok(())
 }
 
-// Appends the record of a reply.
+/// Reserves the space of the record of any plain reply, 13 bytes, so that [`put_reply`] can follow. The bytes in `out` stay.
+/// Fails with `Memory` only if `out` lacked the capacity, which is then as before. The cost is that of a move of `out` if it
+/// has to grow.
+pub fn reserve_reply(out: &mut Vec<u8>) -> Result<(), Memory>
+    ensures room { OnOk result (vec_len out.new + plain_reply_room ≤ vec_capacity out.new) }
+    ensures stays { out.new.items ≡ out.old.items }
+    ensures unchanged { OnErr result (vec_capacity out.new ≡ vec_capacity out.old) }
+    ensures grown { vec_capacity out.old ≤ vec_capacity out.new }
+
+    // Memory can run out only if the capacity isn't there already.
+    ensures wanted { OnErr result (vec_capacity out.old < vec_len out.old + plain_reply_room) }
+{
+    out.reserve(LONGEST_REPLY)?;
+    Ok(())
+}
+
+/// Appends the record of a plain reply: where the bytes end with its command's record, that completes the entry. `out` must
+/// have the capacity, as after [`reserve_reply`], so nothing is allocated.
 #[inline(always)]
 #[tactic(auto, using(crate::proofs::FieldForms::reply_fits))]
-fn put_reply(reply: &Reply, out: &mut Vec<u8>)
-    requires { vec_len out.old + 13 ≤ vec_capacity out.old }
+pub fn put_reply(reply: &Reply, out: &mut Vec<u8>)
+    requires { vec_len out.old + plain_reply_room ≤ vec_capacity out.old }
     ensures written { out.new.items ≡ out.old.items ++ encoding (answer_record (Plain reply.now)) }
     ensures fits { IsAnswer (Plain reply.now) }
     ensures capacity { vec_capacity out.new ≡ vec_capacity out.old }

@@ -20,6 +20,22 @@ pub enum ReplyView<'a> {
     Skipped(SkippedView<'a>),
 }
 
+impl<'a> ReplyView<'a> {
+    ghost use Rattle.wire_records.specs.Commands.{Answer};
+    ghost use Rattle.flow_orders.specs.Outcomes.{Outcome};
+    ghost use Rattle.journal_records.specs.Replies.{AreAnswer};
+    ghost use Rattle.journal_records.specs.Views.{answer_of};
+
+    /// Returns the answer whose record these bytes are, as it was written. Constant cost; doesn't allocate.
+    pub fn of(bytes: &'a [u8]) -> ReplyView<'a>
+        requires { (answer : Answer Outcome) × AreAnswer answer bytes.now }
+        ensures { (answer : Answer Outcome) → AreAnswer answer bytes.now → answer_of result ≡ answer }
+    {
+        // A record that is an answer's is read as one.
+        reply(&RecordView::of(bytes)).unwrap()
+    }
+}
+
 // Returns the number that a body of 1 byte is.
 fn u8_in(body: &[u8]) -> Option<u8>
     ensures encoded { IfSome result (λ n. body.now ≡ unsigned 1 n) }

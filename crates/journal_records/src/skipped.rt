@@ -68,3 +68,20 @@ pub fn write_skipped(
     put_skipped(batch, skipped, out);
     Ok(())
 }
+
+/// Appends the record of the reply of a batch that was skipped, as [`write_skipped`] does behind its command's record: where
+/// the bytes end with that, this completes the entry. The space is reserved first, and nothing fails after that. Fails with
+/// `Memory` only if `out` lacked the capacity, and then `out` is as before. The cost is that of the bytes, and of a move of
+/// `out` if it has to grow.
+pub fn write_skipped_reply(batch: u32, skipped: &Skipped, out: &mut Vec<u8>) -> Result<(), Memory>
+    requires few { length skipped.now.trace ≤ most_budget }
+    ensures written { OnOk result (out.new.items ≡ out.old.items
+        ++ encoding (answer_record (Batch batch (skipped_outcome (skipping_of skipped.now))))) }
+    ensures stays { OnErr result (out.new.items ≡ out.old.items) }
+    ensures room { vec_capacity out.old ≤ vec_capacity out.new }
+    ensures fits { OnOk result (IsAnswer (Batch batch (skipped_outcome (skipping_of skipped.now)))) }
+{
+    out.reserve(HEAD + NUMBERS + skipped.trace.as_slice().len())?;
+    put_skipped(batch, skipped, out);
+    Ok(())
+}
