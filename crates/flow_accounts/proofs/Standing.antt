@@ -11,5 +11,5 @@ pub record StandsFor (a : Inside) (b : Balances) : Type 0 where
   pub shown : balances_in a ≡ b
 
 -- the balances have as many assets as the fields
-pub asset_count-in : (a : Inside) → AreKept a → asset_count (balances_in a) ≡ a.assets
-asset_count-in a kept = length-take-le a.assets a.total_units (let made = kept.totals.places_made in let few = kept.few_assets in omega arith)
+pub asset_count-in : (a : Inside) → AreKept a → asset_count (balances_in a) ≡ a.holdings.assets
+asset_count-in a kept = length-take-le a.holdings.assets a.total_units (let made = kept.totals.places_made in let few = kept.few_assets in omega arith)

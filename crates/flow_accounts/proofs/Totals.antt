@@ -24,7 +24,7 @@ lawful-total b asset z lawful total = record {
 
 total_shown : (a : Inside) (asset : ℕ) (z : ℤ) → AreKept a → IsAsset (balances_in a) asset → IsUnitTotal z → StandsFor (record a { total_units = set a.total_units asset z }) (record (balances_in a) { totals = record ((balances_in a).totals) { units = set (balances_in a).totals.units asset z } })
 total_shown a asset z kept is_asset total =
-    let in_use : asset < a.assets = subst (λ n. asset < n) (asset_count-in a kept) is_asset in
+    let in_use : asset < a.holdings.assets = subst (λ n. asset < n) (asset_count-in a kept) is_asset in
     let shown : balances_in (record a { total_units = set a.total_units asset z }) ≡ record (balances_in a) { totals = record ((balances_in a).totals) { units = set (balances_in a).totals.units asset z } } = rw take-set-lt refl in
     record {
       kept = record {
@@ -34,7 +34,7 @@ total_shown a asset z kept is_asset total =
           places_made = length-set a.total_units asset z ∙ kept.totals.places_made;
           zero_beyond = λ k beyond. let other : k ≢ asset = omega arith in rw get_or-set_other (kept.totals.zero_beyond k beyond);
         };
-        accounts = kept.accounts;
+        none = kept.none;
         credits = kept.credits;
       };
       shown = shown;

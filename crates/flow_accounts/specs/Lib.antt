@@ -4,8 +4,11 @@ pub mod Changes
 pub mod Fits
 pub mod Lawful
 pub mod Laws
+pub mod Lines
+pub mod Laid
 pub mod Parts
 pub mod NoCredit
 pub mod CreditLines
+pub mod StoredLines
 pub mod Places
 pub mod Sums

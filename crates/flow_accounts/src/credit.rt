@@ -53,7 +53,8 @@ impl Accounts {
     /// `CreditLimit` for more than 2^40 ticks; `InUse` if the credit is below what is reserved less the balance, which
     /// `InUse` carries, in grains.
     ///
-    /// The cost is constant on average: the credits of the accounts before this one are stored first, if they aren't yet.
+    /// The cost is constant on average: the credits of the accounts before this one are stored first, if they aren't yet. A credit
+    /// of 0 where none is stored stores nothing.
     pub fn set_money_credit(
         &mut self,
         account: u32,
@@ -80,7 +81,8 @@ impl Accounts {
     /// or the asset isn't there; `CreditLimit` for more than 2^40 units; `InUse` if the credit is below what is
     /// reserved less the balance, which `InUse` carries, in units.
     ///
-    /// The cost is constant on average: the credits of the accounts before this one are stored first, if they aren't yet.
+    /// The cost is constant on average: the credits of the accounts before this one are stored first, if they aren't yet. A credit
+    /// of 0 where none is stored stores nothing.
     pub fn set_unit_credit(
         &mut self,
         account: u32,

@@ -20,15 +20,19 @@
 //!
 //! # Costs
 //!
-//! Every call takes the same time however many accounts and assets there are, with two exceptions. Opening an
-//! account sometimes moves all of them to larger blocks. Setting a credit stores the credits of the accounts
-//! up to its own that aren't stored yet, each of them once, so a call takes the same time on average.
+//! Every call takes the same time however many accounts and assets there are, with three exceptions. Opening an
+//! account sometimes moves all of them to larger blocks. Adding an asset that finds no place goes once over all accounts,
+//! five times at most. Setting a credit stores the credits of the accounts up to its own that aren't stored yet, each of
+//! them once, so a call takes the same time on average.
 //!
-//! An account takes 1,048 bytes, which include the places for all 64 assets: 528 for its balances in one block, and
-//! 520 for its credits in another. The second block has a place for each account, but nothing is written there after the
-//! last account that was given credit; most systems give next to no memory for what isn't written.
-//! A block doubles as it grows, so it has up to twice the bytes of its accounts; 65,536 of them take 65.5 MiB
-//! in both. While a block is moved, the smaller one is there too.
+//! An account takes 16 bytes for its money, and 8 for each of its places for units. It has no place without assets, 4 with
+//! up to 4 assets, then 8, 16, 32 and 64: so it takes 48 bytes with three assets, and 528 with 64. Its credits take 8 bytes,
+//! and 8 for each place, in blocks of their own, where nothing is written after the last account that was given credit.
+//!
+//! The blocks have room for 64 places for each account, so that only another account may run out of memory: 1,048 bytes for
+//! each account, of which the bytes above are written. Most systems give next to no memory for what isn't written.
+//! A block doubles as it grows, so it has up to twice the bytes of its accounts; 65,536 of them have 65.5 MiB
+//! in all. While a block is moved, the smaller one is there too.
 //! Only [`Accounts::add_account`] and [`Accounts::restore`] allocate.
 //!
 //! [`Accounts::restore`] makes accounts with all their balances at once, read through [`AccountParts`].
@@ -42,6 +46,7 @@ mod deposits;
 mod fault;
 mod growth;
 pub mod laws;
+mod lines;
 mod parts;
 mod places;
 mod restore;
@@ -50,12 +55,12 @@ mod withdrawals;
 
 use credit_lines::CreditLines;
 pub use fault::AccountFault;
+use lines::Lines;
 pub use out_of_memory::Memory;
 pub use parts::AccountParts;
 pub use places::grains_of;
 use std::alloc::Global;
 use std::marker::Model;
-use std::mem::size_of;
 
 /// How many accounts there may be.
 pub const MOST_ACCOUNTS: u32 = 65_536;
@@ -75,25 +80,14 @@ pub const MONEY_LIMIT: i128 = 1 << 100;
 /// The limit of the total of an asset, in units: no deposit takes it above this.
 pub const UNIT_LIMIT: i128 = 1 << 60;
 
-// What an account holds, in grains and in units. As many places for units are in use as there are assets; the others
-// are 0.
-#[derive(Clone, Copy)]
-struct Holding {
-    money: i128,
-    units: [i64; PLACES],
-}
-
-const _: () = prove!(size_of::<Holding>() == 528);
-
 /// All accounts with their balances, and the totals of deposits less withdrawals.
 ///
 /// Contracts see one value: a list of accounts, each with its money and a list of its units by
 /// asset; a list of their credit lines; the total of money; and the list of the assets' totals.
 #[derive(Drop)]
 pub struct Accounts {
-    accounts: Vec<Holding>,
+    holdings: Lines<i128, i64>,
     credits: CreditLines,
-    assets: u16,
     total_money: i128,
     total_units: [i64; PLACES],
 }
@@ -121,9 +115,8 @@ impl Accounts {
         ensures lawful { AreLawful result }
     {
         Accounts {
-            accounts: Vec::new(alloc),
-            credits: CreditLines::new(alloc),
-            assets: 0,
+            holdings: Lines::new(alloc, 0, 0),
+            credits: CreditLines::new(alloc, 0),
             total_money: 0,
             total_units: places::no_units(),
         }
@@ -134,7 +127,7 @@ impl Accounts {
         ensures count { result ≡ account_count self.now }
         ensures lawful { AreLawful self.now }
     {
-        self.accounts.len() as u32
+        self.holdings.len() as u32
     }
 
     /// Returns how many assets there are, at most 64. They are numbered from 0.
@@ -142,7 +135,7 @@ impl Accounts {
         ensures count { result ≡ asset_count self.now }
         ensures lawful { AreLawful self.now }
     {
-        self.assets
+        self.holdings.assets()
     }
 
     /// Returns the money of an account in grains, or `None` exactly if the account isn't there.

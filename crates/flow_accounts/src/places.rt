@@ -1,6 +1,6 @@
 ghost use Rattle.std.specs.Prelude.{◌≡◌, ◌↔◌, ◌^◌, IsTrue, slice_set, pos, ◌+ℤ◌, ◌-ℤ◌, ◌≤ℤ◌, ◌<ℤ◌, Some, None};
 ghost use Rattle.flow_accounts.specs.Balances.{grains, change_balance};
-ghost use Rattle.flow_accounts.specs.Places.{HasSpare, HasSpareCredit};
+ghost use Rattle.flow_accounts.specs.Places.{HasSpare};
 
 use crate::{Accounts, PLACES};
 
@@ -21,13 +21,6 @@ pub(crate) fn no_units() -> [i64; PLACES]
     [0; PLACES]
 }
 
-// Places for credits, none of them in use.
-pub(crate) fn no_credits() -> [u64; PLACES]
-    ensures { HasSpareCredit 0 result }
-{
-    [0; PLACES]
-}
-
 impl Accounts {
     ghost use Rattle.flow_accounts.specs.Balances.{IsAccount, IsAsset, money_of, units_of, money_with_credit, units_with_credit, total_units_of, total_of, change_balance};
     ghost use Rattle.flow_accounts.specs.Lawful.{AreLawful, IsMoneyBalance, IsUnitBalance, IsMoneyTotal, IsUnitTotal, total_limit};
@@ -37,13 +30,13 @@ impl Accounts {
         ensures there { IsTrue result ↔ IsAccount self.now account }
         ensures lawful { AreLawful self.now }
     {
-        account != 0 && account as usize <= self.accounts.len()
+        account != 0 && account as usize <= self.holdings.len()
     }
 
     pub(crate) fn has_asset(&self, asset: u16) -> bool
         ensures { IsTrue result ↔ IsAsset self.now asset }
     {
-        asset < self.assets
+        asset < self.holdings.assets()
     }
 
     pub(crate) fn money_held(&self, account: u32) -> i128
@@ -52,7 +45,7 @@ impl Accounts {
         ensures balance { IsMoneyBalance result }
         ensures reach { money_with_credit self.now account ≤ℤ pos (2 ^ 125) }
     {
-        self.accounts[account as usize - 1].money
+        self.holdings.money(account as usize - 1)
     }
 
     pub(crate) fn units_held(&self, account: u32, asset: u16) -> i64
@@ -62,7 +55,7 @@ impl Accounts {
         ensures balance { IsUnitBalance result }
         ensures reach { units_with_credit self.now account asset ≤ℤ pos (2 ^ 63) }
     {
-        self.accounts[account as usize - 1].units[asset as usize]
+        self.holdings.units(account as usize - 1, asset)
     }
 
     pub(crate) fn units_total(&self, asset: u16) -> i64

@@ -1,12 +1,14 @@
 //! Making accounts with all their balances at once.
-ghost use Rattle.std.specs.Prelude.{◌≡◌, IfOk};
+ghost use Rattle.std.specs.Prelude.{◌≡◌, ◌-◌, ◌≤◌, length, replicate, slice_index_or, slice_set, pos, IfOk, OnOk};
 ghost use Rattle.flow_accounts.specs.Balances.{IsAccount, account_count, asset_count, account_of, credit_of};
 ghost use Rattle.flow_accounts.specs.Lawful.{AreLawful};
-ghost use Rattle.flow_accounts.specs.Parts.{IsHoldingOf, AreHoldingsOf, IsCreditLineOf, AreCreditLinesOf, ArePlacesOf, AreCreditPlacesOf};
+ghost use Rattle.flow_accounts.specs.NoCredit.{no_line, no_holding};
+ghost use Rattle.flow_accounts.specs.Parts.{AreHoldingsOf, AreCreditLinesOf, ArePlacesOf};
 
-use crate::credit_lines::{CreditLine, CreditLines};
-use crate::places::{no_credits, no_units};
-use crate::{AccountParts, Accounts, Holding, PLACES};
+use crate::credit_lines::CreditLines;
+use crate::lines::Lines;
+use crate::places::no_units;
+use crate::{AccountParts, Accounts, PLACES};
 use out_of_memory::Memory;
 use std::alloc::{AllocError, Global};
 
@@ -14,18 +16,17 @@ impl Accounts {
     /// Makes accounts with all balances, credits and totals that are read from `parts`. These have to be within the limits,
     /// and no balance below minus its credit.
     ///
-    /// It reads each number once, and allocates twice, together 1,048 bytes for each account; `Memory` comes only if one of
-    /// these allocations fails.
+    /// It reads each number once, and allocates four times, together 1,048 bytes for each account, of which no more is written
+    /// than its balances and credits take; `Memory` comes only if one of these allocations fails.
     pub fn restore<P: AccountParts>(alloc: Global, parts: &P) -> Result<Accounts, Memory>
         requires lawful { AreLawful (P.balances parts.now) }
         ensures restored { IfOk result (λ accounts. accounts ≡ P.balances parts.now) }
     {
-        let accounts = holdings_of(alloc, parts)?;
+        let holdings = holdings_of(alloc, parts)?;
         let credits = credit_lines_of(alloc, parts)?;
         Ok(Accounts {
-            accounts,
+            holdings,
             credits,
-            assets: parts.asset_count(),
             total_money: parts.total_money(),
             total_units: totals_of(parts),
         })
@@ -33,15 +34,16 @@ impl Accounts {
 }
 
 // Reads what each account holds.
-fn holdings_of<P: AccountParts>(alloc: Global, parts: &P) -> Result<Vec<Holding>, AllocError>
+fn holdings_of<P: AccountParts>(alloc: Global, parts: &P) -> Result<Lines<i128, i64>, AllocError>
     requires lawful { AreLawful (P.balances parts.now) }
     ensures { IfOk result (λ holdings.
-        AreHoldingsOf (P.balances parts.now) (account_count (P.balances parts.now)) holdings.items) }
+        AreHoldingsOf (P.balances parts.now) (account_count (P.balances parts.now)) holdings) }
 {
     let count = parts.account_count();
-    let mut holdings = Vec::with_capacity(alloc, count as usize)?;
+    let mut holdings = Lines::new(alloc, parts.asset_count(), 0);
+    holdings.reserve(count as usize)?;
     for place in 0..count {
-        holdings.push_reserved(holding_of(parts, place + 1));
+        add_holding(parts, place + 1, &mut holdings);
     }
     Ok(holdings)
 }
@@ -53,63 +55,78 @@ fn credit_lines_of<P: AccountParts>(alloc: Global, parts: &P) -> Result<CreditLi
         AreCreditLinesOf (P.balances parts.now) (account_count (P.balances parts.now)) lines) }
 {
     let count = parts.account_count();
-    let mut lines = CreditLines::with_room(alloc, count)?;
+    let mut lines = CreditLines::new(alloc, parts.asset_count());
+    lines.reserve(count as usize)?;
     for place in 0..count {
-        lines.push(credit_line_of(parts, place + 1))?;
+        add_credit_line(parts, place + 1, &mut lines)?;
     }
     Ok(lines)
 }
 
-// Reads what one account holds.
-fn holding_of<P: AccountParts>(parts: &P, account: u32) -> Holding
+// Reads what one account holds, and adds it.
+fn add_holding<P: AccountParts>(parts: &P, account: u32, holdings: &mut Lines<i128, i64>)
     requires lawful { AreLawful (P.balances parts.now) }
     requires account { IsAccount (P.balances parts.now) account }
-    ensures { IsHoldingOf (P.balances parts.now) account result }
+    requires room { account ≤ holdings.old.room }
+    requires before { AreHoldingsOf (P.balances parts.now) (account - 1) holdings.old }
+    ensures added { AreHoldingsOf (P.balances parts.now) account holdings.new }
+    ensures room { holdings.old.room ≤ holdings.new.room }
 {
-    Holding {
-        money: parts.money(account).unwrap(),
-        units: units_of(parts, account),
-    }
+    holdings.push(parts.money(account).unwrap());
+    read_units(parts, account, holdings);
 }
 
-// Reads the credits of one account.
-fn credit_line_of<P: AccountParts>(parts: &P, account: u32) -> CreditLine
+// Reads the units of each asset that one account holds. Its line has none yet.
+fn read_units<P: AccountParts>(parts: &P, account: u32, holdings: &mut Lines<i128, i64>)
     requires lawful { AreLawful (P.balances parts.now) }
     requires account { IsAccount (P.balances parts.now) account }
-    ensures { IsCreditLineOf (P.balances parts.now) account result }
+    requires line { account ≤ length holdings.old.lines }
+    requires assets { holdings.old.assets ≡ asset_count (P.balances parts.now) }
+    requires none { (slice_index_or holdings.old.lines (account - 1) no_holding).units ≡ replicate holdings.old.assets (pos 0) }
+    ensures { holdings.new ≡ record holdings.old {
+      lines = slice_set holdings.old.lines (account - 1)
+          (record (slice_index_or holdings.old.lines (account - 1) no_holding) { units = (account_of (P.balances parts.now) account).units });
+    } }
 {
-    CreditLine {
-        money: parts.money_credit(account).unwrap(),
-        units: credits_of(parts, account),
-    }
-}
-
-// Reads the units of each asset that an account holds.
-fn units_of<P: AccountParts>(parts: &P, account: u32) -> [i64; PLACES]
-    requires lawful { AreLawful (P.balances parts.now) }
-    requires account { IsAccount (P.balances parts.now) account }
-    ensures { ArePlacesOf (asset_count (P.balances parts.now))
-        (account_of (P.balances parts.now) account).units result }
-{
-    let mut units = no_units();
+    let line = account as usize - 1;
     for asset in 0..parts.asset_count() {
-        units[usize::from(asset)] = parts.units(account, asset).unwrap();
+        holdings.set_units(line, asset, parts.units(account, asset).unwrap());
     }
-    units
 }
 
-// Reads the credit of an account in each asset.
-fn credits_of<P: AccountParts>(parts: &P, account: u32) -> [u64; PLACES]
+// Reads the credits of one account, and adds them. Those of an account without credit are added without being stored.
+fn add_credit_line<P: AccountParts>(
+    parts: &P,
+    account: u32,
+    lines: &mut CreditLines,
+) -> Result<(), AllocError>
     requires lawful { AreLawful (P.balances parts.now) }
     requires account { IsAccount (P.balances parts.now) account }
-    ensures { AreCreditPlacesOf (asset_count (P.balances parts.now))
-        (credit_of (P.balances parts.now) account).units result }
+    requires before { AreCreditLinesOf (P.balances parts.now) (account - 1) lines.old }
+    ensures added { OnOk result (AreCreditLinesOf (P.balances parts.now) account lines.new) }
 {
-    let mut credits = no_credits();
+    lines.add()?;
+    lines.set_money(account as usize - 1, parts.money_credit(account).unwrap());
+    read_unit_credits(parts, account, lines);
+    Ok(())
+}
+
+// Reads the credits of one account in each asset. Its line has none yet.
+fn read_unit_credits<P: AccountParts>(parts: &P, account: u32, lines: &mut CreditLines)
+    requires lawful { AreLawful (P.balances parts.now) }
+    requires account { IsAccount (P.balances parts.now) account }
+    requires line { account ≤ length lines.old.lines }
+    requires assets { lines.old.assets ≡ asset_count (P.balances parts.now) }
+    requires none { (slice_index_or lines.old.lines (account - 1) (no_line lines.old.assets)).units ≡ replicate lines.old.assets 0 }
+    ensures { lines.new ≡ record lines.old {
+      lines = slice_set lines.old.lines (account - 1)
+          (record (slice_index_or lines.old.lines (account - 1) (no_line lines.old.assets)) { units = (credit_of (P.balances parts.now) account).units });
+    } }
+{
+    let line = account as usize - 1;
     for asset in 0..parts.asset_count() {
-        credits[usize::from(asset)] = parts.unit_credit(account, asset).unwrap();
+        lines.set_units(line, asset, parts.unit_credit(account, asset).unwrap());
     }
-    credits
 }
 
 // Reads the total of each asset.

@@ -15,8 +15,9 @@ impl Accounts {
         ensures moved { self.new ≡ move_balance self.old account None amount }
         ensures lawful { AreLawful self.new }
     {
-        let holding = &mut self.accounts[account as usize - 1];
-        holding.money += amount;
+        let line = account as usize - 1;
+        let held = self.holdings.money(line);
+        self.holdings.set_money(line, held + amount);
     }
 
     /// Changes the units of an asset in an account by the amount, which may be negative, when a
@@ -29,7 +30,8 @@ impl Accounts {
         ensures moved { self.new ≡ move_balance self.old account (Some asset) amount }
         ensures lawful { AreLawful self.new }
     {
-        let holding = &mut self.accounts[account as usize - 1];
-        holding.units[asset as usize] += amount;
+        let line = account as usize - 1;
+        let held = self.holdings.units(line, asset);
+        self.holdings.set_units(line, asset, held + amount);
     }
 }

@@ -1,9 +1,7 @@
-use Rattle.std.proofs.Common.{◌-◌, get_or, ◌∙◌}
+use Rattle.std.proofs.Common.{◌∙◌}
 use Rattle.flow_accounts.specs.NoCredit.{no_line}
-use Rattle.flow_accounts.proofs.Holdings.{line_read, money_credit_read}
+use Rattle.flow_accounts.proofs.Holdings.{money_credit_is}
 use Rattle.flow_accounts.proofs.Accounts.money_credit_held.Goals as goal
 
 pub returns : goal.returns
-returns c =
-    let line = get_or c.self.inside.credits (c.args.account - 1) no_line in
-    c.money.ensures ∙ money_credit_read c.self.inside _ c.args.account line c.self.invariant c.self.view_is c.requires (line_read c.self.inside _ c.args.account c.self.invariant c.self.view_is c.requires)
+returns c = c.money.ensures ∙ money_credit_is c.self.inside _ c.args.account c.self.invariant c.self.view_is c.requires (no_line c.self.inside.credits.assets)

@@ -1,18 +1,15 @@
-use Rattle.std.proofs.Common.{◌-◌, List, get_or, sym, subst, Some}
-use Rattle.flow_accounts.specs.declared.credit_lines.CreditLine.{CreditLine}
+use Rattle.std.proofs.Common.{sym, subst, Some}
 use Rattle.flow_accounts.specs.Balances.{set_credit}
+use Rattle.flow_accounts.specs.CreditLines.{Credits}
 use Rattle.flow_accounts.specs.NoCredit.{no_line}
-use Rattle.flow_accounts.proofs.Holdings.{line_read, given_unit_credit}
+use Rattle.flow_accounts.proofs.Holdings.{given_unit_credit}
 use Rattle.flow_accounts.proofs.Standing.{StandsFor}
 use Rattle.flow_accounts.proofs.Accounts.write_unit_credit.Goals as goal
 
 given : (c : goal.After-set_units) → StandsFor (record (c.self.inside) { credits = c.set_units.new.self }) (set_credit c.args.self.now c.args.account (Some c.args.asset) c.args.units)
 given c =
-    let a = c.self.inside in
-    let there = c.requires.accepted.account_there in
-    let line = get_or a.credits (c.args.account - 1) no_line in
-    subst (λ (xs : List CreditLine). StandsFor (record a { credits = xs }) (set_credit c.args.self.now c.args.account (Some c.args.asset) c.args.units)) (sym c.set_units.ensures)
-    (given_unit_credit a _ c.args.account line c.self.invariant c.self.view_is there (line_read a _ c.args.account c.self.invariant c.self.view_is there) c.args.asset c.args.units c.args.reserved c.requires.not_negative c.requires.accepted)
+    subst (λ (t : Credits). StandsFor (record (c.self.inside) { credits = t }) (set_credit c.args.self.now c.args.account (Some c.args.asset) c.args.units)) (sym c.set_units.ensures)
+    (given_unit_credit c.self.inside _ c.args.account c.self.invariant c.self.view_is c.requires.accepted.account_there (no_line c.self.inside.credits.assets) c.args.asset c.args.units c.args.reserved c.requires.not_negative c.requires.accepted)
 
 pub invariant_of-self : goal.invariant_of-self
 invariant_of-self c = (given c).kept

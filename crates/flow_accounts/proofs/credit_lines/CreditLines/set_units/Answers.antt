@@ -1,19 +1,21 @@
-use Rattle.std.proofs.Common.{◌≡◌, ◌<◌, length, get_or, set, sym, subst, ap, ◌∙◌}
-use Rattle.std.proofs.lemmas.List.{get_or_default}
-use Rattle.flow_accounts.specs.declared.credit_lines.CreditLine.{CreditLine}
+use Rattle.std.proofs.Common.{ℕ, ◌≤◌, set, subst, ap}
+use Rattle.flow_accounts.specs.Lines.{Line}
 use Rattle.flow_accounts.specs.NoCredit.{no_line}
-use Rattle.flow_accounts.proofs.StoredLines.{is_written}
+use Rattle.flow_accounts.proofs.StoringLines.{written_credits, unwritten_credits, no_units_set}
 use Rattle.flow_accounts.proofs.credit_lines.CreditLines.set_units.Goals as goal
+
+pub invariant_of-self : goal.invariant_of-self
+invariant_of-self c =
+    (written_credits c.self.inside _ c.store_to.new.stored c.set_units.new.self c.args.place (λ (l : Line ℕ ℕ). record l { units = set l.units c.args.asset c.args.units }) c.self.invariant c.self.view_is c.requires.place c.store_to.ensures.stored c.store_to.ensures.grows
+    (c.set_units.ensures (no_line c.self.inside.stored.assets))).kept
 
 pub returns : goal.returns
 returns c =
-    let now = c.args.self.now in
-    let place = c.args.place in
-    let read = c.index_mut.result.now in
-    let new : CreditLine = record read { units = set read.units c.from.result c.args.units } in
-    let there = subst (λ xs. place < length xs) (sym c.self.view_is) c.requires.place in
-    let is = is_written c.self.inside c.store_to.new.stored place new c.self.invariant there c.store_to.ensures.items in
-    let line : read ≡ get_or now place no_line =
-    c.index_mut.ensures.value ∙ get_or_default c.store_to.new.stored.items place read no_line is.there ∙ is.read ∙ ap (λ xs. get_or xs place no_line) c.self.view_is in
-    is.written ∙ ap (λ xs. set xs place new) c.self.view_is ∙ ap (λ (l : CreditLine). set now place (record l { units = set l.units c.from.result c.args.units })) line
-    ∙ ap (λ k. set now place (record (get_or now place no_line) { units = set (get_or now place no_line).units k c.args.units })) c.from.ensures
+    (written_credits c.self.inside _ c.store_to.new.stored c.set_units.new.self c.args.place (λ (l : Line ℕ ℕ). record l { units = set l.units c.args.asset c.args.units }) c.self.invariant c.self.view_is c.requires.place c.store_to.ensures.stored c.store_to.ensures.grows
+    (c.set_units.ensures (no_line c.self.inside.stored.assets))).shown
+
+pub returns-then-place-len : goal.returns-then-place-len
+returns-then-place-len c =
+    rw c.if-units-eq0.true
+    (unwritten_credits c.self.inside _ c.args.place (λ (l : Line ℕ ℕ). record l { units = set l.units c.args.asset 0 }) c.self.view_is (subst (λ n. n ≤ c.args.place) c.len.ensures c.if-place-len.true)
+    (ap (λ us. record (no_line c.self.inside.stored.assets) { units = us }) (no_units_set c.self.inside.stored.assets c.args.asset)))

@@ -1,0 +1,12 @@
+use Rattle.std.proofs.Common.{length, sym, ap, ◌∙◌, arith}
+use Rattle.flow_accounts.specs.Lines.{Table}
+use Rattle.flow_accounts.proofs.Laying.{line_count, places_most}
+use Rattle.flow_accounts.proofs.lines.Lines.reserve.Goals as goal
+
+pub overflow_sub-all : goal.overflow_sub-all
+overflow_sub-all g c = omega (arith, c.len.ensures, c.len-2.ensures, c.in_ok-reserve.ensures.len, places_most c.self.inside _ c.self.invariant c.self.view_is)
+
+pub returns-clause-room : goal.returns-clause-room
+returns-clause-room g c =
+    let count = ap (λ (t : Table _ _). length t.lines) (sym c.self.view_is) ∙ line_count c.self.inside in
+    omega (arith, count, c.len.ensures, c.len-2.ensures, c.in_ok-reserve.ensures.len, c.in_ok-reserve.ensures.ok, c.in_ok-reserve-2.ensures.ok, places_most c.self.inside _ c.self.invariant c.self.view_is)
