@@ -1,5 +1,6 @@
 mod Writable
 mod Frames
 mod AnswersFit
+mod Written
 pub mod Opening
 pub mod RunLaws

@@ -1,22 +1,24 @@
 //! A batch: its outcome, the entry that states it, and its settlement.
 ghost use Rattle.std.specs.Prelude.{◌≡◌, ◌++◌, ◌+◌, ◌<◌, ◌≤◌, ℕ, true, List, None, Ok, IfOk, OnErr, OnOk, length, vec_capacity};
-ghost use Rattle.wire_records.specs.Records.{IsRecord, most_body};
+ghost use Rattle.wire_records.specs.Records.{IsRecord, encoding, most_body};
 ghost use Rattle.wire_records.specs.Commands.{RunBatch, Batch};
 ghost use Rattle.wire_records.specs.Versions.{IsReadAs};
 ghost use Rattle.flow_orders.specs.Orders.{most_orders};
 ghost use Rattle.canonical_rule.specs.Canonical.{IsCanonicalOutcome};
 ghost use Rattle.batch_outcome.specs.Published.{outcome_of};
+ghost use Rattle.flow_orders.specs.Outcomes.{Outcome as batch_value};
+ghost use Rattle.journal_records.specs.Replies.{answer_record};
 ghost use Rattle.journal_records.specs.Pairs.{pair_encoding};
-ghost use Rattle.market_rules.specs.Market.{most_batches, search_of, start_prices};
+ghost use Rattle.market_rules.specs.Market.{IsConsistent, most_batches, search_of, start_prices};
 ghost use Rattle.market_rules.specs.Step.{FirstRefusal, after_batch};
 ghost use Rattle.market_rules.specs.Settling.{MaySettle};
 ghost use Rattle.exchange_session.specs.Serving.{AnswersOne};
-ghost use Rattle.exchange_session.specs.Private.{IsWritable};
+ghost use Rattle.exchange_session.specs.Private.{IsWritable, IsBatchHeld};
 
 use batch_engine::clear;
 use batch_outcome::Outcome;
 use flow_orders::Order;
-use journal_records::{write_cleared, write_skipped};
+use journal_records::{write_cleared, write_cleared_reply, write_skipped, write_skipped_reply};
 use market_core::Market;
 use std::alloc::Global;
 use wire_records::{Memory, RecordView};
@@ -56,6 +58,47 @@ fn write_outcome(
         Outcome::Cleared(cleared) => write_cleared(asked, batch, orders, cleared, out),
         Outcome::Skipped(skipped) => write_skipped(asked, batch, skipped, out),
     }
+}
+
+// Appends the record of a batch's answer.
+fn write_answer(
+    batch: u32,
+    orders: &[Order],
+    outcome: &Outcome,
+    out: &mut Vec<u8>,
+) -> Result<(), Memory>
+    requires few { length orders.now ≤ most_orders }
+    requires writable { IsWritable orders.now outcome.now }
+    ensures written { OnOk result (out.new.items ≡ out.old.items
+        ++ encoding (answer_record (Batch batch (outcome_of orders.now outcome.now)))) }
+    ensures stays { OnErr result (out.new.items ≡ out.old.items) }
+    ensures room { vec_capacity out.old ≤ vec_capacity out.new }
+{
+    match outcome {
+        Outcome::Cleared(cleared) => write_cleared_reply(batch, orders, cleared, out),
+        Outcome::Skipped(skipped) => write_skipped_reply(batch, skipped, out),
+    }
+}
+
+// Answers a batch that is allowed, behind the record that asks for it, and then settles it.
+pub(crate) fn answer_batch(
+    alloc: Global,
+    market: &mut Market,
+    budget: u32,
+    out: &mut Vec<u8>,
+) -> Result<(), Memory>
+    requires first { FirstRefusal market.old (RunBatch budget) None }
+    requires more { market.old.batches < most_batches }
+    ensures served { OnOk result ((outcome : batch_value) × IsBatchHeld market.old budget outcome market.new
+        × (out.new.items ≡ out.old.items ++ encoding (answer_record (Batch (market.old.batches + 1) outcome)))) }
+    ensures consistent { OnOk result (IsConsistent market.old) }
+    ensures stays { OnErr result ((market.new ≡ market.old) × (out.new.items ≡ out.old.items)) }
+    ensures room { vec_capacity out.old ≤ vec_capacity out.new }
+{
+    let held = outcome_for(alloc, market, budget)?;
+    write_answer(market.batches() + 1, market.orders(), &held, out)?;
+    market.settle(&held);
+    Ok(())
 }
 
 // Holds a batch that is allowed: appends its entry, and then settles it.

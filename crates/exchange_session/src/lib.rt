@@ -1,6 +1,7 @@
 //! A session of the exchange: command records in, entries of a journal out.
 //!
-//! A [`Session`] holds the market from record to record. Each record gets one entry, which is a step of the market.
+//! A [`Session`] holds the market from record to record. Each record gets one entry, which is a step of the market. A command that
+//! isn't in a record yet is served by [`Session::serve_command`], which writes its record as the first half of its entry.
 #![tactic(auto)]
 
 mod batch;
@@ -8,4 +9,4 @@ mod run;
 mod session;
 
 pub use run::Run;
-pub use session::Session;
+pub use session::{Served, Session};

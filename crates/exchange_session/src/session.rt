@@ -1,20 +1,26 @@
 //! One command record, and the entry that it gets.
-ghost use Rattle.std.specs.Prelude.{◌≡◌, ◌++◌, ◌+◌, ◌-◌, ◌^◌, ◌<◌, ◌≤◌, ◌⊎◌, ℕ, List, [], length, IfOk, OnErr, OnOk, vec_len, vec_capacity};
+ghost use Rattle.std.specs.Prelude.{◌≡◌, ◌++◌, ◌+◌, ◌-◌, ◌^◌, ◌<◌, ◌≤◌, ◌⊎◌, ℕ, List, [], length, Ok, IfOk, OnErr, OnOk, vec_len, vec_capacity};
 ghost use Rattle.wire_records.specs.Commands.{Plain};
+ghost use Rattle.wire_records.specs.CommandRecords.{record_of, IsCommand, HasShortRow};
+ghost use Rattle.wire_records.specs.Records.{encoding};
+ghost use Rattle.wire_records.specs.Views.{command_in, command_of};
 ghost use Rattle.wire_records.specs.Versions.{IsReadAs};
 ghost use Rattle.journal_records.specs.Pairs.{plain_room};
 ghost use Rattle.canonical_rule.specs.Canonical.{IsCanonicalOutcome};
 ghost use Rattle.market_rules.specs.Journal.{Step};
-ghost use Rattle.market_rules.specs.Allocating.{RecordMayAllocate};
+ghost use Rattle.market_rules.specs.Allocating.{MayAllocate, RecordMayAllocate};
 ghost use Rattle.exchange_session.specs.Private.{IsAsked};
 
-use crate::batch::hold_batch;
+use crate::batch::{answer_batch, hold_batch};
 use file_units::Prefix;
-use journal_records::{reserve_plain, write_plain};
+use journal_records::{ReplyView, put_reply, reserve_plain, reserve_reply, write_plain};
 use market_core::Market;
 use std::alloc::Global;
 use std::marker::Model;
-use wire_records::{CommandView, Framed, MOST_BODY, Memory, RecordView, Reply, next_record};
+use wire_records::{
+    Command, CommandView, Framed, MOST_BODY, Memory, RecordView, Refusal, Reply, next_record,
+    write_command,
+};
 
 /// The market of a run, from record to record. Contracts see it as that market.
 #[derive(Drop)]
@@ -37,6 +43,53 @@ enum Asked {
     Batch(u32),
 }
 
+/// What is told of a command that was served: its reply, or where that of a batch is.
+pub enum Served {
+    /// The reply to a command that held no batch. A refusal is one.
+    Plain(Reply),
+    /// A batch was held, and the record of its reply begins at this place of the entry, in bytes from 0.
+    Batch(usize),
+}
+
+impl Served {
+    ghost use Rattle.wire_records.specs.Records.{Record};
+    ghost use Rattle.wire_records.specs.Commands.{Pair};
+    ghost use Rattle.flow_orders.specs.Outcomes.{Outcome};
+    ghost use Rattle.journal_records.specs.Pairs.{IsPair, pair_encoding};
+    ghost use Rattle.journal_records.specs.Views.{answer_of};
+    ghost use Rattle.exchange_session.specs.Serving.{IsToldOf};
+
+    /// Returns the reply, that of a batch out of the bytes of the entry of which this is told. Constant cost; doesn't allocate.
+    pub fn reply<'a>(&self, entry: &'a [u8]) -> ReplyView<'a>
+        requires { (pair : Pair Record Outcome) × IsPair pair × (entry.now ≡ pair_encoding pair) × IsToldOf pair self.now }
+        ensures { (pair : Pair Record Outcome) → IsPair pair → entry.now ≡ pair_encoding pair → IsToldOf pair self.now →
+            answer_of result ≡ pair.answer }
+    {
+        match *self {
+            Served::Plain(reply) => ReplyView::Plain(reply),
+            Served::Batch(place) => ReplyView::of(&entry[place..]),
+        }
+    }
+}
+
+// Returns the reply to a command of the market's version, or the batch that it asks for.
+#[inline(always)]
+fn reply_to_command(market: &mut Market, command: &CommandView<'_>) -> Result<Asked, Memory>
+    requires read { IsReadAs market.old.version (record_of (command_of command.now)) (Ok (command_of command.now)) }
+    requires next { market.old.next_order + 1 < 2 ^ 64 }
+    ensures step { IfOk result (IsAsked market.old (record_of (command_of command.now)) market.new) }
+    ensures stays { OnErr result (market.new ≡ market.old) }
+    ensures wanted { OnErr result (MayAllocate market.old (command_of command.now)) }
+{
+    match *command {
+        CommandView::RunBatch { budget } => match market.batch_allowed(budget) {
+            Ok(()) => Ok(Asked::Batch(budget)),
+            Err(refusal) => Ok(Asked::Plain(Reply::Refused(refusal))),
+        },
+        _ => Ok(Asked::Plain(market.apply(command)?)),
+    }
+}
+
 // Returns the reply to a record, or the batch that it asks for.
 fn reply_to(market: &mut Market, asked: &RecordView<'_>) -> Result<Asked, Memory>
     requires next { market.old.next_order + 1 < 2 ^ 64 }
@@ -45,13 +98,23 @@ fn reply_to(market: &mut Market, asked: &RecordView<'_>) -> Result<Asked, Memory
     ensures wanted { OnErr result (RecordMayAllocate market.old asked.now) }
 {
     match market.read(asked) {
-        Ok(CommandView::RunBatch { budget }) => match market.batch_allowed(budget) {
-            Ok(()) => Ok(Asked::Batch(budget)),
-            Err(refusal) => Ok(Asked::Plain(Reply::Refused(refusal))),
-        },
-        Ok(command) => Ok(Asked::Plain(market.apply(&command)?)),
+        Ok(command) => reply_to_command(market, &command),
         Err(unread) => Ok(Asked::Plain(Reply::Refused(unread))),
     }
+}
+
+// Returns the reply to a command of any version, whose record begins these bytes, or the batch that it asks for.
+fn reply_to_written(market: &mut Market, command: &Command, bytes: &[u8]) -> Result<Asked, Memory>
+    requires fits { IsCommand (command_in command.now) }
+    requires written { bytes.now ≡ encoding (record_of (command_in command.now)) }
+    requires next { market.old.next_order + 1 < 2 ^ 64 }
+    ensures step { IfOk result (IsAsked market.old (record_of (command_in command.now)) market.new) }
+    ensures stays { OnErr result (market.new ≡ market.old) }
+{
+    if command.tag() > market.version().most_tag() {
+        return Ok(Asked::Plain(Reply::Refused(Refusal::UnknownTag)));
+    }
+    reply_to_command(market, &command.view(bytes))
 }
 
 impl Session {
@@ -60,7 +123,7 @@ impl Session {
     ghost use Rattle.market_rules.specs.Market.{empty_market, IsConsistent};
     ghost use Rattle.wire_records.specs.Formats.{commands};
     ghost use Rattle.file_units.specs.Units.{IsTaken, StaysReady};
-    ghost use Rattle.exchange_session.specs.Serving.{AnswersOne, Puts, HasNumbers, AllocatesNext};
+    ghost use Rattle.exchange_session.specs.Serving.{AnswersOne, ServesCommand, Puts, HasNumbers, AllocatesNext};
 
     /// Makes a session over the empty market of version One. Takes no memory.
     pub fn new(alloc: Global) -> Session
@@ -107,6 +170,7 @@ impl Session {
     /// changes. After `Memory` market and bytes are as before, and `out` has at least the capacity that it had.
     /// `Memory` comes only if that capacity was less than an entry with a plain reply needs, or if the command adds an
     /// asset, an account or an order or holds a batch and no refusal holds.
+    #[inline(never)]
     pub fn serve(&mut self, asked: &RecordView<'_>, out: &mut Vec<u8>) -> Result<(), Memory>
         requires short { IsRecord most_body asked.now }
         requires next { self.old.next_order + 1 < 2 ^ 64 }
@@ -124,6 +188,36 @@ impl Session {
         }
         Ok(())
     }
+
+    /// Serves a command, and puts its entry into an empty buffer: the command's record, and the record of its one answer. It
+    /// is as if the record had been served, but nothing is read again; a command that the market's version doesn't have is
+    /// refused as its record is. The command has few enough legs for its record, if it has any, and the number that the next
+    /// order gets is below 2^64 - 1. Returns what is told of the answer.
+    ///
+    /// The cost is that of [`Session::serve`]. After `Memory` the market is as before, and the buffer may hold the command's
+    /// record.
+    pub fn serve_command(&mut self, command: &Command, out: &mut Vec<u8>) -> Result<Served, Memory>
+        requires short { HasShortRow (command_in command.now) }
+        requires next { self.old.next_order + 1 < 2 ^ 64 }
+        requires empty { out.old.items ≡ [] }
+        ensures served { IfOk result (ServesCommand self.old (command_in command.now) self.new out.new.items) }
+        ensures stays { OnErr result (self.new ≡ self.old) }
+    {
+        write_command(command, out)?;
+        reserve_reply(out)?;
+        match reply_to_written(&mut self.market, command, out)? {
+            Asked::Plain(reply) => {
+                put_reply(&reply, out);
+                Ok(Served::Plain(reply))
+            }
+            Asked::Batch(budget) => {
+                let place = out.len();
+                answer_batch(self.alloc, &mut self.market, budget, out)?;
+                Ok(Served::Batch(place))
+            }
+        }
+    }
+
     /// Serves the record that begins the bytes of a command file, if it is complete, puts its entry into an empty
     /// buffer, and returns what the bytes begin with, as a loop over the records asks for it. If there is no complete
     /// record, nothing is done; else the cost is that of [`Session::serve`].
