@@ -1,11 +1,13 @@
 -- Bytes that are taken from a source, step by step.
-use Rattle.std.proofs.Common.{◌≡◌, ◌+◌, ◌-◌, ◌<◌, ◌≤◌, ℕ, List, [], ◌++◌, Option, Some, None, length, take, drop, append-nil, append_assoc, length-append, refl, sym, ap, ◌∙◌, subst, arith}
-use Rattle.std.proofs.lemmas.List.{take-append-drop, take-append-le, take_at, take_all, length-take-le}
+use Rattle.std.proofs.Common.{◌≡◌, ◌≢◌, inl, inr, IfSome, ◌+◌, ◌-◌, ◌<◌, ◌≤◌, ℕ, List, [], ◌++◌, Option, Some, None, length, take, drop, append-nil, append_assoc, length-append, refl, sym, ap, ◌∙◌, subst, arith}
+use Rattle.std.proofs.lemmas.List.{take-append-drop, take-append-le, take_at, take_all, drop_all, length-take-le}
 use Rattle.flow_io.specs.Streams.{Takes}
-use Rattle.flow_io.specs.Windows.{WindowState}
+use Rattle.flow_io.specs.Windows.{WindowState, IsPast, IsWithin, FillsPast}
+use Rattle.flow_io.specs.declared.window.InputEnd.{InputEnd}
+use Rattle.flow_io.specs.declared.window.InputEnd.TheVariants.{Source, Limit}
 use Rattle.flow_io.proofs.Reading.{Takes-more}
 use Rattle.file_units.specs.Inputs.{known}
-use Rattle.file_units.proofs.Gone.{considered}
+use Rattle.file_units.proofs.Gone.{considered, within_limit}
 use Rattle.market_rules.specs.Market.{Market}
 use Rattle.market_snapshot.specs.Checkpoints.{IsCheckpoint, BeginsWithNoCheckpoint}
 use Rattle.market_history.specs.declared.start.StartFault.TheVariants.{Read, Memory, NoCheckpoint}
@@ -61,6 +63,91 @@ moved old new prefix now most told placed within unended is =
       unended = ap (λ (w : WindowState). w.over) window ∙ unended;
     }
 
+-- what is known after a prefix
+pub known_after : (prefix more : List ℕ) (after : Option (List ℕ)) → known (prefix ++ more) after ≡ prefix ++ known more after
+known_after prefix more None = refl
+known_after prefix more (Some left) = append_assoc prefix more left
+
+-- nothing is known to be left
+none_left : (left : Option (List ℕ)) → IfSome left (λ rest. rest ≡ []) → (xs : List ℕ) → known xs left ≡ xs
+none_left None none xs = refl
+none_left (Some rest) none xs = ap (λ ys. xs ++ ys) none ∙ append-nil xs
+
+-- all that was held was moved, if more is missing
+pub moved_all : (old new : WindowState) (prefix now : List ℕ) (most want : ℕ) → most ≡ want - length prefix → IsJoined old new prefix now most → length now < want → new.held ≡ []
+moved_all old new prefix now most want missing is few =
+    let count = length-take-le is.count old.held is.inside in
+    let long : length old.held ≤ is.count =
+    elim is.whole [
+      | inl all ↦ absurd (omega (arith, all, missing, few, ap length is.moved, length-append prefix (take is.count old.held), count))
+      | inr all ↦ omega (arith, all)
+    ]
+    in ap (λ (w : WindowState). w.held) is.window ∙ drop_all is.count old.held long
+
+-- an end that was seen is one of the source or of the limit
+pub end_of : (over : Option InputEnd) → over ≢ None → (end : InputEnd) × (over ≡ Some end)
+end_of None not = absurd (not refl)
+end_of (Some end) not = (end, refl)
+
+few_past : (over : Option InputEnd) (past : List ℕ) → IsPast None over past → length past ≤ 1
+few_past None past none = omega (arith, ap length none)
+few_past (Some Source) past none = omega (arith, ap length none)
+few_past (Some Limit) past one = omega (arith, one)
+
+module _ (old new : WindowState) (prefix now : List ℕ) (x y : Option (List ℕ)) (none : old.held ≡ []) (placed : old.place ≡ length prefix) (was : old.over ≡ None) (fills : FillsPast old new prefix now x y) (inside : IsWithin new.place (length new.held) new.limit new.over) where
+  held : new.held ≡ []
+  held = ap (λ (w : WindowState). w.held) fills.holds ∙ none
+
+  place : new.place ≡ length now
+  place = omega (arith, ap (λ (w : WindowState). w.place) fills.holds, placed, ap length fills.grew, length-append prefix fills.joined)
+
+  limit : new.limit ≡ old.limit
+  limit = ap (λ (w : WindowState). w.limit) fills.holds
+
+  few : new.place + length new.held ≤ new.limit
+  few = within_limit new.place (length new.held) new.limit new.over inside
+
+  beyond : IsPast None new.over fills.past
+  beyond = subst (λ (o : Option InputEnd). IsPast o new.over fills.past) was fills.beyond
+
+  grown : now ≡ (prefix ++ old.held) ++ fills.joined
+  grown = fills.grew ∙ ap (λ xs. xs ++ fills.joined) (sym (ap (λ xs. prefix ++ xs) none ∙ append-nil prefix))
+
+  -- some bytes were read past the window
+  pub read_past : new.over ≡ None → TakesOn old new prefix now x y
+  read_past unended =
+      let no_more : fills.past ≡ [] = subst (λ (o : Option InputEnd). IsPast None o fills.past) unended beyond in
+      record {
+        more = fills.joined;
+        takes = subst (λ (xs : List ℕ). Takes x y xs) (ap (λ xs. fills.joined ++ xs) no_more ∙ append-nil fills.joined) fills.taken;
+        grew = ap (λ xs. now ++ xs) held ∙ append-nil now ∙ grown;
+        place = place;
+        limit = limit;
+        room = ap (λ (w : WindowState). w.room) fills.holds;
+        within = few;
+        unended = unended;
+      }
+
+  known_all : (over : InputEnd) → new.over ≡ Some over → (over ≡ Source → IfSome y (λ left. left ≡ [])) → take old.limit (known (now ++ fills.past) y) ≡ now
+  known_all Source is ended =
+      let no_more : fills.past ≡ [] = subst (λ (o : Option InputEnd). IsPast None o fills.past) is beyond in
+      ap (take old.limit) (none_left y (ended refl) (now ++ fills.past) ∙ ap (λ xs. now ++ xs) no_more ∙ append-nil now) ∙ take_all old.limit now (omega (arith, place, limit, few))
+  known_all Limit is ended =
+      let full : new.place + length new.held ≡ new.limit = subst (λ (o : Option InputEnd). IsWithin new.place (length new.held) new.limit o) is inside in
+      ap (take old.limit) (known_after now fills.past y) ∙ take_at now (known fills.past y) old.limit (omega (arith, full, place, limit, ap length held))
+
+  -- the input was seen to end past the window
+  pub read_all : (over : InputEnd) → new.over ≡ Some over → (over ≡ Source → IfSome y (λ left. left ≡ [])) → TakesAll old prefix now x y
+  read_all over is ended = record {
+    more = fills.joined;
+    past = fills.past;
+    takes = fills.taken;
+    grew = grown;
+    few = few_past new.over fills.past beyond;
+    within = omega (arith, place, limit, few);
+    all = known_all over is ended;
+  }
+
 -- a step, and then all bytes that are considered
 pub all_taken : (a b : WindowState) (f g h : List ℕ) (x y z : Option (List ℕ)) → TakesOn a b f g x y → TakesAll b g h y z → TakesAll a f h x z
 all_taken a b f g h x y z one all = record {
@@ -72,11 +159,6 @@ all_taken a b f g h x y z one all = record {
   within = subst (λ (n : ℕ). length h ≤ n) one.limit all.within;
   all = subst (λ (n : ℕ). take n (known (h ++ all.past) z) ≡ h) one.limit all.all;
 }
-
--- what is known after a prefix
-pub known_after : (prefix more : List ℕ) (after : Option (List ℕ)) → known (prefix ++ more) after ≡ prefix ++ known more after
-known_after prefix more None = refl
-known_after prefix more (Some left) = append_assoc prefix more left
 
 -- considered bytes that begin with a prefix
 pub considered_after : (limit : ℕ) (prefix more : List ℕ) (after : Option (List ℕ)) → length prefix ≤ limit → take limit (known (prefix ++ more) after) ≡ prefix ++ take (limit - length prefix) (known more after)

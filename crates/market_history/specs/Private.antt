@@ -1,17 +1,17 @@
 -- Definitions that only private functions use: the bytes of a checkpoint that were read so far, which here are the prefix.
-use Rattle.std.specs.Prelude.{◌≡◌, ◌+◌, ◌≤◌, ◌<◌, ℕ, List, ◌++◌, length, take, drop, Option}
+use Rattle.std.specs.Prelude.{◌≡◌, ◌⊎◌, ◌+◌, ◌≤◌, ℕ, List, ◌++◌, length, take, drop, Option}
 use Rattle.flow_io.specs.Streams.{Takes}
 use Rattle.flow_io.specs.Windows.{WindowState}
 use Rattle.file_units.specs.Inputs.{known}
 use Rattle.market_rules.specs.Market.{Market}
 use Rattle.market_snapshot.specs.Checkpoints.{IsCheckpoint}
 
--- The first bytes that a window held were moved to the end of the prefix: `most` of them at most, and some if there were any.
+-- The first bytes that a window held were moved to the end of the prefix: `most` of them, or all if there were fewer.
 pub record IsJoined (old new : WindowState) (prefix now : List ℕ) (most : ℕ) : Type 0 where
   pub count : ℕ
   pub few : count ≤ most
   pub inside : count ≤ length old.held
-  pub some : 0 < most → 0 < length old.held → 0 < count
+  pub whole : (count ≡ most) ⊎ (count ≡ length old.held)
   pub window : new ≡ record old { held = drop count old.held; place = old.place + count }
   pub moved : now ≡ prefix ++ take count old.held
 

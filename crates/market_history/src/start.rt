@@ -3,7 +3,7 @@ ghost use Rattle.std.specs.Prelude.{◌≡◌, ◌+◌, ◌≤◌, List, ℕ, Op
 ghost use Rattle.flow_io.specs.Faults.{Blames};
 ghost use Rattle.flow_io.specs.Streams.{Takes};
 ghost use Rattle.flow_io.specs.Windows.{empty_window};
-ghost use Rattle.market_snapshot.specs.Checkpoints.{HasCheckpointMagic, BeginsWithNoCheckpoint};
+ghost use Rattle.market_snapshot.specs.Checkpoints.{checkpoint_bytes, HasCheckpointMagic, BeginsWithNoCheckpoint};
 ghost use Rattle.market_history.specs.Reading.{FindsStart};
 ghost use Rattle.market_history.specs.Kept.{TakesOn, FindsNone, FindsKept};
 ghost use Rattle.market_history.specs.Private.{IsJoined, TakesAll, IsWholeIfAny};
@@ -30,54 +30,6 @@ pub enum StartFault {
     NoCheckpoint,
 }
 
-// Reads some bytes into a window that holds none, and returns whether there are some.
-fn refill<S: Source>(
-    window: &mut Window,
-    source: &mut S,
-    prefix: &[u8],
-) -> Result<bool, ReadAllFault>
-    requires none { window.old.held ≡ [] }
-    requires room { 1 ≤ window.old.room }
-    requires open { window.old.over ≡ None }
-    requires placed { window.old.place ≡ length prefix.now }
-    ensures more { IfOk result (λ more. IsTrue more → TakesOn window.old window.new prefix.now prefix.now (S.rest source.old) (S.rest source.new)) }
-    ensures some { IfOk result (λ more. IsTrue more → 0 < length window.new.held) }
-    ensures all { IfOk result (λ more. more ≡ false → TakesAll window.old prefix.now prefix.now (S.rest source.old) (S.rest source.new)) }
-    ensures failed { OnErr result ((result ≡ Err ReadAllFault.Read) × TakesOn window.old window.new prefix.now prefix.now (S.rest source.old) (S.rest source.new)) }
-    ensures held { OnErr result (window.new.held ≡ []) }
-    ensures cause { Blames (IsErr result) (S.faults source.old) (S.faults source.new) }
-{
-    match window.fill(source, 1) {
-        Ok(Filled::Enough) => Ok(true),
-        Ok(Filled::Ended) => Ok(false),
-        Ok(Filled::Limited) => Ok(false),
-        Err(_) => Err(ReadAllFault::Read),
-    }
-}
-
-// Reads some bytes if the window holds none, and returns whether it holds some.
-fn holds_some<S: Source>(
-    window: &mut Window,
-    source: &mut S,
-    prefix: &[u8],
-) -> Result<bool, ReadAllFault>
-    requires room { 1 ≤ window.old.room }
-    requires open { window.old.over ≡ None }
-    requires within { window.old.place + length window.old.held ≤ window.old.limit }
-    requires placed { window.old.place ≡ length prefix.now }
-    ensures more { IfOk result (λ more. IsTrue more → TakesOn window.old window.new prefix.now prefix.now (S.rest source.old) (S.rest source.new)) }
-    ensures some { IfOk result (λ more. IsTrue more → 0 < length window.new.held) }
-    ensures all { IfOk result (λ more. more ≡ false → TakesAll window.old prefix.now prefix.now (S.rest source.old) (S.rest source.new)) }
-    ensures failed { OnErr result ((result ≡ Err ReadAllFault.Read) × TakesOn window.old window.new prefix.now prefix.now (S.rest source.old) (S.rest source.new)) }
-    ensures held { OnErr result (window.new.held ≡ []) }
-    ensures cause { Blames (IsErr result) (S.faults source.old) (S.faults source.new) }
-{
-    if !window.held().is_empty() {
-        return Ok(true);
-    }
-    refill(window, source, prefix)
-}
-
 // Moves bytes from the beginning of the window to the end of `prefix`, `most` of them at most. If an allocation fails, nothing moves.
 fn join(window: &mut Window, prefix: &mut Vec<u8>, most: usize) -> Result<(), ReadAllFault>
     ensures joined { OnOk result (IsJoined window.old window.new prefix.old.items prefix.new.items most) }
@@ -100,7 +52,6 @@ fn read_to<S: Source>(
     prefix: &mut Vec<u8>,
     want: usize,
 ) -> Result<bool, ReadAllFault>
-    requires room { 1 ≤ window.old.room }
     requires within { window.old.place + length window.old.held ≤ window.old.limit }
     requires open { window.old.over ≡ None }
     requires placed { window.old.place ≡ length prefix.old.items }
@@ -113,15 +64,16 @@ fn read_to<S: Source>(
     ensures unread { result ≡ Err ReadAllFault.Read → (window.new.held ≡ []) × (length prefix.new.items < want) }
     ensures cause { Blames (result ≡ Err ReadAllFault.Read) (S.faults source.old) (S.faults source.new) }
 {
+    let most = want - prefix.len();
+    match join(window, prefix, most) {
+        Ok(()) => {}
+        Err(fault) => return Err(fault),
+    }
     while prefix.len() < want {
-        match holds_some(window, source, prefix) {
-            Ok(true) => {}
-            Ok(false) => return Ok(false),
-            Err(fault) => return Err(fault),
-        }
-        let most = want - prefix.len();
-        match join(window, prefix, most) {
-            Ok(()) => {}
+        let missing = want - prefix.len();
+        match window.read_past(source, prefix, missing) {
+            Ok(0) => return Ok(false),
+            Ok(_) => {}
             Err(fault) => return Err(fault),
         }
     }
@@ -134,7 +86,6 @@ fn read_checkpoint<S: Source>(
     source: &mut S,
     prefix: &mut Vec<u8>,
 ) -> Result<(), StartFault>
-    requires room { 1 ≤ window.old.room }
     requires within { window.old.place + length window.old.held ≤ window.old.limit }
     requires open { window.old.over ≡ None }
     requires first { window.old.place ≡ 0 }
@@ -161,20 +112,54 @@ fn read_checkpoint<S: Source>(
     }
 }
 
-/// Reads the checkpoint of a market from a source, through a window that holds the first bytes of its input, and returns the market. The
-/// window then holds what was read after the checkpoint.
+/// A market that was read from its checkpoint.
+#[derive(Drop)]
+pub struct KeptCheckpoint {
+    /// The market.
+    pub market: Market,
+    /// The bytes of its checkpoint, as they were read.
+    pub bytes: Vec<u8>,
+}
+
+/// Reads the checkpoint of a market from a source, through a window that holds the first bytes of its input, and returns the market with
+/// the bytes that were read. The window then holds what was read after the checkpoint.
 ///
 /// `NoCheckpoint`: the input begins with no checkpoint of a consistent market within the window's limit. `Read`: only if the source's
 /// count of faults rose. Never returns `NotFlow`.
 ///
-/// The checkpoint is read to its length, which its counts say, into memory of its own, which is freed before returning. Costs its bytes,
-/// once, and what [`read_market`] costs.
+/// The checkpoint is read to its length, which its counts say, into memory of its own: what the window holds of it is copied, and what is
+/// missing is read straight into that memory, by reads of at most 65,536 bytes. Costs its bytes, once, and what [`read_market`] costs.
+pub fn kept_checkpoint<S: Source>(
+    alloc: Global,
+    window: &mut Window,
+    source: &mut S,
+) -> Result<KeptCheckpoint, StartFault>
+    requires within { window.old.place + length window.old.held ≤ window.old.limit }
+    requires open { window.old.over ≡ None }
+    requires first { window.old.place ≡ 0 }
+    ensures kept { IfOk result (λ kept. FindsKept window.old window.new (S.rest source.old) (S.rest source.new) kept.market) }
+    ensures bytes { IfOk result (λ kept. kept.bytes.items ≡ checkpoint_bytes kept.market) }
+    ensures none { IfErr result (FindsNone window.old (S.rest source.old) (S.rest source.new)) }
+    ensures cause { Blames (result ≡ Err StartFault.Read) (S.faults source.old) (S.faults source.new) }
+{
+    let mut bytes = Vec::new(alloc);
+    match read_checkpoint(window, source, &mut bytes) {
+        Ok(()) => {}
+        Err(fault) => return Err(fault),
+    }
+    match read_market(alloc, &bytes) {
+        Ok((market, _)) => Ok(KeptCheckpoint { market, bytes }),
+        Err(SnapshotFault::NotSound) => Err(StartFault::NoCheckpoint),
+        Err(SnapshotFault::Memory) => Err(StartFault::Memory),
+    }
+}
+
+/// Reads a checkpoint as [`kept_checkpoint`] does, and returns its market alone. The memory of the bytes is freed before returning.
 pub fn kept_market<S: Source>(
     alloc: Global,
     window: &mut Window,
     source: &mut S,
 ) -> Result<Market, StartFault>
-    requires room { 1 ≤ window.old.room }
     requires within { window.old.place + length window.old.held ≤ window.old.limit }
     requires open { window.old.over ≡ None }
     requires first { window.old.place ≡ 0 }
@@ -182,15 +167,9 @@ pub fn kept_market<S: Source>(
     ensures none { IfErr result (FindsNone window.old (S.rest source.old) (S.rest source.new)) }
     ensures cause { Blames (result ≡ Err StartFault.Read) (S.faults source.old) (S.faults source.new) }
 {
-    let mut prefix = Vec::new(alloc);
-    match read_checkpoint(window, source, &mut prefix) {
-        Ok(()) => {}
-        Err(fault) => return Err(fault),
-    }
-    match read_market(alloc, &prefix) {
-        Ok((market, _)) => Ok(market),
-        Err(SnapshotFault::NotSound) => Err(StartFault::NoCheckpoint),
-        Err(SnapshotFault::Memory) => Err(StartFault::Memory),
+    match kept_checkpoint(alloc, window, source) {
+        Ok(KeptCheckpoint { market, .. }) => Ok(market),
+        Err(fault) => Err(fault),
     }
 }
 
@@ -201,7 +180,6 @@ fn market_at<S: Source>(
     source: &mut S,
 ) -> Result<Market, StartFault>
     requires some { 8 ≤ length window.old.held }
-    requires room { 1 ≤ window.old.room }
     requires within { window.old.place + length window.old.held ≤ window.old.limit }
     requires open { window.old.over ≡ None }
     requires first { window.old.place ≡ 0 }
@@ -227,8 +205,8 @@ fn market_at<S: Source>(
 /// `NotFlow`: the input begins with neither magic, within the window's limit. `NoCheckpoint`: it begins with a checkpoint's magic, but
 /// with no checkpoint of a consistent market within the limit. `Read`: only if the source's count of faults rose.
 ///
-/// A checkpoint is read to its length, which its counts say, into memory of its own, which is freed before returning; counts above those
-/// of any consistent market are refused. Costs the checkpoint's bytes, once, and what [`read_market`] costs.
+/// A checkpoint is read to its length, which its counts say, as [`kept_checkpoint`] reads it, into memory of its own, which is freed before
+/// returning; counts above those of any consistent market are refused. Costs the checkpoint's bytes, once, and what [`read_market`] costs.
 pub fn read_start<S: Source>(
     alloc: Global,
     window: &mut Window,
