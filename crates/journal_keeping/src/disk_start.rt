@@ -42,7 +42,8 @@ fn checkpoint_market(alloc: Global, bytes: &[u8], version: Version) -> Result<Ma
     }
 }
 
-// Returns the market in which a disk of a version begins, and moves the reading to its first entry that is one of the journal.
+// Returns the market in which a disk of a version begins, and moves the reading to its first entry that is one of the journal. A checkpoint
+// isn't held any longer then.
 pub(crate) fn first_market<D: Disk>(
     alloc: Global,
     journal: &mut DiskJournal,
@@ -65,6 +66,7 @@ pub(crate) fn first_market<D: Disk>(
         Ok(Some(count)) => match checkpoint_market(alloc, journal.first(ahead, count), version) {
             Ok(market) => {
                 journal.pass(count);
+                ahead.forget(alloc);
                 Ok(market)
             }
             Err(fault) => Err(fault),

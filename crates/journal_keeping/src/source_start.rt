@@ -9,7 +9,6 @@ ghost use Rattle.wire_records.specs.Formats.{commands};
 ghost use Rattle.market_rules.specs.Market.{Market as market_value};
 ghost use Rattle.market_snapshot.specs.Checkpoints.{IsCheckpoint, checkpoint_bytes};
 ghost use Rattle.market_history.specs.Histories.{Empty};
-ghost use Rattle.journal_disk.specs.Entries.{framed};
 ghost use Rattle.journal_keeping.specs.Inputs.{NotTaken};
 ghost use Rattle.journal_keeping.specs.Starts.{source_format};
 ghost use Rattle.journal_keeping.specs.Beginning.{IsAfterSource, OpensStart};
@@ -19,8 +18,8 @@ use crate::version::is_same;
 use flow_io::{Filled, Source, Window};
 use journal_disk::stored_first;
 use market_core::Market;
-use market_history::{StartFault, kept_market};
-use market_snapshot::{CHECKPOINT_MAGIC, write_market};
+use market_history::{StartFault, kept_checkpoint};
+use market_snapshot::CHECKPOINT_MAGIC;
 use std::alloc::Global;
 use wire_records::{MOST_RECORD, Version, command_version};
 
@@ -79,36 +78,20 @@ pub(crate) fn open_source<S: Source>(
     }
 }
 
-/// Puts the checkpoint of a market together as a first entry, as it is stored on a disk. The only error is `Memory`.
-pub fn stored_checkpoint(alloc: Global, market: &mut Market) -> Result<Vec<u8>, InputFault>
-    requires { length (checkpoint_bytes market.old) < 2 ^ 32 }
-    ensures stored { IfOk result (λ stored. stored.items ≡ framed (checkpoint_bytes market.old) ++ 0 ∷ []) }
-    ensures market { market.new ≡ market.old }
-    ensures refused { IfErr result (λ fault. fault ≡ InputFault.Memory) }
-{
-    let mut checkpoint = Vec::new(alloc);
-    match write_market(market, &mut checkpoint) {
-        Ok(()) => {}
-        Err(_) => return Err(InputFault::Memory),
-    }
-    match stored_first(alloc, &checkpoint) {
-        Ok(stored) => Ok(stored),
-        Err(_) => Err(InputFault::Memory),
-    }
-}
-
-// Moves a window, which is after the checkpoint of this market, past the magic of a command file of its version.
+// Moves a window, which is after the checkpoint of this market, past the magic of a command file of its version. The bytes of the checkpoint
+// become the first entry of the disk.
 fn after_checkpoint<S: Source>(
-    alloc: Global,
     window: Window,
     source: &mut S,
     market: Market,
+    checkpoint: Vec<u8>,
 ) -> Result<OpenStart, InputFault>
     requires room { window.room ≡ longest_record }
     requires open { window.over ≡ None }
     requires within { window.place + length window.held ≤ window.limit }
     requires few { window.limit ≤ 2 ^ 32 }
     requires placed { window.place ≡ length (checkpoint_bytes market) }
+    requires checkpoint { checkpoint.items ≡ checkpoint_bytes market }
     ensures opens { IfOk result (λ o. (before : Option (List ℕ)) → IsCheckpoint market (checkpoint_bytes market) →
         Takes before (S.rest source.old) (checkpoint_bytes market ++ window.held) →
         OpensStart window.limit o.market o.stored.items o.window before (S.rest source.new)) }
@@ -125,15 +108,14 @@ fn after_checkpoint<S: Source>(
         Ok(Filled::Limited) => return Err(InputFault::NotFlow),
         Err(_) => return Err(InputFault::Read),
     }
-    let mut market = market;
     match after_magic(window, market.version()) {
-        Ok(window) => match stored_checkpoint(alloc, &mut market) {
+        Ok(window) => match stored_first(checkpoint) {
             Ok(stored) => Ok(OpenStart {
                 window,
                 market,
                 stored,
             }),
-            Err(fault) => Err(fault),
+            Err(_) => Err(InputFault::Memory),
         },
         Err(fault) => Err(fault),
     }
@@ -173,8 +155,8 @@ fn start_at<S: Source>(
     if !window.held().starts_with(&CHECKPOINT_MAGIC) {
         return Err(InputFault::NotFlow);
     }
-    match kept_market(alloc, &mut window, source) {
-        Ok(market) => after_checkpoint(alloc, window, source, market),
+    match kept_checkpoint(alloc, &mut window, source) {
+        Ok(kept) => after_checkpoint(window, source, kept.market, kept.bytes),
         Err(StartFault::Read) => Err(InputFault::Read),
         Err(StartFault::Memory) => Err(InputFault::Memory),
         Err(StartFault::NotFlow) => Err(InputFault::NotFlow),

@@ -13,9 +13,10 @@ ghost use Rattle.line_keeping.specs.Private.{refusal_room};
 use crate::input::has_checkpoint;
 use flow_io::{Source, Window};
 use input_lines::MOST_LINE;
-use journal_keeping::{Input, InputFault, NewInput, stored_checkpoint};
+use journal_disk::stored_first;
+use journal_keeping::{Input, InputFault, NewInput};
 use market_core::Market;
-use market_history::{StartFault, kept_market};
+use market_history::{KeptCheckpoint, StartFault, kept_checkpoint};
 use std::alloc::Global;
 use wire_records::{MOST_RECORD, Memory, Version};
 
@@ -92,16 +93,16 @@ fn open_input<S: Source>(
         }
         Err(_) => return Err(InputFault::Read),
     }
-    let mut market = match kept_market(alloc, window, source) {
-        Ok(market) => market,
+    let KeptCheckpoint { market, bytes } = match kept_checkpoint(alloc, window, source) {
+        Ok(kept) => kept,
         Err(StartFault::Read) => return Err(InputFault::Read),
         Err(StartFault::Memory) => return Err(InputFault::Memory),
         Err(StartFault::NotFlow) => return Err(InputFault::NotFlow),
         Err(StartFault::NoCheckpoint) => return Err(InputFault::BadCheckpoint),
     };
-    match stored_checkpoint(alloc, &mut market) {
+    match stored_first(bytes) {
         Ok(stored) => Ok(OpenInput { market, stored }),
-        Err(fault) => Err(fault),
+        Err(_) => Err(InputFault::Memory),
     }
 }
 

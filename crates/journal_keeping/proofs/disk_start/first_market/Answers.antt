@@ -5,6 +5,7 @@ use Rattle.journal_disk.specs.Ahead.{HoldsPart}
 use Rattle.journal_disk.specs.Stepping.{FindsFirst}
 use Rattle.journal_disk.proofs.Pieces.{part_read}
 use Rattle.journal_keeping.specs.Beginning.{BeginsAt}
+use Rattle.journal_keeping.proofs.Counts.{if_some}
 use Rattle.journal_keeping.proofs.FirstMarkets.{begins_empty, begins_kept, stops_unfit, finds_told}
 use Rattle.journal_keeping.proofs.disk_start.first_market.Goals as goal
 
@@ -38,3 +39,7 @@ returns-in-Ok-None-clause-begins g c = λ rest bytes told holds.
     subst (λ (n : ℕ). BeginsAt c.args.version bytes c.new_in.result n (g.D.Disk.state c.find_first.new.disk)) (sym c.requires.first)
     (subst (λ (m : Market). BeginsAt c.args.version bytes m 8 (g.D.Disk.state c.find_first.new.disk)) (sym c.new_in.ensures)
     (begins_empty c.args.version rest bytes (g.D.Disk.state c.args.disk.now) (g.D.Disk.state c.find_first.new.disk) told holds c.find_first.ensures.looks found))
+
+pub returns-in-Ok-clause-piece : goal.returns-in-Ok-clause-piece
+returns-in-Ok-clause-piece g c =
+    if_some (g.D.Disk.state c.find_first.new.disk).content _ _ c.forget.ensures.piece c.find_first.ensures.piece

@@ -1,8 +1,10 @@
-use Rattle.std.proofs.Common.{inl, inr, ℕ, List, None, refl, sym, subst, ◌∙◌}
+use Rattle.std.proofs.Common.{◌≡◌, inl, inr, ℕ, List, [], ◌∷◌, ◌++◌, None, length, refl, sym, ap, subst, ◌∙◌, arith}
 use Rattle.wire_records.specs.Grammars.{BeginsWith}
 use Rattle.wire_records.specs.Formats.{commands}
 use Rattle.wire_records.specs.declared.version.Version.{Version}
-use Rattle.file_units.proofs.Gone.{went_well}
+use Rattle.flow_io.specs.Windows.{WindowState}
+use Rattle.file_units.proofs.Gone.{went_well, within_limit}
+use Rattle.journal_disk.specs.Entries.{framed}
 use Rattle.journal_keeping.specs.declared.fault.InputFault.{InputFault}
 use Rattle.journal_keeping.specs.Inputs.{NotTaken}
 use Rattle.journal_keeping.specs.Starts.{source_format}
@@ -56,28 +58,34 @@ returns-in-Err-clause-cause g c =
     let first = c.in-Err.ensures.cause in
     record { later = first.later; rose = λ _. first.rose refl; quiet = λ not. absurd (not refl) }
 
-pub returns-in-Ok-stored_checkpoint-clause-opens : goal.returns-in-Ok-stored_checkpoint-clause-opens
-returns-in-Ok-stored_checkpoint-clause-opens g c = λ before one takes.
+pub stored_first-requires : goal.stored_first-requires
+stored_first-requires g c =
+    let w = c.fill.new.self in
+    let filled = c.in-Ok-Enough.ensures in
+    omega (arith, ap length c.requires.checkpoint, c.requires.placed, c.requires.few, ap (λ (x : WindowState). x.place) filled.fills.holds, ap (λ (x : WindowState). x.limit) filled.fills.holds, filled.enough.0 c.in-Ok-Enough.field-0-is, within_limit w.place (length w.held) w.limit w.over filled.within)
+
+pub returns-in-Ok-stored_first-clause-opens : goal.returns-in-Ok-stored_first-clause-opens
+returns-in-Ok-stored_first-clause-opens g c = λ before one takes.
     let x = g.S.Source.rest c.args.source.now in
     let y = g.S.Source.rest c.fill.new.source in
     let filled = c.in-Ok-Enough.ensures in
     let found = c.in-Ok.ensures.following in
+    let stored = subst (λ (l : List ℕ). c.in-Ok-stored_first.stored.items ≡ framed l ++ 0 ∷ []) c.requires.checkpoint c.in-Ok-stored_first.ensures in
     opened_after c.args.market c.args.window c.fill.new.self x y filled.fills filled.within c.requires.placed c.requires.open before one takes (filled.open c.in-Ok-Enough.field-0-is ∙ c.requires.open) c.requires.room c.in-Ok.window found.0.0
-    (subst (λ (v : Version). BeginsWith commands.magics c.fill.new.self.held v found.0.0) c.version.ensures.value found.0.1) found.1 found.2 c.stored_checkpoint.new.market c.in-Ok-stored_checkpoint.stored.items c.in-Ok-stored_checkpoint.ensures.market c.in-Ok-stored_checkpoint.ensures.stored
+    (subst (λ (v : Version). BeginsWith commands.magics c.fill.new.self.held v found.0.0) c.version.ensures.value found.0.1) found.1 found.2 c.args.market c.in-Ok-stored_first.stored.items refl stored
 
-pub returns-in-Err-stored_checkpoint-clause-of_source : goal.returns-in-Err-stored_checkpoint-clause-of_source
-returns-in-Err-stored_checkpoint-clause-of_source g c = λ before one takes.
+pub returns-in-Err-stored_first-clause-of_source : goal.returns-in-Err-stored_first-clause-of_source
+returns-in-Err-stored_first-clause-of_source g c = λ before one takes.
     let x = g.S.Source.rest c.args.source.now in
     let y = g.S.Source.rest c.fill.new.source in
     let filled = c.in-Ok-Enough.ensures in (
-      subst (λ (f : InputFault). NotTaken source_format c.args.window.limit None before y f) (sym c.in-Err-stored_checkpoint.ensures.refused)
-          (inr (refl, out_after c.args.market c.args.window c.fill.new.self x y filled.fills filled.within c.requires.placed c.requires.open before one takes (filled.open c.in-Ok-Enough.field-0-is ∙ c.requires.open))),
+      inr (refl, out_after c.args.market c.args.window c.fill.new.self x y filled.fills filled.within c.requires.placed c.requires.open before one takes (filled.open c.in-Ok-Enough.field-0-is ∙ c.requires.open)),
       few_after c.args.market c.args.window c.fill.new.self x y filled.fills filled.within c.requires.placed c.requires.open before one takes,
     )
 
-pub returns-in-Err-stored_checkpoint-clause-cause : goal.returns-in-Err-stored_checkpoint-clause-cause
-returns-in-Err-stored_checkpoint-clause-cause g c =
-    went_on _ _ (g.S.Source.faults c.args.source.now) (g.S.Source.faults c.fill.new.source) c.in-Ok-Enough.ensures.cause went_well (not_read_then c.in-Err-stored_checkpoint.fault (inr c.in-Err-stored_checkpoint.ensures.refused))
+pub returns-in-Err-stored_first-clause-cause : goal.returns-in-Err-stored_first-clause-cause
+returns-in-Err-stored_first-clause-cause g c =
+    went_on _ _ (g.S.Source.faults c.args.source.now) (g.S.Source.faults c.fill.new.source) c.in-Ok-Enough.ensures.cause went_well (λ e. cc e)
 
 pub returns-in-Err-after_magic-clause-of_source : goal.returns-in-Err-after_magic-clause-of_source
 returns-in-Err-after_magic-clause-of_source g c = λ before one takes.

@@ -30,7 +30,7 @@ returns-in-Ok-clause-opens g c =
     let begins = (starts_is Decides-eqb c.args.window.held checkpoint_magic c.starts_with.result (rw c.held-2.ensures.held at c.starts_with.ensures.value)).0 c.if-not-starts_with.false in
     let found = c.in-Ok.ensures.kept in
     on_ok c.after_checkpoint.result _ _ (λ o opens before takes.
-    let at = checkpoint_at before (g.S.Source.rest c.args.source.now) c.args.window takes c.requires.some c.requires.first c.requires.within (g.S.Source.rest c.kept_market.new.source) (drop 8 c.args.window.held, begins) c.kept_market.new.window c.in-Ok.market found in
+    let at = checkpoint_at before (g.S.Source.rest c.args.source.now) c.args.window takes c.requires.some c.requires.first c.requires.within (g.S.Source.rest c.kept_checkpoint.new.source) (drop 8 c.args.window.held, begins) c.kept_checkpoint.new.window c.in-Ok.kept.market found in
     subst (λ (n : ℕ). OpensStart n o.market o.stored.items o.window before (g.S.Source.rest c.after_checkpoint.new.source)) found.taken.limit (opens before at.0 at.1)) c.after_checkpoint.ensures.opens
 
 pub returns-in-Ok-clause-of_source : goal.returns-in-Ok-clause-of_source
@@ -38,23 +38,23 @@ returns-in-Ok-clause-of_source g c =
     let begins = (starts_is Decides-eqb c.args.window.held checkpoint_magic c.starts_with.result (rw c.held-2.ensures.held at c.starts_with.ensures.value)).0 c.if-not-starts_with.false in
     let found = c.in-Ok.ensures.kept in
     on_err c.after_checkpoint.result _ _ (λ fault of before takes.
-    let at = checkpoint_at before (g.S.Source.rest c.args.source.now) c.args.window takes c.requires.some c.requires.first c.requires.within (g.S.Source.rest c.kept_market.new.source) (drop 8 c.args.window.held, begins) c.kept_market.new.window c.in-Ok.market found in
-    of_limit before (g.S.Source.rest c.after_checkpoint.new.source) fault c.kept_market.new.window.limit c.args.window.limit found.taken.limit (of before at.0 at.1)) c.after_checkpoint.ensures.of_source
+    let at = checkpoint_at before (g.S.Source.rest c.args.source.now) c.args.window takes c.requires.some c.requires.first c.requires.within (g.S.Source.rest c.kept_checkpoint.new.source) (drop 8 c.args.window.held, begins) c.kept_checkpoint.new.window c.in-Ok.kept.market found in
+    of_limit before (g.S.Source.rest c.after_checkpoint.new.source) fault c.kept_checkpoint.new.window.limit c.args.window.limit found.taken.limit (of before at.0 at.1)) c.after_checkpoint.ensures.of_source
 
 pub returns-in-Err-Read-clause-of_source : goal.returns-in-Err-Read-clause-of_source
 returns-in-Err-Read-clause-of_source g c = λ before takes.
     let begins = (starts_is Decides-eqb c.args.window.held checkpoint_magic c.starts_with.result (rw c.held-2.ensures.held at c.starts_with.ensures.value)).0 c.if-not-starts_with.false in
-    unread_at before (g.S.Source.rest c.args.source.now) c.args.window takes c.requires.some c.requires.first c.requires.within (g.S.Source.rest c.kept_market.new.source) (drop 8 c.args.window.held, begins)
-    (subst (λ (f : StartFault). FindsNone c.args.window (g.S.Source.rest c.args.source.now) (g.S.Source.rest c.kept_market.new.source) f) c.in-Err-Read.field-0-is c.in-Err-Read.ensures.none)
+    unread_at before (g.S.Source.rest c.args.source.now) c.args.window takes c.requires.some c.requires.first c.requires.within (g.S.Source.rest c.kept_checkpoint.new.source) (drop 8 c.args.window.held, begins)
+    (subst (λ (f : StartFault). FindsNone c.args.window (g.S.Source.rest c.args.source.now) (g.S.Source.rest c.kept_checkpoint.new.source) f) c.in-Err-Read.field-0-is c.in-Err-Read.ensures.none)
 
 pub returns-in-Err-Memory-clause-of_source : goal.returns-in-Err-Memory-clause-of_source
 returns-in-Err-Memory-clause-of_source g c = λ before takes.
     let begins = (starts_is Decides-eqb c.args.window.held checkpoint_magic c.starts_with.result (rw c.held-2.ensures.held at c.starts_with.ensures.value)).0 c.if-not-starts_with.false in
-    out_at before (g.S.Source.rest c.args.source.now) c.args.window takes c.requires.some c.requires.first c.requires.within (g.S.Source.rest c.kept_market.new.source) (drop 8 c.args.window.held, begins)
-    (subst (λ (f : StartFault). FindsNone c.args.window (g.S.Source.rest c.args.source.now) (g.S.Source.rest c.kept_market.new.source) f) c.in-Err-Memory.field-0-is c.in-Err-Memory.ensures.none)
+    out_at before (g.S.Source.rest c.args.source.now) c.args.window takes c.requires.some c.requires.first c.requires.within (g.S.Source.rest c.kept_checkpoint.new.source) (drop 8 c.args.window.held, begins)
+    (subst (λ (f : StartFault). FindsNone c.args.window (g.S.Source.rest c.args.source.now) (g.S.Source.rest c.kept_checkpoint.new.source) f) c.in-Err-Memory.field-0-is c.in-Err-Memory.ensures.none)
 
 pub returns-clause-of_source : goal.returns-clause-of_source
 returns-clause-of_source g c = λ before takes.
     let begins = (starts_is Decides-eqb c.args.window.held checkpoint_magic c.starts_with.result (rw c.held-2.ensures.held at c.starts_with.ensures.value)).0 c.if-not-starts_with.false in
-    unsound_at before (g.S.Source.rest c.args.source.now) c.args.window takes c.requires.some c.requires.first c.requires.within (g.S.Source.rest c.kept_market.new.source) (drop 8 c.args.window.held, begins)
-    (subst (λ (f : StartFault). FindsNone c.args.window (g.S.Source.rest c.args.source.now) (g.S.Source.rest c.kept_market.new.source) f) c.in-Err-NoCheckpoint.field-0-is c.in-Err-NoCheckpoint.ensures.none)
+    unsound_at before (g.S.Source.rest c.args.source.now) c.args.window takes c.requires.some c.requires.first c.requires.within (g.S.Source.rest c.kept_checkpoint.new.source) (drop 8 c.args.window.held, begins)
+    (subst (λ (f : StartFault). FindsNone c.args.window (g.S.Source.rest c.args.source.now) (g.S.Source.rest c.kept_checkpoint.new.source) f) c.in-Err-NoCheckpoint.field-0-is c.in-Err-NoCheckpoint.ensures.none)
