@@ -231,7 +231,8 @@ fn begin_new<I: Input + Drop, S: Source, D: Disk>(
 }
 
 /// Opens the disk and the input. A disk that has a version is opened first, with its entries; for a new one the input is looked at first,
-/// since it says how the disk begins. Costs the audit of the kept entries, and holds the longest entry.
+/// since it says how the disk begins. Costs the audit of the kept entries, and holds the longest entry. A checkpoint is held once, beside its
+/// market, and no longer than until it is kept or the audit begins.
 pub fn begin<I: Input + Drop, S: Source, D: Disk>(
     alloc: Global,
     limit: u64,
