@@ -1,8 +1,8 @@
 //! The text of a journal: what each of its entries says, in lines for people.
 //!
-//! [`report_entry`] appends the lines of one entry, with the market after it, and [`report_pair`] those of one that an
-//! [`Audit`](batch_audit::Audit) has just found valid: one line
-//! for a plain command or a refusal, and for a batch that cleared one more for each asset and for each order that was
+//! [`report_entry`] appends the lines of one entry, with the market after it, [`report_pair`] those of one that an
+//! [`Audit`](batch_audit::Audit) has just found valid, and [`report_served`] those of a command that was just served, by its values: one
+//! line for a plain command or a refusal, and for a batch that cleared one more for each asset and for each order that was
 //! live. The laws of the texts are in [`laws`].
 //!
 //! # Costs
@@ -16,4 +16,4 @@ pub mod laws;
 mod plain;
 mod report;
 
-pub use report::{report_entry, report_pair};
+pub use report::{report_entry, report_pair, report_served};

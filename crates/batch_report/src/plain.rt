@@ -2,16 +2,14 @@
 ghost use Rattle.std.specs.Prelude.{◌≡◌, ◌++◌, ℕ, List, [], None, Some, Ok, OnOk, codes, decimal};
 ghost use Rattle.wire_records.specs.Commands.{Plain};
 ghost use Rattle.wire_records.specs.Refusals.{code_of};
-ghost use Rattle.wire_records.specs.Versions.{IsReadAs};
 ghost use Rattle.wire_records.specs.Views.{command_of};
 ghost use Rattle.pair_text.specs.Texts.{◌then◌, asset_name};
-ghost use Rattle.batch_report.specs.Reports.{amount_text, numbers_text, order_text, command_text, TellsCommand, Tells};
-ghost use Rattle.batch_report.specs.Private.{IsAnswered, IsAccepted};
+ghost use Rattle.batch_report.specs.Reports.{amount_text, numbers_text, order_text, command_text};
+ghost use Rattle.batch_report.specs.Private.{told_text};
 
-use market_core::Market;
 use pair_text::Text;
 use ticker_table::TickerTable;
-use wire_records::{CommandView, Memory, PlaceView, RecordView, Refusal, Reply};
+use wire_records::{CommandView, Memory, PlaceView, Refusal, Reply};
 
 // Appends a deposit, a withdrawal or a credit in money.
 fn put_money(word: &[u8], account: u32, ticks: u64, out: &mut Text) -> Result<(), Memory>
@@ -112,35 +110,18 @@ fn put_command(
     }
 }
 
-// Returns the command of a record that was accepted.
-fn accepted_command<'a>(market: &Market, asked: &RecordView<'a>) -> CommandView<'a>
-    requires { IsAccepted market.now asked.now }
-    ensures { IsReadAs market.now.version asked.now (Ok (command_of result)) }
-{
-    match market.read(asked) {
-        Ok(command) => command,
-        Err(_) => unreachable!(),
-    }
-}
-
 // Appends the line of a command that was accepted, with the number that its order got.
 fn put_accepted(
-    market: &Market,
-    asked: &RecordView<'_>,
+    tickers: &TickerTable,
+    command: &CommandView<'_>,
     order: u64,
     out: &mut Text,
 ) -> Result<(), Memory>
-    requires { IsAccepted market.now asked.now }
     ensures before { out.new.before ≡ out.old.before }
-    ensures put { OnOk result ((text : List ℕ) × TellsCommand market.now asked.now order text
-        × (out.new.text ≡ out.old.text ++ text)) }
+    ensures put { OnOk result (out.new.text ≡ out.old.text
+        ++ (command_text tickers.now order (command_of command.now) then codes "\n")) }
 {
-    put_command(
-        market.tickers(),
-        &accepted_command(market, asked),
-        order,
-        out,
-    )?;
+    put_command(tickers, command, order, out)?;
     out.put(b"\n")
 }
 
@@ -165,7 +146,7 @@ fn put_account(account: u32, out: &mut Text) -> Result<(), Memory>
 }
 
 // Appends the line of a refusal.
-fn put_refused(refusal: Refusal, out: &mut Text) -> Result<(), Memory>
+pub(crate) fn put_refused(refusal: Refusal, out: &mut Text) -> Result<(), Memory>
     ensures before { out.new.before ≡ out.old.before }
     ensures put { OnOk result (out.new.text ≡ out.old.text ++ (codes "refused " then decimal (code_of refusal) then codes "\n")) }
 {
@@ -173,23 +154,21 @@ fn put_refused(refusal: Refusal, out: &mut Text) -> Result<(), Memory>
     out.put(b"\n")
 }
 
-// Appends the line of a plain reply.
+// Appends the line of a plain reply to a command.
 pub(crate) fn put_plain(
-    market: &Market,
-    asked: &RecordView<'_>,
+    tickers: &TickerTable,
+    command: &CommandView<'_>,
     told: Reply,
     out: &mut Text,
 ) -> Result<(), Memory>
-    requires { IsAnswered market.now asked.now (Plain told) }
     ensures before { out.new.before ≡ out.old.before }
-    ensures put { OnOk result ((text : List ℕ) × Tells market.now asked.now (Plain told) text
-        × (out.new.text ≡ out.old.text ++ text)) }
+    ensures put { OnOk result (out.new.text ≡ out.old.text ++ told_text tickers.now (command_of command.now) (Plain told)) }
 {
     match told {
-        Reply::Done => put_accepted(market, asked, 0, out),
-        Reply::Asset(asset) => put_asset(market.tickers(), asset, out),
+        Reply::Done => put_accepted(tickers, command, 0, out),
+        Reply::Asset(asset) => put_asset(tickers, asset, out),
         Reply::Account(account) => put_account(account, out),
-        Reply::Order(order) => put_accepted(market, asked, order, out),
+        Reply::Order(order) => put_accepted(tickers, command, order, out),
         Reply::Refused(refusal) => put_refused(refusal, out),
     }
 }
