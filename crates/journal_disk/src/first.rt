@@ -3,7 +3,7 @@ ghost use Rattle.std.specs.Prelude.{◌≡◌, ◌⊎◌, ◌≤◌, ◌<◌, �
 ghost use Rattle.flow_io.specs.Faults.{Blames};
 ghost use Rattle.wire_records.specs.declared.version.Version.{Version};
 ghost use Rattle.disk_edge.specs.Disks.{AtEachMoment};
-ghost use Rattle.journal_disk.specs.Entries.{IsHead, framed, IsNewDisk, HasEntries, Keeps, most_new};
+ghost use Rattle.journal_disk.specs.Entries.{IsHead, framed, IsNewDisk, HasEntries, Keeps};
 ghost use Rattle.journal_disk.specs.Lengths.{ReachesAtMost};
 ghost use Rattle.journal_disk.specs.Looking.{OnlyLooks};
 ghost use Rattle.journal_disk.specs.Ahead.{IsPiece, HoldsPart, part_of};
@@ -11,9 +11,9 @@ ghost use Rattle.journal_disk.specs.Stepping.{FindsFirst};
 
 use crate::ahead::Ahead;
 use crate::appender::Appender;
-use crate::calls::{MOST_NEW, OPEN, length_of, set_commit, write_synced};
+use crate::calls::{OPEN, set_commit, write_synced};
 use crate::fault::DiskFault;
-use crate::journal::{DiskJournal, MOST_BYTES, MOST_UNKEPT};
+use crate::journal::{DiskJournal, MOST_BYTES};
 use crate::reading::{byte_at, number_at};
 use disk_edge::Disk;
 use std::alloc::AllocError;
@@ -35,19 +35,6 @@ pub fn stored_first(bytes: Vec<u8>) -> Result<Vec<u8>, AllocError>
     stored.rotate_right(HEAD);
     put_u8(&mut stored, 0);
     Ok(stored)
-}
-
-/// Returns whether a disk has more bytes than a crash leaves of a new one whose first entry is stored in so many bytes, which are 0
-/// without a first entry: more than these, and more than 2^21, after the first commit byte. Returns `Failed` only if the disk's count
-/// rose. Takes no memory, and changes nothing of the disk.
-pub fn exceeds_new<D: Disk>(disk: &mut D, stored: usize) -> Result<bool, DiskFault>
-    ensures more { IfOk result (λ more. IfSome (D.state disk.old).content (λ bytes. IsTrue more ↔ (most_new stored < length bytes))) }
-    ensures failed { OnErr result (result ≡ Err DiskFault.Failed) }
-    ensures looks { OnlyLooks (D.state disk.old) (D.state disk.new) }
-    ensures cause { Blames (IsErrOf result DiskFault.Failed) (D.state disk.old).faults (D.state disk.new).faults }
-{
-    let length = length_of(disk)?;
-    Ok(length.saturating_sub(MOST_NEW) > MOST_UNKEPT.max(stored as u64))
 }
 
 impl Appender {

@@ -26,7 +26,7 @@ pub(crate) const MOST_BYTES: u64 = 1 << 60;
 
 // The most bytes that may follow the commit byte after the last entry. A crash leaves there no more than was being
 // written: an entry with its length and a commit byte, which are at most 263,183 bytes.
-pub(crate) const MOST_UNKEPT: u64 = 1 << 21;
+const MOST_UNKEPT: u64 = 1 << 21;
 
 /// Opens a disk that a crash may have left, after a sync, and returns its version; `None` exactly if it is new, which
 /// is a disk of at most 9 bytes, whatever it holds, or one whose first commit byte isn't set. Returns `NotDisk` exactly
