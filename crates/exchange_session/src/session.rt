@@ -44,6 +44,7 @@ enum Asked {
 }
 
 /// What is told of a command that was served: its reply, or where that of a batch is.
+#[derive(Drop)]
 pub enum Served {
     /// The reply to a command that held no batch. A refusal is one.
     Plain(Reply),
