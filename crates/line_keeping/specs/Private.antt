@@ -3,14 +3,14 @@ use Rattle.std.specs.Prelude.{◌≡◌, ◌≢◌, ◌<◌, ◌≤◌, ◌+◌,
 use Rattle.flow_io.specs.Streams.{Takes}
 use Rattle.flow_io.specs.Windows.{WindowState}
 use Rattle.wire_records.specs.Records.{Record}
-use Rattle.wire_records.specs.Commands.{Command, Answer, Pair}
+use Rattle.wire_records.specs.Commands.{Command, Pair}
 use Rattle.wire_records.specs.CommandRecords.{record_of}
 use Rattle.wire_records.specs.Versions.{IsReadAs}
 use Rattle.flow_orders.specs.Outcomes.{Outcome}
 use Rattle.canonical_rule.specs.Canonical.{IsCanonicalOutcome}
 use Rattle.journal_records.specs.Pairs.{IsPair, pair_encoding}
 use Rattle.journal_records.specs.Formats.{records_of}
-use Rattle.market_rules.specs.Market.{Market, IsConsistent}
+use Rattle.market_rules.specs.Market.{Market}
 use Rattle.market_snapshot.specs.Checkpoints.{checkpoint_magic, HasCheckpointMagic}
 use Rattle.market_rules.specs.Journal.{Step}
 use Rattle.market_history.specs.Histories.{Start}
@@ -88,17 +88,6 @@ pub record IsReadyFor (market : Market) (entries place left : ℕ) : Type 0 wher
 -- A disk that keeps entries of a valid journal, which led to this market, keeps these after them: what a crash left meanwhile, and that its content wasn't lost.
 abbrev pub HasAdded : DiskState → DiskState → Market → Market → ℕ → ℕ → List (Pair Record Outcome) → Type 0
 HasAdded start now before market from place new = SoFar start now before market from place None None new
-
--- a record was answered by one step of the market, and these are the bytes of its entry
-abbrev pub AnswersRecord : Market → Record → Market → List ℕ → Type 0
-AnswersRecord old asked new text =
-    (answer : Answer Outcome) × Step IsReadAs IsCanonicalOutcome old asked answer new × IsPair (record { asked = asked; answer = answer })
-    × (text ≡ pair_encoding (record { asked = asked; answer = answer }))
-
--- an entry with these bytes led to this market
-abbrev pub LedTo : Market → List ℕ → Type 0
-LedTo new bytes =
-    (old : Market) × IsConsistent old × (entry : Pair Record Outcome) × IsPair entry × Step IsReadAs IsCanonicalOutcome old entry.asked entry.answer new × (bytes ≡ pair_encoding entry)
 
 -- an entry that is one step of the market, and answers the record of a command
 pub record IsServed (command : Command) (old : Market) (pair : Pair Record Outcome) (new : Market) : Type 0 where

@@ -1,61 +1,26 @@
 //! One line: the commands that it asks for are served, kept and answered.
-ghost use Rattle.std.specs.Prelude.{◌≡◌, ◌≢◌, ◌<◌, ◌≤◌, ◌+◌, ◌*◌, ◌^◌, ◌∷◌, ℕ, List, [], length, map, All, Err, IsErr, IfOk, IfErr, OnOk, OnErr, IfSome, vec_capacity};
+ghost use Rattle.std.specs.Prelude.{◌≡◌, ◌≢◌, ◌<◌, ◌≤◌, ◌+◌, ◌*◌, ◌^◌, ◌∷◌, ℕ, List, length, map, All, Err, IsErr, IfOk, IfErr, OnOk, OnErr, IfSome, vec_capacity};
 ghost use Rattle.flow_io.specs.Faults.{Blames};
-ghost use Rattle.wire_records.specs.Records.{Record, IsRecord, encoding, most_body};
+ghost use Rattle.wire_records.specs.Records.{Record};
 ghost use Rattle.wire_records.specs.Commands.{Command as command_value, Pair};
 ghost use Rattle.wire_records.specs.CommandRecords.{HasShortRow};
 ghost use Rattle.wire_records.specs.Views.{command_in};
 ghost use Rattle.flow_orders.specs.Outcomes.{Outcome};
-ghost use Rattle.journal_records.specs.Pairs.{IsPair, pair_encoding};
+ghost use Rattle.journal_records.specs.Pairs.{pair_encoding};
 ghost use Rattle.journal_records.specs.Formats.{records_of};
-ghost use Rattle.market_rules.specs.Market.{Market, IsConsistent};
 ghost use Rattle.batch_report.specs.Reports.{IsReport};
 ghost use Rattle.line_keeping.specs.Outputs.{output};
-ghost use Rattle.line_keeping.specs.Private.{AnswersRecord, LedTo};
 
-use batch_report::report_entry;
+use batch_report::report_served;
 use disk_edge::Disk;
-use exchange_session::Session;
 use flow_io::{Sink, WriteFailed};
 use journal_keeping::{ServeFault, Writer};
-use journal_records::{PairFramed, next_pair};
 use order_text::{LineFault, LineRead, ask_line};
 use std::alloc::Global;
-use wire_records::{Command, Framed, MOST_BODY, Memory, next_record, write_command};
+use wire_records::{Command, Memory};
 use word_driver::put_number;
 
-// Serves a record, and puts its entry into an empty buffer. The bytes are a record that was just written, so they are framed.
-fn serve_record(session: &mut Session, bytes: &[u8], pair: &mut Vec<u8>) -> Result<(), Memory>
-    requires whole { (asked : Record) × IsRecord most_body asked × (bytes.now ≡ encoding asked) }
-    requires next { session.old.next_order + 1 < 2 ^ 64 }
-    requires empty { pair.old.items ≡ [] }
-    ensures served { OnOk result ((asked : Record) → IsRecord most_body asked → bytes.now ≡ encoding asked →
-        AnswersRecord session.old asked session.new pair.new.items) }
-    ensures room { vec_capacity pair.old ≤ vec_capacity pair.new }
-{
-    match next_record(bytes, MOST_BODY) {
-        Framed::Whole(asked, _) => session.serve(&asked, pair),
-        Framed::End => unreachable!(),
-        Framed::TooLarge(_) => unreachable!(),
-        Framed::Short => unreachable!(),
-    }
-}
-
-// Puts the text of an entry, which led to the market of a session, into an empty buffer, under its number in its journal.
-fn tell(session: &Session, pair: &[u8], number: u64, text: &mut Vec<u8>) -> Result<(), Memory>
-    requires led { LedTo session.now pair.now }
-    requires empty { text.old.items ≡ [] }
-    ensures told { OnOk result ((entry : Pair Record Outcome) → IsPair entry → pair.now ≡ pair_encoding entry → IsReport session.now number (records_of entry) text.new.items) }
-    ensures room { vec_capacity text.old ≤ vec_capacity text.new }
-{
-    match next_pair(pair) {
-        PairFramed::Whole(entry, _) => report_entry(session.market(), &entry, number, text),
-        PairFramed::End => unreachable!(),
-        PairFramed::Broken => unreachable!(),
-    }
-}
-
-// Answers lines: keeps the entries of their commands, and numbers lines and entries. One buffer each is used for all records and texts.
+// Answers lines: keeps the entries of their commands, and numbers lines and entries. One buffer each is used for all entries and all texts.
 #[derive(Drop)]
 pub(crate) struct Desk {
     pub(crate) alloc: Global,
@@ -64,7 +29,6 @@ pub(crate) struct Desk {
     pub(crate) lines: u64,
     // How many entries the disk keeps.
     pub(crate) entries: u64,
-    pub(crate) record: Vec<u8>,
     pub(crate) text: Vec<u8>,
 }
 
@@ -89,24 +53,20 @@ impl Desk {
     {
         // Called for its contract: the market is consistent.
         let _market = self.writer.session.market();
-        self.record.clear();
         self.writer.pair.clear();
         self.text.clear();
-        match write_command(command, &mut self.record) {
-            Ok(()) => {}
+        let served = match self
+            .writer
+            .session
+            .serve_command(command, &mut self.writer.pair)
+        {
+            Ok(served) => served,
             Err(memory) => return Err(memory),
-        }
-        match serve_record(
-            &mut self.writer.session,
-            &self.record,
-            &mut self.writer.pair,
-        ) {
-            Ok(()) => {}
-            Err(memory) => return Err(memory),
-        }
-        tell(
-            &self.writer.session,
-            &self.writer.pair,
+        };
+        report_served(
+            self.writer.session.market(),
+            &command.view(&self.writer.pair),
+            &served.reply(&self.writer.pair),
             self.entries + 1,
             &mut self.text,
         )

@@ -18,7 +18,7 @@ use journal_keeping::{Input, InputFault, NewInput};
 use market_core::Market;
 use market_history::{KeptCheckpoint, StartFault, kept_checkpoint};
 use std::alloc::Global;
-use wire_records::{MOST_RECORD, Memory, Version};
+use wire_records::{Memory, Version};
 
 // The highest version, which a journal has that begins without a checkpoint.
 const NEWEST: Version = Version::Four;
@@ -26,15 +26,14 @@ const NEWEST: Version = Version::Four;
 // Memory for the text that a line is no command: "line ", at most 20 digits, and the rest.
 const REFUSAL_ROOM: usize = 40;
 
-// An input of lines, and the buffers in which commands are served and texts are written.
+// An input of lines, and the buffer in which texts are written.
 #[derive(Drop)]
 pub(crate) struct Lines {
     pub(crate) window: Window,
-    pub(crate) record: Vec<u8>,
     pub(crate) text: Vec<u8>,
 }
 
-// Allocates the window and the buffers.
+// Allocates the window and the buffer.
 fn make_lines(alloc: Global, limit: u64) -> Result<Lines, Memory>
     ensures window { IfOk result (λ b. b.window ≡ empty_window (most_line + 1) limit) }
     ensures text { IfOk result (λ b. refusal_room ≤ vec_capacity b.text) }
@@ -43,19 +42,11 @@ fn make_lines(alloc: Global, limit: u64) -> Result<Lines, Memory>
         Ok(window) => window,
         Err(_) => return Err(Memory),
     };
-    let record = match Vec::with_capacity(alloc, MOST_RECORD) {
-        Ok(record) => record,
-        Err(_) => return Err(Memory),
-    };
     let text = match Vec::with_capacity(alloc, REFUSAL_ROOM) {
         Ok(text) => text,
         Err(_) => return Err(Memory),
     };
-    Ok(Lines {
-        window,
-        record,
-        text,
-    })
+    Ok(Lines { window, text })
 }
 
 // An input of a new disk that is opened: the market in which the journal begins, and the first entry of the disk as it is stored, which has no bytes if

@@ -149,18 +149,13 @@ pub fn serve_lines<S: Source, D: Disk, K: Sink>(
 {
     match begin::<Lines, S, D>(alloc, limit, source, disk) {
         Ok(Ready { input, writer }) => {
-            let Lines {
-                mut window,
-                record,
-                text,
-            } = input;
+            let Lines { mut window, text } = input;
             let entries = writer.entries;
             let mut desk = Desk {
                 alloc,
                 writer,
                 lines: 0,
                 entries,
-                record,
                 text,
             };
             kept(serve_on(&mut window, source, &mut desk, disk, out))
