@@ -76,7 +76,7 @@ fn put_pair(market: &Market, pair: &PairView<'_>, number: u64, out: &mut Text) -
     }
 }
 
-// Hands a buffer back with the text that follows its bytes, or as it was if the text ended for want of memory.
+// Hands a buffer back with the text that follows its bytes, or as it was if memory ran out for the text.
 fn hand_back(text: Text, written: Result<(), Memory>, out: &mut Vec<u8>) -> Result<(), Memory>
     ensures same { result ≡ written }
     ensures whole { OnOk written (out.new.items ≡ text.before.items ++ text.text) }

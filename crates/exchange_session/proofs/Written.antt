@@ -1,4 +1,4 @@
--- Commands whose records were written: what the records are read as, and where the answers behind them are.
+-- Commands whose records were written: what the records are read as, and where the answers after them are.
 use Rattle.std.proofs.Common.{◌≡◌, ◌≤◌, ◌<◌, ◌-◌, ℕ, List, [], ◌++◌, length, length-append, take, drop, Ok, Err, refl, sym, ap, ◌∙◌, arith}
 use Rattle.std.proofs.lemmas.List.{take_rest, drop_at}
 use Rattle.wire_records.specs.Records.{Record, encoding}
@@ -24,7 +24,7 @@ written_read version command fits few =
 pub written_unread : (version : Version) (command : Command) → most_tag version < tag_of command → IsReadAs version (record_of command) (Err UnknownTag)
 written_unread version command above = λ is. omega (arith, is.1, above)
 
--- a command's record and the answer's behind it are an entry
+-- a command's record and the answer's after it are an entry
 pub entry_written : (asked : Record) (answer : Answer Outcome) (old first entry : List ℕ) → old ≡ [] → first ≡ old ++ encoding asked → entry ≡ first ++ encoding (answer_record answer)
     → entry ≡ pair_encoding (record { asked = asked; answer = answer })
 unfolding pair_encoding

@@ -80,7 +80,7 @@ fn write_answer(
     }
 }
 
-// Answers a batch that is allowed, behind the record that asks for it, and then settles it.
+// Answers a batch that is allowed, right after the record that asks for it, and then settles it.
 pub(crate) fn answer_batch(
     alloc: Global,
     market: &mut Market,

@@ -18,7 +18,7 @@ module _ {U : Type 0} (none : U) (w s : ℕ) (enough : w ≤ s) where
   filled : (row : List U) → length row ≡ w → length (row ++ replicate (s - length row) none) ≡ s
   filled row width = length-append row (replicate (s - length row) none) ∙ ap (λ n. length row + n) (length-replicate (s - length row) none) ∙ omega (arith, enough, width)
 
-  -- the first row with its places, and the others behind it
+  -- the first row with its places, and the others after it
   parted : (row : List U) (rows : List (List U)) → laid none s (row ∷ rows) ≡ (row ++ replicate (s - length row) none) ++ laid none s rows
   parted row rows = sym (append_assoc row (replicate (s - length row) none) (laid none s rows))
 

@@ -32,7 +32,7 @@ kept xs ys start end k ordered within =
     let none : end ≡ end + 0 = omega arith in
     ap (slice_range (put_mid end k xs ys) start) none ∙ grown xs ys start end k 0 ordered within (omega arith) ∙ append-nil _
 
--- a write behind the bytes of a vector, into room that was laid out behind them
+-- a write after the bytes of a vector, into room that was laid out after them
 pub behind : (old zeros xs ys : List ℕ) (end k n : ℕ) → end ≡ length old → xs ≡ old ++ zeros → n ≤ length ys → take (end + n) (put_mid end k xs ys) ≡ old ++ take n ys
 behind old zeros xs ys end k n long filled fits =
     let within : end ≤ length xs = omega (arith, long, ap length filled, length-append old zeros) in
@@ -41,7 +41,7 @@ behind old zeros xs ys end k n long filled fits =
     ap (λ j. take j (put_mid end k xs ys)) all ∙ grown xs ys 0 end k n (omega arith) within fits
     ∙ ap (λ l. l ++ take n ys) (ap (λ j. take j xs) first ∙ ap (take end) filled ∙ take_at old zeros end (sym long))
 
--- room was laid out behind the bytes of a vector
+-- room was laid out after the bytes of a vector
 pub laid_out : {T E : Type 0} (result : Result T E) (old now first zeros : List ℕ) (m : ℕ) → IsOk result → first ≡ old → length old ≤ m → now ≡ (if is_ok result then take m first ++ zeros else first) → now ≡ old ++ zeros
 laid_out (Ok _) old now first zeros m done same long is = is ∙ ap (λ l. l ++ zeros) (ap (take m) same ∙ take_all m old long)
 laid_out (Err _) old now first zeros m done same long is = absurd (false≢true done)

@@ -38,7 +38,7 @@ pub record Fills (old new : WindowState) (before after : Option (List ℕ)) : Ty
   pub taken : Takes before after (joined ++ past)
   pub beyond : IsPast old.over new.over past
 
--- Bytes were taken from a source past a window that holds nothing, as if it had been filled with them and they had then been moved behind
+-- Bytes were taken from a source past a window that holds nothing, as if it had been filled with them and they had then been appended to
 -- the prefix.
 pub record FillsPast (old new : WindowState) (prefix now : List ℕ) (before after : Option (List ℕ)) : Type 0 where
   pub joined : List ℕ

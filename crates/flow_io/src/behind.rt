@@ -1,4 +1,4 @@
-//! A read whose bytes go behind those of a vector.
+//! A read whose bytes are appended to those of a vector.
 ghost use Rattle.std.specs.Prelude.{◌≡◌, ◌≤◌, ◌<◌, ◌++◌, ℕ, List, [], Err, length, IfOk, IfSome, OnErr};
 ghost use Rattle.flow_io.specs.Faults.{Blames};
 ghost use Rattle.flow_io.specs.Streams.{Takes};

@@ -125,7 +125,7 @@ pub fn write_cleared(
     Ok(())
 }
 
-/// Appends the record of the reply of a batch that cleared, as [`write_cleared`] does behind its command's record: where the
+/// Appends the record of the reply of a batch that cleared, as [`write_cleared`] does after its command's record: where the
 /// bytes end with that, this completes the entry. The space is reserved first, and nothing fails after that. Fails with
 /// `Memory` only if `out` lacked the capacity, and then `out` is as before. The cost is that of the bytes, and of a move of
 /// `out` if it has to grow.

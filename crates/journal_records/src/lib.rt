@@ -3,7 +3,7 @@
 //! [`reserve_plain`] allocates the space of an entry before anything else is done, and [`write_plain`] then
 //! can't fail. [`write_cleared`] writes the entry of a batch that cleared, and [`write_skipped`] that of one that was
 //! skipped, straight from what is published of it. Where the command's record was written already, [`reserve_reply`] and
-//! [`put_reply`], [`write_cleared_reply`] or [`write_skipped_reply`] put the reply's record behind it.
+//! [`put_reply`], [`write_cleared_reply`] or [`write_skipped_reply`] put the reply's record after it.
 //!
 //! [`journal_version`] looks at the magic before the first entry, and says which version it is of.
 //! [`next_pair`] reads the entry that borrowed bytes begin with. If they begin with none, [`is_overlong`] says whether no

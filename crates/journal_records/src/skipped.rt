@@ -69,7 +69,7 @@ pub fn write_skipped(
     Ok(())
 }
 
-/// Appends the record of the reply of a batch that was skipped, as [`write_skipped`] does behind its command's record: where
+/// Appends the record of the reply of a batch that was skipped, as [`write_skipped`] does after its command's record: where
 /// the bytes end with that, this completes the entry. The space is reserved first, and nothing fails after that. Fails with
 /// `Memory` only if `out` lacked the capacity, and then `out` is as before. The cost is that of the bytes, and of a move of
 /// `out` if it has to grow.

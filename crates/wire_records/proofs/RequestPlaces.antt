@@ -45,7 +45,7 @@ pub ends_within : (bytes : List ℕ) (place legs : ℕ) (request : Request) → 
 ends_within bytes place legs request is =
     omega (arith, ap length is.encoded, length-append is.before (request_encoding request ++ is.after), length-append (request_encoding request) is.after, request_size request, is.count, is.placed)
 
--- the request of an order is behind the head of its record
+-- the request of an order is after the head of its record
 pub order_written : (bytes rest : List ℕ) (legs : ℕ) (request : Request) → legs ≡ length request.row → IsCommand (Place None request) → bytes ≡ encoding (record_of (Place None request)) ++ rest → IsRequestAt bytes 5 legs request
 unfolding encoding body_encoding
 order_written bytes rest legs request count fits whole =
@@ -60,7 +60,7 @@ order_written bytes rest legs request count fits whole =
       placed = length-head 7 (length body);
     }
 
--- and behind its last batch, if it has one
+-- and after its last batch, if it has one
 pub until_written : (bytes rest : List ℕ) (legs last : ℕ) (request : Request) → legs ≡ length request.row → IsCommand (Place (Some last) request) → bytes ≡ encoding (record_of (Place (Some last) request)) ++ rest → IsRequestAt bytes 9 legs request
 unfolding encoding body_encoding
 until_written bytes rest legs last request count fits whole =
