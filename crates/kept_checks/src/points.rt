@@ -18,7 +18,9 @@ fn keep_point<D: Disk>(alloc: Global, disk: &mut D, point: &[u8]) -> Result<(), 
     requires new { IfSome (D.state disk.old).content IsNewDisk }
     requires short { length point.now < 2 ^ 32 }
 {
-    let stored = stored_first(point.to_vec(alloc)?)?;
+    let mut bytes = Vec::new(alloc);
+    bytes.extend_from_slice(point)?;
+    let stored = stored_first(bytes)?;
     let mut appender = Appender::for_new(alloc)?;
     appender.make(disk, Version::Two)?;
     appender.append_first(disk, &stored)
