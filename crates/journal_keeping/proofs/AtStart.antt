@@ -20,8 +20,9 @@ use Rattle.market_history.specs.declared.start.StartFault.TheVariants.{Read, Mem
 use Rattle.market_history.proofs.Starting.{magic_on}
 use Rattle.journal_keeping.specs.declared.fault.InputFault.{InputFault}
 use Rattle.journal_keeping.specs.declared.fault.InputFault.TheVariants as fault
-use Rattle.journal_keeping.specs.Inputs.{BeginsUnsound, NotTaken}
-use Rattle.journal_keeping.specs.Starts.{source_format, BeginsOtherwise}
+use Rattle.journal_keeping.specs.Inputs.{BeginsUnsound}
+use Rattle.journal_keeping.specs.Taking.{NotTaken, source_format}
+use Rattle.journal_keeping.specs.Starts.{BeginsOtherwise}
 use Rattle.journal_keeping.specs.Beginning.{OpensStart}
 use Rattle.journal_keeping.proofs.Magic.{at_most}
 use Rattle.journal_keeping.proofs.SourceStart.{no_start, unsound_none, broke_off, in_checkpoint, are_first}

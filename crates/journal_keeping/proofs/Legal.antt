@@ -44,7 +44,7 @@ prefix_of_both (pair ∷ old) new count =
     (suc rest.0, ap (λ (l : List (Pair Record Outcome)). pair ∷ l) rest.1)
 
 pub firsts_are_legal : FirstsAreLegal
-firsts_are_legal begin old new before after records least most image on keeps =
+firsts_are_legal begin old new before after least most image on keeps =
     let both = prefix_of_both old new keeps.0 in
     let prefix = prefixes_are_legal begin (old ++ new) after both.0 on.journal in
     (begin, old ++ take keeps.0 new, prefix.0, subst (λ (l : List (Pair Record Outcome)). IsKeptJournal begin l prefix.0) (sym both.1) prefix.1, keeps.3)

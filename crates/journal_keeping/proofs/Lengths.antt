@@ -1,22 +1,20 @@
 -- How many bytes keeping records leaves on a disk.
-use Rattle.std.proofs.Common.{◌≡◌, inl, inr, ℕ, ◌+◌, ◌-◌, ◌*◌, ◌≤◌, List, [], ◌∷◌, ◌++◌, Option, Some, None, IfSome, length, length-append, length-drop, drop, refl, sym, ap, subst, ◌∙◌, arith}
+use Rattle.std.proofs.Common.{◌≡◌, inl, inr, ℕ, ◌+◌, ◌-◌, ◌*◌, ◌≤◌, List, [], ◌∷◌, ◌++◌, Option, Some, None, IfSome, length, length-append, length-drop, drop, refl, sym, ap, subst, arith}
 use Rattle.flow_io.specs.Streams.{Takes}
 use Rattle.flow_io.specs.Windows.{WindowState, Fills}
 use Rattle.wire_records.specs.Formats.{command_magic_of}
 use Rattle.wire_records.proofs.RecordCode.{eight}
-use Rattle.market_rules.specs.Market.{Market}
 use Rattle.market_snapshot.specs.Checkpoints.{checkpoint_bytes}
 use Rattle.market_history.specs.Histories.{Start, Empty, Kept}
-use Rattle.disk_edge.specs.Disks.{DiskState, IsDisk, AtEachMoment}
-use Rattle.disk_edge.proofs.Moments.{weaker, then_more, at_the_end}
+use Rattle.disk_edge.specs.Disks.{DiskState, IsDisk}
 use Rattle.journal_disk.specs.Pairs.{RecordPair}
 use Rattle.journal_disk.specs.Entries.{Head, framed, entries, Keeps}
 use Rattle.journal_disk.proofs.Entries.{length-framed}
-use Rattle.journal_disk.specs.Lengths.{HasAtMost, LeavesAtMost, ReachesAtMost}
+use Rattle.journal_disk.specs.Lengths.{LeavesAtMost, ReachesAtMost}
 use Rattle.journal_disk.proofs.Lengths.{reach_wider, reach_more, reach_none}
-use Rattle.journal_keeping.specs.Starts.{head_of, source_start, source_format}
-use Rattle.journal_keeping.specs.Beginning.{IsAfterSource, IsStored, IsBegun}
-use Rattle.journal_keeping.specs.Lengths.{BringsAtMost, GrowsAtMost, HasYetAtMost}
+use Rattle.journal_keeping.specs.Starts.{source_start}
+use Rattle.journal_keeping.specs.Beginning.{IsStored}
+use Rattle.journal_keeping.specs.Lengths.{longest_stored_entry, HasYetAtMost}
 
 -- ---- the bytes that may be served yet
 
@@ -47,51 +45,42 @@ yet_read count old new before after fills (inr held) =
     let less = left_less (fills.joined ++ fills.past) before after held.0 fills.taken held.1 in
     inr (less.0, less.1, omega (arith, held.2, less.2, length-append fills.joined fills.past, length-append old.held fills.joined, ap (λ (w : WindowState). length w.held) fills.holds))
 
--- the window is after the beginning of the source: so many bytes fewer may be served
-yet_after : (limit count : ℕ) (input : Start) (window : WindowState) (content after : Option (List ℕ)) → IsAfterSource limit input window content after → BringsAtMost limit content count
-    → (length (source_start input) ≤ count) × HasYetAtMost (count - length (source_start input)) window after
-yet_after limit count input window content after following (inl up) = (omega (arith, up, following.few, ap length following.magic.1, length-append (source_start input) window.held), inl (omega (arith, up, following.limited, following.place)))
-yet_after limit count input window content after following (inr held) =
-    let less = left_less following.first content after held.0 following.takes held.1 in
-    let long = ap length following.magic.1 ∙ length-append (source_start input) window.held in
-    (omega (arith, held.2, less.2, long), inr (less.0, less.1, omega (arith, held.2, less.2, long)))
-
 -- ---- while records are served
 
 -- All bytes that may still be served have places on the disk up to the same bound, and the disk reaches no further.
 abbrev pub StaysWithin : WindowState → Option (List ℕ) → WindowState → Option (List ℕ) → ℕ → ℕ → DiskState → DiskState → Type 0
 StaysWithin first before window rest from place start now =
-    (count : ℕ) → HasYetAtMost count first before → (left : ℕ) × HasYetAtMost left window rest × (place + 263183 * left ≤ from + 263183 * count) × ReachesAtMost (from + 263183 * count + 1) start now
+    (count : ℕ) → HasYetAtMost count first before → (left : ℕ) × HasYetAtMost left window rest × (place + longest_stored_entry * left ≤ from + longest_stored_entry * count) × ReachesAtMost (from + longest_stored_entry * count + 1) start now
 
 pub within_none : (window : WindowState) (rest : Option (List ℕ)) (from : ℕ) (start : DiskState) → IsDisk start → StaysWithin window rest window rest from from start start
-within_none window rest from start is_disk = λ count yet. (count, yet, omega arith, reach_none (from + 263183 * count + 1) start is_disk)
+within_none window rest from start is_disk = λ count yet. (count, yet, omega arith, reach_none (from + longest_stored_entry * count + 1) start is_disk)
 
 module _ (first window : WindowState) (before rest : Option (List ℕ)) (from place : ℕ) (start now next : DiskState) (stays : StaysWithin first before window rest from place start now)
-    (inside : window.place + length window.held ≤ window.limit) (is_disk : IsDisk now) (reach : (left : ℕ) → length window.held ≤ left → ReachesAtMost (place + 263183 * left + 1) now next) where
+    (inside : window.place + length window.held ≤ window.limit) (is_disk : IsDisk now) (reach : (left : ℕ) → length window.held ≤ left → ReachesAtMost (place + longest_stored_entry * left + 1) now next) where
   -- after a pass of the loop, whatever it did
-  pub within_end : (count : ℕ) → HasYetAtMost count first before → ReachesAtMost (from + 263183 * count + 1) start next
+  pub within_end : (count : ℕ) → HasYetAtMost count first before → ReachesAtMost (from + longest_stored_entry * count + 1) start next
   within_end count yet =
       let now_at = stays count yet in
-      reach_more (from + 263183 * count + 1) start now next is_disk now_at.3
-      (reach_wider (place + 263183 * now_at.0 + 1) (from + 263183 * count + 1) now next (omega (arith, now_at.2)) (reach now_at.0 (yet_held now_at.0 window rest inside now_at.1)))
+      reach_more (from + longest_stored_entry * count + 1) start now next is_disk now_at.3
+      (reach_wider (place + longest_stored_entry * now_at.0 + 1) (from + longest_stored_entry * count + 1) now next (omega (arith, now_at.2)) (reach now_at.0 (yet_held now_at.0 window rest inside now_at.1)))
 
   pub within_taken : (n later : ℕ) (ahead : WindowState) → n ≤ length window.held → ahead ≡ record window { held = drop n window.held; place = window.place + n }
-      → ((left most : ℕ) → length window.held ≤ left → place + 263183 * left ≤ most → later + 263183 * (left - n) ≤ most) → StaysWithin first before ahead rest from later start next
+      → ((left most : ℕ) → length window.held ≤ left → place + longest_stored_entry * left ≤ most → later + longest_stored_entry * (left - n) ≤ most) → StaysWithin first before ahead rest from later start next
   within_taken n later ahead few is moves = λ count yet.
       let now_at = stays count yet in (
         now_at.0 - n,
         subst (λ (w : WindowState). HasYetAtMost (now_at.0 - n) w rest) (sym is) (yet_taken n now_at.0 window rest few now_at.1),
-        moves now_at.0 (from + 263183 * count) (yet_held now_at.0 window rest inside now_at.1) now_at.2,
+        moves now_at.0 (from + longest_stored_entry * count) (yet_held now_at.0 window rest inside now_at.1) now_at.2,
         within_end count yet,
       )
 
   pub within_read : (later : ℕ) (ahead : WindowState) (after : Option (List ℕ)) → Fills window ahead rest after
-      → ((left most : ℕ) → length window.held ≤ left → place + 263183 * left ≤ most → later + 263183 * left ≤ most) → StaysWithin first before ahead after from later start next
+      → ((left most : ℕ) → length window.held ≤ left → place + longest_stored_entry * left ≤ most → later + longest_stored_entry * left ≤ most) → StaysWithin first before ahead after from later start next
   within_read later ahead after fills moves = λ count yet.
       let now_at = stays count yet in (
         now_at.0,
         yet_read now_at.0 window ahead rest after fills now_at.1,
-        moves now_at.0 (from + 263183 * count) (yet_held now_at.0 window rest inside now_at.1) now_at.2,
+        moves now_at.0 (from + longest_stored_entry * count) (yet_held now_at.0 window rest inside now_at.1) now_at.2,
         within_end count yet,
       )
 
@@ -109,21 +98,3 @@ last_commit head pairs place most disk is_disk keeps short =
     let bytes = entries head pairs ++ keeps.0 ∷ [] in
     let left : disk.images bytes = subst (λ (o : Option (List ℕ)). IfSome o disk.images) keeps.2.content is_disk.content in
     omega (arith, short bytes left, length-append (entries head pairs) (keeps.0 ∷ []), keeps.2.begins)
-
-pub grows_served : (limit : ℕ) (begin input : Start) (window : WindowState) (content after : Option (List ℕ)) → IsAfterSource limit input window content after → (start mid end : DiskState) → IsDisk mid
-    → ((most : ℕ) → 9 ≤ most → LeavesAtMost most start → AtEachMoment start mid (HasAtMost (most + 2 * length (source_start input)))) → (held : List ℕ) (market : Market) (entries place : ℕ) → IsBegun source_format held begin input market entries place mid
-    → ((count : ℕ) → HasYetAtMost count window after → ReachesAtMost (place + 263183 * count + 1) mid end) → GrowsAtMost 263183 limit content start end
-grows_served limit begin input window content after following start mid end is_disk within held market entries place begun served = λ most count nine short brings.
-    let size = length (source_start input) in
-    let run = within most nine short in
-    let there = at_the_end start mid (HasAtMost (most + 2 * size)) is_disk run in
-    let last = last_commit (head_of begin) _ place (most + 2 * size) mid is_disk begun.3 there in
-    let yet = yet_after limit count input window content after following brings in
-    let all = most + 263183 * count in
-    then_more start mid end (HasAtMost all) (weaker start mid (HasAtMost (most + 2 * size)) (HasAtMost all) (λ image le. omega (arith, le, yet.0)) run)
-    (served (count - size) yet.1 all (omega (arith, last, yet.0)) (λ image left. omega (arith, there image left, yet.0)))
-
--- a disk that grew by two bytes for each that was brought grew by no more than for an entry
-pub grows_unserved : (limit : ℕ) (content : Option (List ℕ)) (start end : DiskState) → GrowsAtMost 2 limit content start end → GrowsAtMost 263183 limit content start end
-grows_unserved limit content start end grows = λ most count nine short brings.
-    weaker start end (HasAtMost (most + 2 * count)) (HasAtMost (most + 263183 * count)) (λ image le. omega (arith, le)) (grows most count nine short brings)

@@ -12,7 +12,8 @@ use Rattle.wire_records.specs.declared.version.Version.{Version}
 use Rattle.word_driver.specs.Does.{IsTaken}
 use Rattle.market_history.specs.Histories.{Empty}
 use Rattle.file_units.proofs.Gone.{considered, within_limit}
-use Rattle.journal_keeping.specs.Starts.{source_start, sources, IsNoSource, IsUnbegun}
+use Rattle.journal_keeping.specs.Starts.{source_start, sources, IsUnbegun}
+use Rattle.journal_keeping.specs.Taking.{IsNoSource}
 use Rattle.journal_keeping.specs.Beginning.{IsAfterSource}
 use Rattle.journal_keeping.proofs.Starts.{input_long, magic_long}
 

@@ -14,8 +14,9 @@ use Rattle.journal_disk.specs.Entries.{IsNewDisk}
 use Rattle.journal_disk.specs.Recovering.{IsFound}
 use Rattle.journal_disk.specs.Looking.{OnlyLooks}
 use Rattle.journal_disk.proofs.GoingOn.{looks_more}
-use Rattle.journal_keeping.specs.Inputs.{InputBegins, HasShownStart, IsAfterStart}
-use Rattle.journal_keeping.specs.Starts.{source_start, sources, source_format}
+use Rattle.journal_keeping.specs.Inputs.{InputBegins, HasShownStart}
+use Rattle.journal_keeping.specs.Taking.{IsAfterStart, source_format}
+use Rattle.journal_keeping.specs.Starts.{source_start, sources, source_starts}
 use Rattle.journal_keeping.specs.Beginning.{IsAfterSource, OpensStart, TakesStart}
 use Rattle.journal_keeping.proofs.Lengths.{stored_few}
 
@@ -65,7 +66,7 @@ module _ (limit : ℕ) (w : WindowState) (input : Start) (first : List ℕ) (beg
   counts_taken : (bytes m taken l : List ℕ) → bytes ≡ first ++ m → m ≡ taken ++ l → length (first ++ taken) + length l ≡ length bytes
   counts_taken bytes m taken l opens takes = omega (arith, ap length opens, ap length takes, length-append first m, length-append taken l, length-append first taken)
 
-  has_told : (o m l : Option (List ℕ)) (taken : List ℕ) → Takes o m first → Takes m l taken → IfSome o (λ bytes. HasShownStart source_format limit bytes l)
+  has_told : (o m l : Option (List ℕ)) (taken : List ℕ) → Takes o m first → Takes m l taken → IfSome o (λ bytes. HasShownStart source_starts limit bytes l)
   has_told None m l taken opens takes = tt
   has_told (Some bytes) None l taken opens takes = absurd opens
   has_told (Some bytes) (Some m) None taken opens takes = absurd takes
@@ -75,11 +76,11 @@ module _ (limit : ℕ) (w : WindowState) (input : Start) (first : List ℕ) (beg
       (length (first ++ taken), counts_taken bytes m taken l opens takes, input, body, (begins.0, is), inl (λ part. part.0 input body begins.0 is))
 
 -- what was taken of a source shows how it begins, and so does more of it
-pub start_taken : (limit : ℕ) (w : WindowState) (input : Start) (content mid left : Option (List ℕ)) (taken : List ℕ) → IsAfterSource limit input w content mid → Takes mid left taken → IfSome content (λ bytes. HasShownStart source_format limit bytes left)
+pub start_taken : (limit : ℕ) (w : WindowState) (input : Start) (content mid left : Option (List ℕ)) (taken : List ℕ) → IsAfterSource limit input w content mid → Takes mid left taken → IfSome content (λ bytes. HasShownStart source_starts limit bytes left)
 start_taken limit w input content mid left taken following takes = has_told limit w input following.first following.magic following.few content mid left taken following.takes takes
 
 -- the source begins so within the limit
-source_begins : (limit : ℕ) (w : WindowState) (input : Start) (content left : Option (List ℕ)) → IsAfterSource limit input w content left → InputBegins source_format limit content input
+source_begins : (limit : ℕ) (w : WindowState) (input : Start) (content left : Option (List ℕ)) → IsAfterSource limit input w content left → InputBegins source_starts limit content input
 source_begins limit w input None left following = tt
 source_begins limit w input (Some bytes) None following = absurd following.takes
 source_begins limit w input (Some bytes) (Some m) following = (

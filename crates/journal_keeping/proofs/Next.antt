@@ -1,6 +1,6 @@
 -- The first record is served: its entry may be kept.
-use Rattle.std.proofs.Common.{◌≡◌, ◌⊎◌, ⊎_elim, ◌+◌, ◌-◌, ◌*◌, ◌<◌, ◌≤◌, ◌^◌, ℕ, List, [], ◌∷◌, ◌++◌, Option, IsSome, length, length-append, drop, refl, sym, ap, subst, ◌∙◌, arith}
-use Rattle.flow_io.specs.Streams.{Grows, GrowsByPrefix}
+use Rattle.std.proofs.Common.{◌≡◌, ◌⊎◌, ⊎_elim, ◌+◌, ◌-◌, ◌*◌, ◌<◌, ◌≤◌, ◌^◌, ℕ, List, [], ◌∷◌, ◌++◌, IsSome, length, length-append, drop, refl, sym, ap, subst, ◌∙◌, arith}
+use Rattle.std.specs.Prelude.{⊤}
 use Rattle.wire_records.specs.Records.{Record, encoding}
 use Rattle.wire_records.proofs.Encoded.{length-encoding}
 use Rattle.wire_records.specs.Commands.{Pair}
@@ -20,6 +20,8 @@ use Rattle.journal_disk.proofs.Entries.{pair_short}
 use Rattle.journal_disk.proofs.Lengths.{reach_wider}
 use Rattle.journal_keeping.specs.declared.fault.ServeFault.{ServeFault}
 use Rattle.journal_keeping.specs.declared.fault.ServeFault.TheVariants.{Disk, Write}
+use Rattle.journal_keeping.specs.Lengths.{longest_stored_entry}
+use Rattle.journal_keeping.specs.Outputs.{Output, Gains}
 use Rattle.journal_keeping.specs.Private.{KeepsOneMore, IsServed, TakesNext, BreaksNext, HasAllocating}
 use Rattle.journal_keeping.proofs.Turns.{is_record_pair, same_bytes, is_whole}
 
@@ -54,8 +56,8 @@ module _ (n : ℕ) (bytes : List ℕ) (old new : Market) (text : List ℕ) (one 
   pub their_bytes : text ≡ pair_bytes (records_of pair_of)
   their_bytes = one.step.encoded ∙ same_bytes pair_of
 
-  pub takes : (from to : ℕ) (disk later : DiskState) (before after : Option (List ℕ)) → KeepsOneMore pair_of from to disk later → (IsSome later.content → IsSome disk.content) → Grows before after text → TakesNext n bytes old new from to disk later before after
-  takes from to disk later before after keeps told grows = record {
+  pub takes : (from to : ℕ) (disk later : DiskState) (out after : Output) → KeepsOneMore pair_of from to disk later → (IsSome later.content → IsSome disk.content) → Gains ⊥ out after (text ∷ []) → TakesNext n bytes old new from to disk later out after
+  takes from to disk later out after keeps told gained = record {
     pair = pair_of;
     served = record { lawful = one.lawful; rest = drop n bytes; prefix = one.prefix; step = one.step.step; fits = fits };
     size = one.size;
@@ -63,30 +65,29 @@ module _ (n : ℕ) (bytes : List ℕ) (old new : Market) (text : List ℕ) (one 
     following = refl;
     keeps = keeps;
     told = told;
-    written = subst (λ (l : List ℕ). Grows before after l) one.step.encoded grows;
+    gained = subst (λ (l : List ℕ). Gains ⊥ out after (l ∷ [])) one.step.encoded gained;
   }
 
-  pub still_ready : (place later : ℕ) → place + 263183 * left ≤ 2 ^ 61 → later ≡ place + (5 + length text) → later + 263183 * (left - n) ≤ 2 ^ 61
+  pub still_ready : (place later : ℕ) → place + longest_stored_entry * left ≤ 2 ^ 61 → later ≡ place + (5 + length text) → later + longest_stored_entry * (left - n) ≤ 2 ^ 61
   still_ready place later room moved = omega (arith, room, moved, ap length their_bytes, pair_short (records_of pair_of) two_records, within.0, within.1, inside)
 
   -- at any place, and with any number of bytes left, the entry fits in 263,183 bytes for each byte of its record
-  pub still_within : (place later other most : ℕ) → length bytes ≤ other → place + 263183 * other ≤ most → later ≡ place + (5 + length text) → later + 263183 * (other - n) ≤ most
+  pub still_within : (place later other most : ℕ) → length bytes ≤ other → place + longest_stored_entry * other ≤ most → later ≡ place + (5 + length text) → later + longest_stored_entry * (other - n) ≤ most
   still_within place later other most fits room moved = omega (arith, room, moved, ap length their_bytes, pair_short (records_of pair_of) two_records, within.0, within.1, fits)
 
-  pub still_reaches : (place : ℕ) (disk later : DiskState) (other : ℕ) → length bytes ≤ other → ReachesAtMost (place + (6 + length text)) disk later → ReachesAtMost (place + 263183 * other + 1) disk later
+  pub still_reaches : (place : ℕ) (disk later : DiskState) (other : ℕ) → length bytes ≤ other → ReachesAtMost (place + (6 + length text)) disk later → ReachesAtMost (place + longest_stored_entry * other + 1) disk later
   still_reaches place disk later other fits =
-      reach_wider (place + (6 + length text)) (place + 263183 * other + 1) disk later
+      reach_wider (place + (6 + length text)) (place + longest_stored_entry * other + 1) disk later
       (omega (arith, ap length their_bytes, pair_short (records_of pair_of) two_records, within.0, within.1, fits))
 
   -- the entry wasn't kept, or not written completely
-  pub breaks : (from to : ℕ) (disk later : DiskState) (before after : Option (List ℕ)) (SameDisk SameOut : Type 0) (fault : ServeFault) → (fault ≡ Disk) ⊎ (fault ≡ Write) → (fault ≡ Disk → SameOut)
+  pub breaks : (from to : ℕ) (disk later : DiskState) (out after : Output) (SameDisk : Type 0) (fault : ServeFault) → (fault ≡ Disk) ⊎ (fault ≡ Write) → (fault ≡ Disk → after ≡ out)
       → ((head : Head) (pairs : List RecordPair) → Keeps head pairs from disk → AtEachMoment disk later (WithOrWithout head pairs (records_of pair_of)))
-      → (fault ≡ Write → (head : Head) (pairs : List RecordPair) → Keeps head pairs from disk → Keeps head (pairs ++ records_of pair_of ∷ []) to later) → (fault ≡ Write → GrowsByPrefix before after text)
-      → BreaksNext bytes old from to disk later before after SameDisk SameOut fault
-  breaks from to disk later before after SameDisk SameOut fault refused silent moments keeps cut =
-      let there : IsServed bytes old pair_of new = record { lawful = one.lawful; rest = drop n bytes; prefix = one.prefix; step = one.step.step; fits = fits } in
+      → (fault ≡ Write → (head : Head) (pairs : List RecordPair) → Keeps head pairs from disk → Keeps head (pairs ++ records_of pair_of ∷ []) to later) → (fault ≡ Write → IsSome later.content → IsSome disk.content)
+      → (fault ≡ Write → Gains ⊤ out after (text ∷ [])) → BreaksNext bytes old from to disk later out after SameDisk fault
+  breaks from to disk later out after SameDisk fault refused silent moments keeps told cut =
       ⊎_elim
-      (λ (is : fault ≡ Disk). subst (λ (f : ServeFault). BreaksNext bytes old from to disk later before after SameDisk SameOut f) (sym is) (silent is, pair_of, new, there, moments))
-      (λ (is : fault ≡ Write). subst (λ (f : ServeFault). BreaksNext bytes old from to disk later before after SameDisk SameOut f) (sym is)
-      (pair_of, new, there, record { keeps = keeps is; moments = moments }, subst (λ (l : List ℕ). GrowsByPrefix before after l) one.step.encoded (cut is)))
+      (λ (is : fault ≡ Disk). subst (λ (f : ServeFault). BreaksNext bytes old from to disk later out after SameDisk f) (sym is) (silent is, pair_of, new, served, moments))
+      (λ (is : fault ≡ Write). subst (λ (f : ServeFault). BreaksNext bytes old from to disk later out after SameDisk f) (sym is)
+      (pair_of, new, served, record { keeps = keeps is; moments = moments }, told is, subst (λ (l : List ℕ). Gains ⊤ out after (l ∷ [])) one.step.encoded (cut is)))
       refused

@@ -2,15 +2,12 @@
 use Rattle.std.proofs.Common.{◌≡◌, ◌⊎◌, inl, inr, ℕ, ◌+◌, List, [], ◌∷◌, ◌++◌, Option, IfSome, length, take, map, refl, sym, ap, subst, ◌∙◌, arith, length-append, append_assoc}
 use Rattle.std.proofs.lemmas.List.{append-nil, take_all, take-append-le, map-append}
 use Rattle.std.proofs.lemmas.List.Elements.{All-append, All-cons, All-nil}
-use Rattle.std.specs.List.{flat_map}
-use Rattle.flow_io.specs.Streams.{Grows}
-use Rattle.journal_records.specs.Pairs.{pair_encoding}
+use Rattle.journal_records.specs.Pairs.{IsPair}
 use Rattle.wire_records.specs.Records.{Record}
 use Rattle.wire_records.specs.Commands.{Pair}
 use Rattle.wire_records.specs.Versions.{IsReadAs}
 use Rattle.flow_orders.specs.Outcomes.{Outcome, IsAdmissibleOutcome}
 use Rattle.canonical_rule.specs.Canonical.{IsCanonicalOutcome}
-use Rattle.journal_records.specs.Pairs.{IsPair}
 use Rattle.journal_records.specs.Formats.{records_of}
 use Rattle.market_rules.specs.Market.{Market}
 use Rattle.market_history.specs.Histories.{Start, market_of}
@@ -21,7 +18,7 @@ use Rattle.journal_disk.specs.Pairs.{RecordPair}
 use Rattle.journal_disk.specs.Entries.{entries, IsNewDisk, StandsFor, WithOrWithout, Keeps}
 use Rattle.journal_disk.proofs.OneList.{new_none, few_first, few_none}
 use Rattle.journal_keeping.specs.Starts.{head_of}
-use Rattle.journal_keeping.specs.Keeping.{IsKeptJournal, StandsForJournal, GoesOn, KeepsFirst, IsStillNew, DuringCall, AtReturn, StandIn, Runs}
+use Rattle.journal_keeping.specs.Keeping.{IsKeptJournal, StandsForJournal, GoesOn, KeepsFirst, IsStillNew, DuringCall, AtReturn, Runs}
 use Rattle.journal_keeping.specs.Beginning.{WhileOpening}
 use Rattle.journal_keeping.specs.Serving.{HasKept, IsNext}
 use Rattle.journal_keeping.proofs.Legal.{more_pairs_stay}
@@ -37,17 +34,6 @@ follows_more old (p ∷ pairs) mid pair new follows next = (follows.0, follows.1
 pub right_more : (old : Market) (pairs : Pairs) (mid : Market) (pair : Pair Record Outcome) (new : Market) → Follows IsReadAs IsAdmissibleOutcome old pairs mid → Step IsReadAs IsAdmissibleOutcome mid pair.asked pair.answer new → Follows IsReadAs IsAdmissibleOutcome old (pairs ++ pair ∷ []) new
 right_more old [] mid pair new follows next = (new, subst (λ (m : Market). Step IsReadAs IsAdmissibleOutcome m pair.asked pair.answer new) follows next, refl)
 right_more old (p ∷ pairs) mid pair new follows next = (follows.0, follows.1, right_more follows.0 pairs mid pair new follows.2 next)
-
--- entries that the output has completely
-pub stand_whole : (Cut : Type 0) (before after : Option (List ℕ)) (pairs : Pairs) → Grows before after (flat_map pair_encoding pairs) → StandIn Cut before after pairs
-stand_whole Cut before after pairs grows = record {
-  whole = pairs;
-  last = [];
-  parts = sym (append-nil pairs);
-  one = omega arith;
-  none = λ _. refl;
-  written = (flat_map pair_encoding pairs, grows, 0, sym (append-nil (flat_map pair_encoding pairs)));
-}
 
 module _ (begin : Start) where
   -- a disk that keeps entries leaves an image that represents them
@@ -83,17 +69,14 @@ module _ (begin : Start) where
   returned_left start old image (inr (inr still)) = inr (inr (still, refl))
 
   -- no record yet
-  pub goes_none : (old : Pairs) (before : Market) → IsKeptJournal begin old before → GoesOn begin old before [] [] before
-  goes_none old before is = record { answers = record { asked = refl; steps = refl }; journal = subst (λ (l : Pairs). IsKeptJournal begin l before) (sym (append-nil old)) is }
+  pub goes_none : (old : Pairs) (before : Market) → IsKeptJournal begin old before → GoesOn begin old before [] before
+  goes_none old before is = record { steps = refl; journal = subst (λ (l : Pairs). IsKeptJournal begin l before) (sym (append-nil old)) is }
 
   -- one more record: its entry fits, and its canonical step is admissible
-  pub goes_more : (old : Pairs) (before : Market) (records : List Record) (new : Pairs) (now : Market) (pair : Pair Record Outcome) (next : Market)
-      → GoesOn begin old before records new now → IsPair pair → IsNext now pair next → Step IsReadAs IsAdmissibleOutcome now pair.asked pair.answer next → GoesOn begin old before (records ++ pair.asked ∷ []) (new ++ pair ∷ []) next
-  goes_more old before records new now pair next on fits own right = record {
-    answers = record {
-      asked = map-append (λ (p : Pair Record Outcome). p.asked) new (pair ∷ []) ∙ ap (λ (l : List Record). l ++ pair.asked ∷ []) on.answers.asked;
-      steps = follows_more before new now pair next on.answers.steps own;
-    };
+  pub goes_more : (old : Pairs) (before : Market) (new : Pairs) (now : Market) (pair : Pair Record Outcome) (next : Market)
+      → GoesOn begin old before new now → IsPair pair → IsNext now pair next → Step IsReadAs IsAdmissibleOutcome now pair.asked pair.answer next → GoesOn begin old before (new ++ pair ∷ []) next
+  goes_more old before new now pair next on fits own right = record {
+    steps = follows_more before new now pair next on.steps own;
     journal = subst (λ (l : Pairs). IsKeptJournal begin l next) (append_assoc old new (pair ∷ [])) (record {
       starts = on.journal.starts;
       each = All-append IsPair (old ++ new) (pair ∷ []) on.journal.each (All-cons IsPair pair [] fits (All-nil IsPair));
@@ -116,7 +99,7 @@ module _ (begin : Start) where
       (length more, omega (arith, length-append new (pair ∷ [])), omega arith, subst (λ (l : Pairs). StandsForJournal begin (old ++ l) image) (sym (take_all (length more) more (omega arith))) stands)
 
   pub kept_none : (start now : DiskState) (old : Pairs) (before : Market) (place : ℕ) → IsKeptJournal begin old before → Keeps (head_of begin) (map records_of old) place now
-      → AtEachMoment start now (WhileOpening begin start old) → HasKept begin start now old before place [] [] before
+      → AtEachMoment start now (WhileOpening begin start old) → HasKept begin start now old before place [] before
   kept_none start now old before place is keeps opens = record {
     goes_on = goes_none old before is;
     keeps = subst (λ (l : Pairs). Keeps (head_of begin) (map records_of l) place now) (sym (append-nil old)) keeps;
@@ -127,7 +110,7 @@ module _ (begin : Start) where
   pub opened_returns : (start next : DiskState) (old : Pairs) → IsDisk next → AtEachMoment start next (WhileOpening begin start old) → AtReturn begin start next old [] 0
   opened_returns start next old is_disk opens image left = returned_left start old image (at_the_end start next _ is_disk opens image left)
 
-  module _ (start now : DiskState) (old : Pairs) (before : Market) (place : ℕ) (records : List Record) (new : Pairs) (market : Market) (kept : HasKept begin start now old before place records new market) where
+  module _ (start now : DiskState) (old : Pairs) (before : Market) (place : ℕ) (new : Pairs) (market : Market) (kept : HasKept begin start now old before place new market) where
     -- a run that ends here leaves each entry that was acknowledged
     pub kept_returns : AtReturn begin start now old new (length new)
     kept_returns image left =
@@ -156,42 +139,42 @@ module _ (begin : Start) where
 
       -- an append that succeeded
       pub kept_more : (later : ℕ) (after : Market) → IsPair pair → IsNext market pair after → Step IsReadAs IsAdmissibleOutcome market pair.asked pair.answer after
-          → Keeps (head_of begin) (map records_of (old ++ new) ++ records_of pair ∷ []) later next → HasKept begin start next old before later (records ++ pair.asked ∷ []) (new ++ pair ∷ []) after
+          → Keeps (head_of begin) (map records_of (old ++ new) ++ records_of pair ∷ []) later next → HasKept begin start next old before later (new ++ pair ∷ []) after
       kept_more later after fits own right keeps = record {
-        goes_on = goes_more old before records new market pair after kept.goes_on fits own right;
+        goes_on = goes_more old before new market pair after kept.goes_on fits own right;
         keeps = subst (λ (l : List RecordPair). Keeps (head_of begin) l later next) (records_more old new pair) keeps;
         during = more_during;
       }
 
   -- What a run did, if it ended after its last entry.
-  pub ended : (start now : DiskState) (old : Pairs) (before : Market) (place : ℕ) (records : List Record) (new : Pairs) (market : Market)
-      → HasKept begin start now old before place records new market → Runs begin start now old before records new (length new)
-  ended start now old before place records new market kept = record {
+  pub ended : (start now : DiskState) (old : Pairs) (before : Market) (place : ℕ) (new : Pairs) (market : Market)
+      → HasKept begin start now old before place new market → Runs begin start now old before new (length new)
+  ended start now old before place new market kept = record {
     now = market;
     within = omega arith;
     all_but_one = omega arith;
     goes_on = kept.goes_on;
     during = kept.during;
-    returns = kept_returns start now old before place records new market kept;
+    returns = kept_returns start now old before place new market kept;
   }
 
   -- What a run did, if it ended at an append that failed.
-  pub failed : (start now next : DiskState) (old : Pairs) (before : Market) (place : ℕ) (records : List Record) (new : Pairs) (market after : Market) (pair : Pair Record Outcome)
-      → HasKept begin start now old before place records new market → IsDisk next → IsPair pair → IsNext market pair after → Step IsReadAs IsAdmissibleOutcome market pair.asked pair.answer after
+  pub failed : (start now next : DiskState) (old : Pairs) (before : Market) (place : ℕ) (new : Pairs) (market after : Market) (pair : Pair Record Outcome)
+      → HasKept begin start now old before place new market → IsDisk next → IsPair pair → IsNext market pair after → Step IsReadAs IsAdmissibleOutcome market pair.asked pair.answer after
       → AtEachMoment now next (WithOrWithout (head_of begin) (map records_of (old ++ new)) (records_of pair))
-      → Runs begin start next old before (records ++ pair.asked ∷ []) (new ++ pair ∷ []) (length new)
-  failed start now next old before place records new market after pair kept is_disk fits own right moments = record {
+      → Runs begin start next old before (new ++ pair ∷ []) (length new)
+  failed start now next old before place new market after pair kept is_disk fits own right moments = record {
     now = after;
     within = omega (arith, length-append new (pair ∷ []));
     all_but_one = omega (arith, length-append new (pair ∷ []));
-    goes_on = goes_more old before records new market pair after kept.goes_on fits own right;
-    during = more_during start now old before place records new market kept next pair moments;
-    returns = failed_returns start now old before place records new market kept next pair moments is_disk;
+    goes_on = goes_more old before new market pair after kept.goes_on fits own right;
+    during = more_during start now old before place new market kept next pair moments;
+    returns = failed_returns start now old before place new market kept next pair moments is_disk;
   }
 
   -- What a run did, if it ended before the first entry.
   pub unbegun : (start next : DiskState) (old : Pairs) (before : Market) → IsKeptJournal begin old before → IsDisk next
-      → AtEachMoment start next (WhileOpening begin start old) → Runs begin start next old before [] [] 0
+      → AtEachMoment start next (WhileOpening begin start old) → Runs begin start next old before [] 0
   unbegun start next old before is is_disk opens = record {
     now = before;
     within = omega arith;
@@ -219,10 +202,10 @@ module _ (begin : Start) where
       inr (inl (0, omega (arith, still.1), omega arith, subst (λ (l : Pairs). StandsForJournal begin l image) (sym (append-nil old)) (new_stands old place start image keeps still.0)))
 
   -- a run whose disk was opened first
-  pub opened_first : (first start end : DiskState) (old : Pairs) (before : Market) (place : ℕ) (records : List Record) (new : Pairs) (acknowledged : ℕ)
+  pub opened_first : (first start end : DiskState) (old : Pairs) (before : Market) (place : ℕ) (new : Pairs) (acknowledged : ℕ)
       → AtEachMoment first start (WhileOpening begin first old) → Keeps (head_of begin) (map records_of old) place start
-      → Runs begin start end old before records new acknowledged → Runs begin first end old before records new acknowledged
-  opened_first first start end old before place records new acknowledged opens keeps runs =
+      → Runs begin start end old before new acknowledged → Runs begin first end old before new acknowledged
+  opened_first first start end old before place new acknowledged opens keeps runs =
       record {
         now = runs.now;
         within = runs.within;

@@ -21,7 +21,7 @@ use Rattle.journal_keeping.specs.declared.fault.ServeFault.{ServeFault}
 use Rattle.journal_keeping.specs.declared.fault.ServeFault.TheVariants.{Memory}
 use Rattle.journal_keeping.specs.Starts.{source_start, sources}
 use Rattle.journal_keeping.specs.Private.{Adds, Names}
-use Rattle.journal_keeping.specs.Pacing.{asked_of}
+use Rattle.journal_keeping.specs.Dialogs.{asked_of}
 use Rattle.journal_keeping.proofs.Turns.{Pairs}
 
 -- bytes that begin with these records

@@ -23,7 +23,8 @@ use Rattle.journal_keeping.specs.declared.fault.OpenFault.{OpenFault}
 use Rattle.journal_keeping.specs.declared.fault.InputFault.{InputFault}
 use Rattle.journal_keeping.specs.declared.fault.BeginFault.{BeginFault}
 use Rattle.journal_keeping.specs.declared.fault.BeginFault.TheVariants.{Open, Input, Make}
-use Rattle.journal_keeping.specs.Inputs.{InputFormat, InputBegins, IsNearStart, NotTaken, IsAfterStart}
+use Rattle.journal_keeping.specs.Inputs.{InputStarts, InputBegins}
+use Rattle.journal_keeping.specs.Taking.{InputFormat, IsNearStart, NotTaken, IsAfterStart}
 use Rattle.journal_keeping.specs.Starts.{version_of, head_of}
 use Rattle.journal_keeping.specs.Keeping.{IsKeptJournal, HoldsLegal, GoesOnIn}
 use Rattle.journal_keeping.specs.Openings.{OpensAs, KeepNone}
@@ -45,30 +46,31 @@ Pairs = List (Pair Record Outcome)
 none_some : (bytes : List ℕ) → ◌≡◌ {A = Option (List ℕ)} None (Some bytes) → ⊥
 none_some bytes e = absurd cc
 
-module _ (format : InputFormat) (limit : ℕ) where
+module _ (starts : InputStarts) where
   -- ---- how the call goes on
 
   -- the old entries of a disk are a valid journal
-  pub opens_journal : (held : List ℕ) (begin input : Start) (old : Pairs) (m : Market) → CanStart input → OpensAs format held begin old m input → IsKeptJournal begin old m
-  opens_journal held begin input old m starts (inl legal) = legal.0.2
-  opens_journal held begin input old m starts (inr new) = subst (λ (l : Pairs). IsKeptJournal begin l m) (sym new.1) (none_read begin m (subst CanStart new.3 starts) new.2)
+  pub opens_journal : (held : List ℕ) (begin input : Start) (old : Pairs) (m : Market) → CanStart input → OpensAs starts held begin old m input → IsKeptJournal begin old m
+  opens_journal held begin input old m can (inl legal) = legal.0.2
+  opens_journal held begin input old m can (inr new) = subst (λ (l : Pairs). IsKeptJournal begin l m) (sym new.1) (none_read begin m (subst CanStart new.3 can) new.2)
 
   -- a disk that was begun can be served on
-  pub can_serve : (content now : Option (List ℕ)) (begin input : Start) (m : Market) (count place : ℕ) (mid : DiskState) → CanStart input → (IsSome now → IsSome content) → IfSome content (λ held. IsBegun format held begin input m count place mid)
+  pub can_serve : (content now : Option (List ℕ)) (begin input : Start) (m : Market) (count place : ℕ) (mid : DiskState) → CanStart input → (IsSome now → IsSome content) → IfSome content (λ held. IsBegun starts held begin input m count place mid)
       → IfSome now (λ _. (w : Start) × (old : Pairs) × IsKeptJournal w old m × Keeps (head_of w) (map records_of old) place mid)
-  can_serve content None begin input m count place mid starts told begun = tt
-  can_serve None (Some bytes) begin input m count place mid starts told begun = absurd (went_well (told refl))
-  can_serve (Some held) (Some bytes) begin input m count place mid starts told begun = (begin, begun.0, opens_journal held begin input begun.0 m starts begun.1, begun.3)
+  can_serve content None begin input m count place mid can told begun = tt
+  can_serve None (Some bytes) begin input m count place mid can told begun = absurd (went_well (told refl))
+  can_serve (Some held) (Some bytes) begin input m count place mid can told begun = (begin, begun.0, opens_journal held begin input begun.0 m can begun.1, begun.3)
 
   -- a disk that keeps no valid journal wasn't opened
-  not_begun_none : (held : List ℕ) (begin input : Start) (old : Pairs) (m : Market) → OpensAs format held begin old m input → ¬ KeepNone held
+  not_begun_none : (held : List ℕ) (begin input : Start) (old : Pairs) (m : Market) → OpensAs starts held begin old m input → ¬ KeepNone held
   not_begun_none held begin input old m (inl legal) none = none.1 begin old m legal.0
   not_begun_none held begin input old m (inr new) none = none.0 new.0
 
-  pub none_begun : (content : Option (List ℕ)) (begin input : Start) (m : Market) (count place : ℕ) (mid : DiskState) (P : Type 0) → IfSome content (λ held. IsBegun format held begin input m count place mid) → IfSome content (λ held. KeepNone held → P)
+  pub none_begun : (content : Option (List ℕ)) (begin input : Start) (m : Market) (count place : ℕ) (mid : DiskState) (P : Type 0) → IfSome content (λ held. IsBegun starts held begin input m count place mid) → IfSome content (λ held. KeepNone held → P)
   none_begun None begin input m count place mid P begun = tt
   none_begun (Some held) begin input m count place mid P begun = λ none. absurd (not_begun_none held begin input begun.0 m begun.1 none)
 
+module _ (format : InputFormat) (limit : ℕ) where
   -- where a disk keeps no valid journal, opening it failed
   pub none_open : (held : List ℕ) (content left : Option (List ℕ)) (end : DiskState) (fault : BeginFault) → KeepNone held → NotBegun format limit held content left end fault → (of : OpenFault) × (fault ≡ Open of)
   none_open held content left end (Open of) none not = (of, refl)
@@ -78,8 +80,8 @@ module _ (format : InputFormat) (limit : ℕ) where
 
   module _ (start : DiskState) (v : Start) (old : Pairs) (market : Market) (holds : HoldsLegal start v old market) where
     -- how the journal goes on, with the old entries
-    begun_is : (content : Option (List ℕ)) (held : List ℕ) (next : DiskState) (of input : Start) (m : Market) (count place : ℕ) → start.content ≡ Some held → CanStart input → InputBegins format limit content input → IsBegun format held of input m count place next
-        → GoesOnIn format limit content start v market of m input × IsKeptJournal of old m × (count ≡ length old) × Keeps (head_of of) (map records_of old) place next
+    begun_is : (content : Option (List ℕ)) (held : List ℕ) (next : DiskState) (of input : Start) (m : Market) (count place : ℕ) → start.content ≡ Some held → CanStart input → InputBegins format.starts limit content input → IsBegun format.starts held of input m count place next
+        → GoesOnIn format.starts limit content start v market of m input × IsKeptJournal of old m × (count ≡ length old) × Keeps (head_of of) (map records_of old) place next
     begun_is content held next of input m count place told starts begins (other, inl legal, counted, at) =
         let same = opened_old start v old market holds held told of other m legal.0 in (
           inl (sym same.0, sym same.2, subst (λ (x : Start). input ≡ Empty (version_of x)) (sym same.0) legal.1),
@@ -89,19 +91,19 @@ module _ (format : InputFormat) (limit : ℕ) where
         )
     begun_is content held next of input m count place told starts begins (other, inr new, counted, at) =
         let none = new_again start v old market holds held told new.0.0 in (
-          inr (subst (λ (o : Option (List ℕ)). IfSome o IsNewDisk) (sym told) new.0.0, new.2, new.3, new.4, subst (λ (x : Start). InputBegins format limit content x) new.3 begins),
+          inr (subst (λ (o : Option (List ℕ)). IfSome o IsNewDisk) (sym told) new.0.0, new.2, new.3, new.4, subst (λ (x : Start). InputBegins format.starts limit content x) new.3 begins),
           subst (λ (l : Pairs). IsKeptJournal of l m) (sym none) (none_read of m (subst CanStart new.3 starts) new.2),
           counted ∙ ap length (new.1 ∙ sym none),
           subst (λ (l : Pairs). Keeps (head_of of) (map records_of l) place next) (new.1 ∙ sym none) at,
         )
 
-    pub begun_known : (content : Option (List ℕ)) (next : DiskState) (of input : Start) (m : Market) (count place : ℕ) → CanStart input → InputBegins format limit content input → IfSome start.content (λ held. IsBegun format held of input m count place next)
-        → GoesOnIn format limit content start v market of m input × IsKeptJournal of old m × (count ≡ length old) × Keeps (head_of of) (map records_of old) place next
+    pub begun_known : (content : Option (List ℕ)) (next : DiskState) (of input : Start) (m : Market) (count place : ℕ) → CanStart input → InputBegins format.starts limit content input → IfSome start.content (λ held. IsBegun format.starts held of input m count place next)
+        → GoesOnIn format.starts limit content start v market of m input × IsKeptJournal of old m × (count ≡ length old) × Keeps (head_of of) (map records_of old) place next
     begun_known content next of input m count place starts begins begun =
-        begun_is content holds.bytes next of input m count place holds.told starts begins (subst (λ (o : Option (List ℕ)). IfSome o (λ (held : List ℕ). IsBegun format held of input m count place next)) holds.told begun)
+        begun_is content holds.bytes next of input m count place holds.told starts begins (subst (λ (o : Option (List ℕ)). IfSome o (λ (held : List ℕ). IsBegun format.starts held of input m count place next)) holds.told begun)
 
     -- opening that leaves the old entries where they are is safe
-    safe_kept : (content : Option (List ℕ)) (next : DiskState) → Opens v start next old → OpensSafely format limit content start next v old market
+    safe_kept : (content : Option (List ℕ)) (next : DiskState) → Opens v start next old → OpensSafely format.starts limit content start next v old market
     safe_kept content next opens = record {
       of = v;
       from = market;
@@ -112,8 +114,8 @@ module _ (format : InputFormat) (limit : ℕ) where
     }
 
     -- and so is making a new disk one that begins as the input does
-    safe_new : (content : Option (List ℕ)) (next : DiskState) (begin : Start) → IfSome start.content (λ held. IsFound None held start) → CanStart begin → format.MayBegin begin → InputBegins format limit content begin → Opens begin start next old
-        → OpensSafely format limit content start next v old market
+    safe_new : (content : Option (List ℕ)) (next : DiskState) (begin : Start) → IfSome start.content (λ held. IsFound None held start) → CanStart begin → format.starts.MayBegin begin → InputBegins format.starts limit content begin → Opens begin start next old
+        → OpensSafely format.starts limit content start next v old market
     safe_new content next begin found starts may begins opens =
         let is = subst (λ (o : Option (List ℕ)). IfSome o (λ (held : List ℕ). IsFound None held start)) holds.told found in
         let none = new_again start v old market holds holds.bytes holds.told is.0 in
@@ -127,11 +129,11 @@ module _ (format : InputFormat) (limit : ℕ) where
         }
 
   -- the disk was only looked at before
-  goes_first : (content : Option (List ℕ)) (start mid : DiskState) (looks : OnlyLooks start mid) (begin : Start) (market : Market) (of : Start) (from : Market) (input : Start) → GoesOnIn format limit content mid begin market of from input → GoesOnIn format limit content start begin market of from input
+  goes_first : (content : Option (List ℕ)) (start mid : DiskState) (looks : OnlyLooks start mid) (begin : Start) (market : Market) (of : Start) (from : Market) (input : Start) → GoesOnIn format.starts limit content mid begin market of from input → GoesOnIn format.starts limit content start begin market of from input
   goes_first content start mid looks begin market of from input (inl same) = inl same
   goes_first content start mid looks begin market of from input (inr new) = inr (subst (λ (o : Option (List ℕ)). IfSome o IsNewDisk) looks.content new.0, new.1, new.2, new.3, new.4)
 
-  safe_first : (content : Option (List ℕ)) (start mid next : DiskState) (begin : Start) (old : Pairs) (market : Market) → OnlyLooks start mid → OpensSafely format limit content mid next begin old market → OpensSafely format limit content start next begin old market
+  safe_first : (content : Option (List ℕ)) (start mid next : DiskState) (begin : Start) (old : Pairs) (market : Market) → OnlyLooks start mid → OpensSafely format.starts limit content mid next begin old market → OpensSafely format.starts limit content start next begin old market
   safe_first content start mid next begin old market looks safe = record {
     of = safe.of;
     from = safe.from;
@@ -171,7 +173,7 @@ module _ (format : InputFormat) (limit : ℕ) where
     near_start : IfSome before (λ bytes. IsNearStart format limit bytes after)
     near_start = by_cases before after following.takes following.begins
       where
-        by_cases : (b a : Option (List ℕ)) → Takes b a (format.encode input ++ window.held) → InputBegins format limit b input → IfSome b (λ bytes. IsNearStart format limit bytes a)
+        by_cases : (b a : Option (List ℕ)) → Takes b a (format.encode input ++ window.held) → InputBegins format.starts limit b input → IfSome b (λ bytes. IsNearStart format limit bytes a)
         by_cases None a takes begins = tt
         by_cases (Some bytes) None takes begins = absurd takes
         by_cases (Some bytes) (Some left) takes begins = (
@@ -225,7 +227,7 @@ module _ (format : InputFormat) (limit : ℕ) where
         where
           by_cases : (told : Option (List ℕ)) → IfSome told (λ held. IsKeptOn version held m count place next) → IfSome told (λ held. NotBegun format limit held before after next (Input fault))
           by_cases None is = tt
-          by_cases (Some held) is = inl (is.0, is.1, m, is.3, subst (λ (v : Version). NotTaken format limit (Some v) before after fault) (sym is.2) why, place, is.5)
+          by_cases (Some held) is = inl (is.0, is.1, m, is.3, subst (λ (v : Version). NotTaken format limit (Some v) before after fault) (sym is.2) why, (place, is.5))
 
       pub kept_begun : (window : WindowState) → IsAfterStart format limit (Empty version) window before after → (IsSome next.content → IsSome start.content) → m.next_order ≤ place + 2 ^ 63 → count ≤ place → place ≤ 2 ^ 60
           → HasBegun format limit start next window before after m count place
@@ -236,7 +238,7 @@ module _ (format : InputFormat) (limit : ℕ) where
             begin = Empty version;
             input = Empty version;
             following = following;
-            begun = subst (λ (o : Option (List ℕ)). IfSome o (λ held. IsBegun format held (Empty version) (Empty version) m count place next)) (sym is) tt;
+            begun = subst (λ (o : Option (List ℕ)). IfSome o (λ held. IsBegun format.starts held (Empty version) (Empty version) m count place next)) (sym is) tt;
             moments = λ was old market holds. absurd (none_some holds.bytes (sym is ∙ holds.told));
             lengths = short_within (2 * length (format.encode (Empty version))) start next reach;
             told = told;
@@ -248,7 +250,7 @@ module _ (format : InputFormat) (limit : ℕ) where
             begin = on.0;
             input = Empty version;
             following = following;
-            begun = subst (λ (o : Option (List ℕ)). IfSome o (λ held. IsBegun format held on.0 (Empty version) m count place next)) (sym is) (on.1, inl (on.3, ap (λ (u : Version). Empty u) (sym on.2)), on.4, on.5);
+            begun = subst (λ (o : Option (List ℕ)). IfSome o (λ held. IsBegun format.starts held on.0 (Empty version) m count place next)) (sym is) (on.1, inl (on.3, ap (λ (u : Version). Empty u) (sym on.2)), on.4, on.5);
             moments = λ was old market holds. subst (λ (b : Start). Opens b start next old) (opened_old start was old market holds held is on.0 on.1 m on.3).0 (moments was old market holds);
             lengths = short_within (2 * length (format.encode (Empty version))) start next reach;
             told = told;
@@ -323,7 +325,7 @@ module _ (format : InputFormat) (limit : ℕ) where
       }
         where
           by_cases : (content : Option (List ℕ)) → IfSome content (λ held. IsFound None held start) → IfSome content (λ _. (begin : Start) → version_of begin ≡ version → IsHead (head_of begin) → IsStored begin stored → Keeps (head_of begin) [] place end)
-              → IfSome content (λ held. IsBegun format held takes.begin takes.begin session 0 place end)
+              → IfSome content (λ held. IsBegun format.starts held takes.begin takes.begin session 0 place end)
           by_cases None is kept = tt
           by_cases (Some held) is kept = ([], inr ((is.0, is.1), refl, same ∙ takes.market_is, refl, takes.may), refl, kept takes.begin of lawful takes.stored_is)
 
@@ -353,7 +355,7 @@ module _ (format : InputFormat) (limit : ℕ) where
           (if_some mid.content _ _ (λ (held : List ℕ) on none. looks_more start mid end looks (on none)) fails.looks);
       safe = λ was old m holds. safe_first before start mid end was old m looks (fails.safe was old m (looked_legal was old m start mid holds looks));
       lengths = grows_first before start mid end is_disk looks fails.lengths;
-      made = subst (λ (o : Option (List ℕ)). IfSome o (λ (held : List ℕ). IsMadeAfterStart format limit held start end before after)) looks.content
+      made = subst (λ (o : Option (List ℕ)). IfSome o (λ (held : List ℕ). IsMadeAfterStart format.starts limit held start end before after)) looks.content
           (if_some mid.content _ _ (λ (held : List ℕ) on new. looked_first start mid end _ looks (on new)) fails.made);
     }
 
@@ -362,7 +364,7 @@ module _ (format : InputFormat) (limit : ℕ) where
       begin = begun.begin;
       input = begun.input;
       following = begun.following;
-      begun = subst (λ (o : Option (List ℕ)). IfSome o (λ held. IsBegun format held begun.begin begun.input m count place end)) looks.content begun.begun;
+      begun = subst (λ (o : Option (List ℕ)). IfSome o (λ held. IsBegun format.starts held begun.begin begun.input m count place end)) looks.content begun.begun;
       moments = λ was old market holds. looks_first begun.begin old start mid end looks (begun.moments was old market (looked_legal was old market start mid holds looks));
       lengths = within_first (2 * length (format.encode begun.input)) start mid end is_disk looks begun.lengths;
       told = subst (λ (o : Option (List ℕ)). IsSome end.content → IsSome o) looks.content begun.told;

@@ -17,11 +17,13 @@ use Rattle.journal_disk.specs.Entries.{framed, Holds, EndsAt, Keeps, IsHead, ent
 use Rattle.journal_disk.specs.Lengths.{HasAtMost, LeavesAtMost}
 use Rattle.journal_disk.specs.Looking.{OnlyLooks}
 use Rattle.journal_disk.specs.Stepping.{IsDamagedAt}
-use Rattle.journal_keeping.specs.Inputs.{InputFormat, IsNearStart, NotTaken, IsAfterStart}
+use Rattle.journal_keeping.specs.Inputs.{InputStarts}
+use Rattle.journal_keeping.specs.Taking.{InputFormat, IsNearStart, NotTaken, IsAfterStart}
 use Rattle.journal_keeping.specs.Starts.{version_of, head_of, source_start, sources}
 use Rattle.journal_keeping.specs.Keeping.{IsKeptJournal, StandsForJournal, HoldsLegal, GoesOnIn, IsStillNew}
 use Rattle.journal_keeping.specs.Openings.{Legal, IsOpening, OpensAs, KeepNone}
 use Rattle.journal_keeping.specs.Openings as opening
+use Rattle.journal_keeping.specs.Dialogs.{KeepsJust}
 use Rattle.journal_keeping.specs.Lengths.{GrowsAtMost}
 use Rattle.journal_keeping.specs.Making.{IsMadeAfterStart}
 use Rattle.journal_keeping.specs.Ended.{IsRefused}
@@ -44,9 +46,9 @@ IsKeptOn version held market count place now =
     × Keeps (head_of begin) (map records_of old) place now
 
 -- the journal was opened, which has so many entries, and the disk holds nothing after its commit byte; or the disk was new, and was made one that begins so
-abbrev pub IsBegun : InputFormat → List ℕ → Start → Start → Market → (count place : ℕ) → DiskState → Type 0
-IsBegun format held begin input market count place now =
-    (old : List (Pair Record Outcome)) × OpensAs format held begin old market input × (count ≡ length old) × Keeps (head_of begin) (map records_of old) place now
+abbrev pub IsBegun : InputStarts → List ℕ → Start → Start → Market → (count place : ℕ) → DiskState → Type 0
+IsBegun starts held begin input market count place now =
+    (old : List (Pair Record Outcome)) × OpensAs starts held begin old market input × (count ≡ length old) × Keeps (head_of begin) (map records_of old) place now
 
 -- A window is after the beginning of a source, and was filled no further than the limit.
 pub record IsAfterSource (limit : ℕ) (input : Start) (window : WindowState) (before after : Option (List ℕ)) : Type 0 where
@@ -110,19 +112,28 @@ OpensNot held end unopened.Memory = ⊤
 abbrev pub StaysKept : List ℕ → DiskState → (Version → Type 0) → Type 0
 StaysKept held end Are =
     (begin : Start) × (old : List (Pair Record Outcome)) × (market : Market) × IsOpening held (Legal begin old market) × Are (version_of begin)
-    × (place : ℕ) × Keeps (head_of begin) (map records_of old) place end
+    × KeepsJust end begin old
 
 -- what a crash leaves while a disk is opened: what it might have left before, or the old entries of the journal that the call continues; or a
 -- new disk, if it was new
 abbrev pub WhileOpening : Start → DiskState → List (Pair Record Outcome) → Images
 WhileOpening begin start old image = start.images image ⊎ (StandsForJournal begin old image ⊎ IsStillNew start image)
 
+-- Opening leaves no more than the old entries, or what a new disk begins with.
+pub record OpensSafely (starts : InputStarts) (limit : ℕ) (content : Option (List ℕ)) (start end : DiskState) (begin : Start) (old : List (Pair Record Outcome)) (market : Market) : Type 0 where
+  pub of : Start
+  pub from : Market
+  pub input : Start
+  pub goes : GoesOnIn starts limit content start begin market of from input
+  pub journal : IsKeptJournal of old from
+  pub moments : AtEachMoment start end (WhileOpening of start old)
+
 module _ (format : InputFormat) (limit : ℕ) where
   -- The beginning of an input for a new disk was taken: a window follows it, this is the market in which the journal begins, and its first entry
   -- as stored.
   pub record TakesStart (market : Market) (stored : List ℕ) (window : WindowState) (before after : Option (List ℕ)) : Type 0 where
     pub begin : Start
-    pub may : format.MayBegin begin
+    pub may : format.starts.MayBegin begin
     pub following : IsAfterStart format limit begin window before after
     pub market_is : market ≡ market_of begin
     pub stored_is : IsStored begin stored
@@ -142,24 +153,15 @@ module _ (format : InputFormat) (limit : ℕ) where
   Unread content left (Input fault) = (wanted : Option Version) × NotTaken format limit wanted content left fault
   Unread content left Make = IfSome content (λ bytes. IsNearStart format limit bytes left)
 
-  -- Opening leaves no more than the old entries, or what a new disk begins with.
-  pub record OpensSafely (content : Option (List ℕ)) (start end : DiskState) (begin : Start) (old : List (Pair Record Outcome)) (market : Market) : Type 0 where
-    pub of : Start
-    pub from : Market
-    pub input : Start
-    pub goes : GoesOnIn format limit content start begin market of from input
-    pub journal : IsKeptJournal of old from
-    pub moments : AtEachMoment start end (WhileOpening of start old)
-
   -- Nothing was served: why, what was taken of the input, and what happened to the disk.
   pub record HasNotBegun (start end : DiskState) (before after : Option (List ℕ)) (fault : BeginFault) : Type 0 where
     pub refused : IfSome start.content (λ held. NotBegun held before after end fault)
     pub unread : Unread before after fault
     pub taken : TakesAtMost before after (limit + 1)
     pub looks : IfSome start.content (λ held. KeepNone held → OnlyLooks start end)
-    pub safe : (was : Start) (old : List (Pair Record Outcome)) (market : Market) → HoldsLegal start was old market → OpensSafely before start end was old market
+    pub safe : (was : Start) (old : List (Pair Record Outcome)) (market : Market) → HoldsLegal start was old market → OpensSafely format.starts limit before start end was old market
     pub lengths : GrowsAtMost 2 limit before start end
-    pub made : IfSome start.content (λ held. IsMadeAfterStart format limit held start end before after)
+    pub made : IfSome start.content (λ held. IsMadeAfterStart format.starts limit held start end before after)
 
   -- The disk and the input were opened: how the journal and the input begin, what was opened, what a crash leaves meanwhile, and how much
   -- room there is for more.
@@ -167,7 +169,7 @@ module _ (format : InputFormat) (limit : ℕ) where
     pub begin : Start
     pub input : Start
     pub following : IsAfterStart format limit input window before after
-    pub begun : IfSome start.content (λ held. IsBegun format held begin input market count place end)
+    pub begun : IfSome start.content (λ held. IsBegun format.starts held begin input market count place end)
     pub moments : (was : Start) (old : List (Pair Record Outcome)) (m : Market) → HoldsLegal start was old m → AtEachMoment start end (WhileOpening begin start old)
     pub lengths : (most : ℕ) → 9 ≤ most → LeavesAtMost most start → AtEachMoment start end (HasAtMost (most + 2 * length (format.encode input)))
     pub told : IsSome end.content → IsSome start.content

@@ -1,23 +1,20 @@
 -- What keeping a journal does to the disk: what a crash may leave while new entries are added, and afterwards.
-use Rattle.std.specs.Prelude.{◌≡◌, ◌⊎◌, ℕ, ◌+◌, ◌≤◌, List, [], ◌++◌, Option, Some, IfSome, All, length, map, take}
-use Rattle.std.specs.List.{flat_map}
-use Rattle.flow_io.specs.Streams.{Grows}
+use Rattle.std.specs.Prelude.{◌≡◌, ◌⊎◌, ℕ, ◌+◌, ◌≤◌, List, ◌++◌, Option, Some, IfSome, All, length, map, take}
 use Rattle.wire_records.specs.Records.{Record}
 use Rattle.wire_records.specs.Commands.{Pair}
 use Rattle.wire_records.specs.Versions.{IsReadAs}
-use Rattle.wire_records.specs.Reading.{StartsWith}
 use Rattle.flow_orders.specs.Outcomes.{Outcome, IsAdmissibleOutcome}
 use Rattle.canonical_rule.specs.Canonical.{IsCanonicalOutcome}
-use Rattle.journal_records.specs.Pairs.{IsPair, pair_encoding}
+use Rattle.journal_records.specs.Pairs.{IsPair}
 use Rattle.journal_records.specs.Formats.{records_of}
 use Rattle.market_rules.specs.Market.{Market}
 use Rattle.market_history.specs.Histories.{Start, Empty, market_of, CanStart}
-use Rattle.market_rules.specs.Journal.{IsAnswered, Follows}
+use Rattle.market_rules.specs.Journal.{Follows}
 use Rattle.disk_edge.specs.Disks.{DiskState, AtEachMoment}
 use Rattle.disk_edge.specs.Images.{Images}
 use Rattle.journal_disk.specs.Entries.{IsNewDisk, StandsFor}
-use Rattle.journal_keeping.specs.Inputs.{InputFormat, InputBegins}
-use Rattle.journal_keeping.specs.Starts.{version_of, head_of, sources, source_format}
+use Rattle.journal_keeping.specs.Inputs.{InputStarts, InputBegins}
+use Rattle.journal_keeping.specs.Starts.{version_of, head_of}
 
 -- the entries are a valid journal that begins so, and lead to this market
 pub record IsKeptJournal (begin : Start) (pairs : List (Pair Record Outcome)) (market : Market) : Type 0 where
@@ -44,15 +41,14 @@ pub record HoldsLegal (disk : DiskState) (begin : Start) (old : List (Pair Recor
 
 -- How the journal that a call continues begins, in which market, and how its input begins. It begins as that of the old entries, in the
 -- market after them, and the input is to be one for its version; or on a new disk it begins as the input does, within the limit.
-abbrev pub GoesOnIn : InputFormat → ℕ → Option (List ℕ) → DiskState → Start → Market → Start → Market → Start → Type 0
-GoesOnIn format limit content start begin market of from input =
+abbrev pub GoesOnIn : InputStarts → ℕ → Option (List ℕ) → DiskState → Start → Market → Start → Market → Start → Type 0
+GoesOnIn starts limit content start begin market of from input =
     ((of ≡ begin) × (from ≡ market) × (input ≡ Empty (version_of begin)))
-    ⊎ (IfSome start.content IsNewDisk × (from ≡ market_of of) × (input ≡ of) × format.MayBegin of × InputBegins format limit content of)
+    ⊎ (IfSome start.content IsNewDisk × (from ≡ market_of of) × (input ≡ of) × starts.MayBegin of × InputBegins starts limit content of)
 
--- The new entries answer these records by the canonical rule, from the market after the old entries, and are one valid journal together with
--- them.
-pub record GoesOn (begin : Start) (old : List (Pair Record Outcome)) (before : Market) (records : List Record) (new : List (Pair Record Outcome)) (after : Market) : Type 0 where
-  pub answers : IsAnswered IsReadAs IsCanonicalOutcome before records new after
+-- The new entries follow by the canonical rule on the market after the old entries, and are one valid journal together with them.
+pub record GoesOn (begin : Start) (old : List (Pair Record Outcome)) (before : Market) (new : List (Pair Record Outcome)) (after : Market) : Type 0 where
+  pub steps : Follows IsReadAs IsCanonicalOutcome before new after
   pub journal : IsKeptJournal begin (old ++ new) after
 
 -- the image represents the old entries and then the first `count` of the new ones, with `count` between `least` and `most`
@@ -76,35 +72,11 @@ AtReturn begin start end old new acknowledged =
     (image : List ℕ) → end.images image
     → (start.images image × (acknowledged ≡ 0)) ⊎ (KeepsFirst begin old new acknowledged (acknowledged + 1) image ⊎ (IsStillNew start image × (acknowledged ≡ 0)))
 
--- The output gained these entries, all complete; only if a write was cut short, there may be a prefix of the last one instead of it.
-pub record StandIn (Cut : Type 0) (before after : Option (List ℕ)) (pairs : List (Pair Record Outcome)) : Type 0 where
-  pub whole : List (Pair Record Outcome)
-  pub last : List (Pair Record Outcome)
-  pub parts : pairs ≡ whole ++ last
-  pub one : length last ≤ 1
-  pub none : ¬ Cut → last ≡ []
-  pub written : (text : List ℕ) × Grows before after text × (count : ℕ) × (text ≡ flat_map pair_encoding whole ++ take count (flat_map pair_encoding last))
-
--- What a run does to the disk: these records were served, and their new entries acknowledged, all of them or all but the last.
-pub record Runs (begin : Start) (start end : DiskState) (old : List (Pair Record Outcome)) (market : Market) (records : List Record) (new : List (Pair Record Outcome)) (acknowledged : ℕ) : Type 0 where
+-- What a run does to the disk: these entries were added, and acknowledged, all of them or all but the last.
+pub record Runs (begin : Start) (start end : DiskState) (old : List (Pair Record Outcome)) (market : Market) (new : List (Pair Record Outcome)) (acknowledged : ℕ) : Type 0 where
   pub now : Market
   pub within : acknowledged ≤ length new
   pub all_but_one : length new ≤ acknowledged + 1
-  pub goes_on : GoesOn begin old market records new now
+  pub goes_on : GoesOn begin old market new now
   pub during : DuringCall begin start end old new
   pub returns : AtReturn begin start end old new acknowledged
-
--- What a run does to the disk and to the output: no records were served, or the first of the source, within the limit, if its content is
--- known; and the output gained the entries that were acknowledged.
-pub record KeepsOn (limit : ℕ) (content : Option (List ℕ)) (Cut : Type 0) (begin input : Start) (start end : DiskState) (old : List (Pair Record Outcome)) (market : Market) (before after : Option (List ℕ)) : Type 0 where
-  pub records : List Record
-  pub new : List (Pair Record Outcome)
-  pub acknowledged : ℕ
-  pub served : (records ≡ []) ⊎ IfSome content (λ bytes. StartsWith sources limit bytes input records)
-  pub runs : Runs begin start end old market records new acknowledged
-  pub written : StandIn Cut before after (take acknowledged new)
-
--- what a run does to the disk and to the output, after the beginning that it continues with
-abbrev pub KeepsIn : ℕ → Option (List ℕ) → Type 0 → Start → DiskState → DiskState → List (Pair Record Outcome) → Market → Option (List ℕ) → Option (List ℕ) → Type 0
-KeepsIn limit content Cut begin start end old market before after =
-    (of : Start) × (from : Market) × (input : Start) × GoesOnIn source_format limit content start begin market of from input × KeepsOn limit content Cut of input start end old from before after

@@ -12,7 +12,7 @@ use Rattle.journal_disk.specs.Entries.{IsHead}
 use Rattle.journal_disk.specs.Lengths.{LeavesAtMost}
 use Rattle.journal_keeping.specs.Starts.{head_of}
 use Rattle.journal_keeping.specs.Ended.{MayBeginAgain}
-use Rattle.journal_keeping.specs.Lengths.{BringsAtMost, GrowsAtMost}
+use Rattle.journal_keeping.specs.Lengths.{most_input, longest_stored_entry, BringsAtMost, GrowsAtMost}
 use Rattle.journal_keeping.specs.Openings.{Opening, New, Legal, IsOpening}
 
 -- the first entries of a valid journal are a valid journal
@@ -27,20 +27,20 @@ MorePairsStay = (begin : Start) (old new more : List (Pair Record Outcome)) (lea
 
 -- old entries and the first of the new ones are a valid journal
 abbrev pub FirstsAreLegal : Type 0
-FirstsAreLegal = (begin : Start) (old new : List (Pair Record Outcome)) (before after : Market) (records : List Record) (least most : ℕ) (image : List ℕ)
-    → GoesOn begin old before records new after → KeepsFirst begin old new least most image → IsLegalImage image
+FirstsAreLegal = (begin : Start) (old new : List (Pair Record Outcome)) (before after : Market) (least most : ℕ) (image : List ℕ)
+    → GoesOn begin old before new after → KeepsFirst begin old new least most image → IsLegalImage image
 
 -- After a crash at any moment of a call, or after its return, the disk is one that a run may begin on again.
 pub record CanBeginAgain (start end : DiskState) : Type 0 where
-  pub during : (begin of : Start) (old new : List (Pair Record Outcome)) (market before after : Market) (records : List Record)
-      → HoldsLegal start begin old market → GoesOn of old before records new after → DuringCall of start end old new
+  pub during : (begin of : Start) (old new : List (Pair Record Outcome)) (market before after : Market)
+      → HoldsLegal start begin old market → GoesOn of old before new after → DuringCall of start end old new
       → (image : List ℕ) → end.since start.clock image → IsLegalImage image
-  pub returned : (begin of : Start) (old new : List (Pair Record Outcome)) (market before after : Market) (records : List Record) (acknowledged : ℕ)
-      → HoldsLegal start begin old market → GoesOn of old before records new after → AtReturn of start end old new acknowledged
+  pub returned : (begin of : Start) (old new : List (Pair Record Outcome)) (market before after : Market) (acknowledged : ℕ)
+      → HoldsLegal start begin old market → GoesOn of old before new after → AtReturn of start end old new acknowledged
       → (image : List ℕ) → end.images image → IsLegalImage image
   -- What a crash leaves can be opened, as a new disk or as a valid journal, if a crash left at most 2^59 bytes at the start, and the source
-  -- has at most 2^32 bytes within the limit.
-  pub opened : (limit count : ℕ) (content : Option (List ℕ)) → count ≤ 2 ^ 32 → BringsAtMost limit content count → LeavesAtMost (2 ^ 59) start → GrowsAtMost 263183 limit content start end → MayBeginAgain start end
+  -- has at most `most_input` bytes within the limit.
+  pub opened : (limit count : ℕ) (content : Option (List ℕ)) → count ≤ most_input → BringsAtMost limit content count → LeavesAtMost (2 ^ 59) start → GrowsAtMost longest_stored_entry limit content start end → MayBeginAgain start end
       → (image : List ℕ) → end.since start.clock image → (opening : Opening) → IsOpening image opening
       → (opening ≡ New) ⊎ ((begin : Start) × (pairs : List (Pair Record Outcome)) × (market : Market) × (opening ≡ Legal begin pairs market))
 

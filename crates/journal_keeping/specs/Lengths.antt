@@ -1,8 +1,17 @@
 -- How many bytes a crash may leave on a disk while a journal is kept on it.
-use Rattle.std.specs.Prelude.{◌≡◌, ◌⊎◌, ℕ, ◌+◌, ◌*◌, ◌≤◌, List, length, Option, Some}
+use Rattle.std.specs.Prelude.{◌≡◌, ◌⊎◌, ℕ, ◌+◌, ◌*◌, ◌^◌, ◌≤◌, List, length, Option, Some}
 use Rattle.flow_io.specs.Windows.{WindowState}
+use Rattle.journal_records.specs.Pairs.{longest_pair}
 use Rattle.disk_edge.specs.Disks.{DiskState, AtEachMoment}
 use Rattle.journal_disk.specs.Lengths.{HasAtMost, LeavesAtMost}
+
+-- The most bytes that an input may have.
+abbrev pub most_input : ℕ
+most_input = 2 ^ 32
+
+-- The most bytes that an entry takes on a disk: the longest entry, its length and the commit byte.
+abbrev pub longest_stored_entry : ℕ
+longest_stored_entry = longest_pair + 5
 
 -- a source has at most `count` bytes within the limit: `count` is at least the limit, or at least the source's known length
 abbrev pub BringsAtMost : ℕ → Option (List ℕ) → ℕ → Type 0

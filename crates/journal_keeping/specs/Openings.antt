@@ -11,7 +11,7 @@ use Rattle.journal_disk.specs.Pairs.{RecordPair}
 use Rattle.journal_disk.specs.Entries.{IsHead, entries, IsNewDisk, HasEntries}
 use Rattle.journal_disk.specs.Recovering.{IsForeign}
 use Rattle.journal_disk.specs.Stepping.{HasEntryAt, IsDamagedAt}
-use Rattle.journal_keeping.specs.Inputs.{InputFormat}
+use Rattle.journal_keeping.specs.Inputs.{InputStarts}
 use Rattle.journal_keeping.specs.Starts.{version_of, head_of}
 use Rattle.journal_keeping.specs.Keeping.{IsKeptJournal}
 
@@ -55,7 +55,7 @@ KeepNone bytes = (¬ IsOpening bytes New) × ((begin : Start) (pairs : List (Pai
 
 -- How a disk with these bytes is continued: the beginning of its journal, its old entries and their market, and how the input has to begin.
 -- A new disk has no entries, and begins as the input does.
-abbrev pub OpensAs : InputFormat → List ℕ → Start → List (Pair Record Outcome) → Market → Start → Type 0
-OpensAs format bytes begin old market input =
+abbrev pub OpensAs : InputStarts → List ℕ → Start → List (Pair Record Outcome) → Market → Start → Type 0
+OpensAs starts bytes begin old market input =
     (IsOpening bytes (Legal begin old market) × (input ≡ Empty (version_of begin)))
-    ⊎ (IsOpening bytes New × (old ≡ []) × (market ≡ market_of begin) × (input ≡ begin) × format.MayBegin begin)
+    ⊎ (IsOpening bytes New × (old ≡ []) × (market ≡ market_of begin) × (input ≡ begin) × starts.MayBegin begin)

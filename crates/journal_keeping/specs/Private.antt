@@ -1,7 +1,7 @@
--- For private functions alone: what serving a record, keeping its entry and writing it does.
-use Rattle.std.specs.Prelude.{◌≡◌, ◌≢◌, ◌<◌, ◌≤◌, ◌+◌, ◌*◌, ◌^◌, ◌⊎◌, ℕ, List, [], ◌∷◌, ◌++◌, length, drop, take, map, Option, IsSome, Result, Ok, Err, ⊤}
+-- For private functions alone: what adding entries does, and what serving a record, keeping its entry and writing it does.
+use Rattle.std.specs.Prelude.{◌≡◌, ◌≢◌, ◌<◌, ◌≤◌, ◌+◌, ◌*◌, ◌^◌, ◌⊎◌, ℕ, List, [], ◌∷◌, ◌++◌, length, drop, map, Option, IsSome, Result, Ok, Err, ⊤}
 use Rattle.std.specs.List.{flat_map}
-use Rattle.flow_io.specs.Streams.{Grows, GrowsByPrefix}
+use Rattle.flow_io.specs.Streams.{Grows}
 use Rattle.flow_io.specs.Windows.{WindowState}
 use Rattle.wire_records.specs.Records.{Record}
 use Rattle.wire_records.specs.Commands.{Pair}
@@ -27,20 +27,43 @@ use Rattle.disk_edge.specs.Disks.{DiskState, AtEachMoment}
 use Rattle.journal_disk.specs.Pairs.{RecordPair}
 use Rattle.journal_disk.specs.Entries.{Head, WithOrWithout, Keeps}
 use Rattle.journal_keeping.specs.Starts.{head_of}
-use Rattle.journal_keeping.specs.Keeping.{IsKeptJournal, GoesOn, Runs, StandIn}
+use Rattle.journal_keeping.specs.Keeping.{IsKeptJournal, GoesOn, Runs}
+use Rattle.journal_keeping.specs.Lengths.{longest_stored_entry}
+use Rattle.journal_keeping.specs.Outputs.{Output, Gains}
+use Rattle.journal_keeping.specs.Dialogs.{KeepsJust, asked_of}
 use Rattle.journal_keeping.specs.Serving.{HasKept}
-use Rattle.journal_keeping.specs.Pacing.{asked_of}
 use Rattle.journal_keeping.specs.declared.fault.ServeFault.{ServeFault}
 use Rattle.journal_keeping.specs.declared.fault.ServeFault.TheVariants.{Disk, Write, Memory}
 
--- Up to `left` bytes of records can still be served and kept: there are numbers for their orders, and places on the disk for their entries.
-abbrev pub IsReady : Market → ℕ → ℕ → Type 0
-IsReady market place left = HasNumbers market left × (place + 263183 * left ≤ 2 ^ 61)
+-- ---- entries that are added, whatever the input is
 
 -- a disk that kept entries keeps one more, and at each moment since a crash left them with it or without it
 pub record KeepsOneMore (pair : Pair Record Outcome) (from to : ℕ) (old new : DiskState) : Type 0 where
   pub keeps : (head : Head) (pairs : List RecordPair) → Keeps head pairs from old → Keeps head (pairs ++ records_of pair ∷ []) to new
   pub moments : (head : Head) (pairs : List RecordPair) → Keeps head pairs from old → AtEachMoment old new (WithOrWithout head pairs (records_of pair))
+
+-- `P` holds of each valid journal that led to this market, and whose entries the disk keeps up to the place.
+abbrev pub IfKept : Market → ℕ → DiskState → (Start → List (Pair Record Outcome) → Type 0) → Type 0
+IfKept market place disk P = (begin : Start) (old : List (Pair Record Outcome)) → IsKeptJournal begin old market → Keeps (head_of begin) (map records_of old) place disk → P begin old
+
+-- A disk that keeps entries of a valid journal, which led to a market, keeps these after them: what a crash left meanwhile, and that its content wasn't lost.
+pub record HasAdded (start now : DiskState) (before market : Market) (from place : ℕ) (new : List (Pair Record Outcome)) : Type 0 where
+  pub kept : IfKept before from start (λ begin old. HasKept begin start now old before place new market)
+  pub told : IsSome now.content → IsSome start.content
+
+-- Adding entries stopped: these are acknowledged and were answered with these texts, and `more` is the one that was being kept, if one was. Unless the disk
+-- failed, there is none, and the disk keeps just them.
+pub record HasStopped (Failed Cut : Type 0) (before now : Market) (from : ℕ) (start end : DiskState) (out later : Output) (new more : List (Pair Record Outcome)) (texts : List (List ℕ)) : Type 0 where
+  pub goes_on : IfKept before from start (λ begin old. GoesOn begin old before new now)
+  pub runs : IfKept before from start (λ begin old. Runs begin start end old before (new ++ more) (length new))
+  pub gained : Gains Cut out later texts
+  pub whole : ¬ Failed → (more ≡ []) × IfKept before from start (λ begin old. KeepsJust end begin (old ++ new))
+
+-- ---- records that are served
+
+-- Up to `left` bytes of records can still be served and kept: there are numbers for their orders, and places on the disk for their entries.
+abbrev pub IsReady : Market → ℕ → ℕ → Type 0
+IsReady market place left = HasNumbers market left × (place + longest_stored_entry * left ≤ 2 ^ 61)
 
 -- the first record of the bytes was answered so, by one step of the market, and the entry is within the limits of a journal
 pub record IsServed (bytes : List ℕ) (old : Market) (pair : Pair Record Outcome) (new : Market) : Type 0 where
@@ -51,7 +74,7 @@ pub record IsServed (bytes : List ℕ) (old : Market) (pair : Pair Record Outcom
   pub fits : IsPair pair
 
 -- the first record of the bytes was served, its entry kept, and then written
-pub record TakesNext (n : ℕ) (bytes : List ℕ) (old new : Market) (from to : ℕ) (disk later : DiskState) (before after : Option (List ℕ)) : Type 0 where
+pub record TakesNext (n : ℕ) (bytes : List ℕ) (old new : Market) (from to : ℕ) (disk later : DiskState) (out after : Output) : Type 0 where
   pub pair : Pair Record Outcome
   pub served : IsServed bytes old pair new
   pub size : n ≡ length (commands.units.encode pair.asked)
@@ -59,14 +82,14 @@ pub record TakesNext (n : ℕ) (bytes : List ℕ) (old new : Market) (from to : 
   pub following : served.rest ≡ drop n bytes
   pub keeps : KeepsOneMore pair from to disk later
   pub told : IsSome later.content → IsSome disk.content
-  pub written : Grows before after (pair_encoding pair)
+  pub gained : Gains ⊥ out after (pair_encoding pair ∷ [])
 
 -- what the bytes begin with, and what was done with it
-abbrev pub IsTakenNext : Prefix → List ℕ → Market → Market → ℕ → ℕ → DiskState → DiskState → Option (List ℕ) → Option (List ℕ) → Type 0
-IsTakenNext (Taken n) bytes old new from to disk later before after = TakesNext n bytes old new from to disk later before after
-IsTakenNext NoBytes bytes old new from to disk later before after = BeginsWithNone commands.units bytes × (bytes ≡ []) × (¬ commands.IsOverlong bytes)
-IsTakenNext Overlong bytes old new from to disk later before after = BeginsWithNone commands.units bytes × commands.IsOverlong bytes
-IsTakenNext Short bytes old new from to disk later before after = BeginsWithNone commands.units bytes × (bytes ≢ []) × (¬ commands.IsOverlong bytes)
+abbrev pub IsTakenNext : Prefix → List ℕ → Market → Market → ℕ → ℕ → DiskState → DiskState → Output → Output → Type 0
+IsTakenNext (Taken n) bytes old new from to disk later out after = TakesNext n bytes old new from to disk later out after
+IsTakenNext NoBytes bytes old new from to disk later out after = BeginsWithNone commands.units bytes × (bytes ≡ []) × (¬ commands.IsOverlong bytes)
+IsTakenNext Overlong bytes old new from to disk later out after = BeginsWithNone commands.units bytes × commands.IsOverlong bytes
+IsTakenNext Short bytes old new from to disk later out after = BeginsWithNone commands.units bytes × (bytes ≢ []) × (¬ commands.IsOverlong bytes)
 
 -- `Same` holds if nothing was taken: then nothing changed
 abbrev pub IsStill : Prefix → Type 0 → Type 0
@@ -80,23 +103,19 @@ abbrev pub HasAllocating : Market → List ℕ → Type 0
 HasAllocating market bytes = (asked : Record) × (rest : List ℕ) × BeginsWith commands.units bytes asked rest × RecordMayAllocate market asked
 
 -- why the first record wasn't served, kept and written, and whether the disk and the output are unchanged
-module _ (bytes : List ℕ) (old : Market) (from to : ℕ) (disk later : DiskState) (before after : Option (List ℕ)) (SameDisk SameOut : Type 0) where
+module _ (bytes : List ℕ) (old : Market) (from to : ℕ) (disk later : DiskState) (out after : Output) (SameDisk : Type 0) where
   abbrev pub BreaksNext : ServeFault → Type 0
-  BreaksNext Memory = SameDisk × SameOut × HasAllocating old bytes
+  BreaksNext Memory = SameDisk × (after ≡ out) × HasAllocating old bytes
   BreaksNext Disk =
-      SameOut × (pair : Pair Record Outcome) × (new : Market) × IsServed bytes old pair new
+      (after ≡ out) × (pair : Pair Record Outcome) × (new : Market) × IsServed bytes old pair new
       × ((head : Head) (pairs : List RecordPair) → Keeps head pairs from disk → AtEachMoment disk later (WithOrWithout head pairs (records_of pair)))
-  BreaksNext Write = (pair : Pair Record Outcome) × (new : Market) × IsServed bytes old pair new × KeepsOneMore pair from to disk later × GrowsByPrefix before after (pair_encoding pair)
+  BreaksNext Write =
+      (pair : Pair Record Outcome) × (new : Market) × IsServed bytes old pair new × KeepsOneMore pair from to disk later × (IsSome later.content → IsSome disk.content)
+      × Gains ⊤ out after (pair_encoding pair ∷ [])
 
 -- the entries so far, and one more for a record that was taken
 abbrev pub Adds : List (Pair Record Outcome) → Record → List (Pair Record Outcome) → ⊤ → ⊤ → Type 0
 Adds old asked new before after = (pair : Pair Record Outcome) × (pair.asked ≡ asked) × (new ≡ old ++ pair ∷ [])
-
--- What serving has done so far, from a market and a place: these entries were kept and written.
-pub record SoFar (start now : DiskState) (before market : Market) (from place : ℕ) (held holds : Option (List ℕ)) (new : List (Pair Record Outcome)) : Type 0 where
-  pub written : Grows held holds (flat_map pair_encoding new)
-  pub kept : (begin : Start) (old : List (Pair Record Outcome)) → IsKeptJournal begin old before → Keeps (head_of begin) (map records_of old) from start → HasKept begin start now old before place (asked_of new) new market
-  pub told : IsSome now.content → IsSome start.content
 
 -- It broke off after the entries that were written, at the record of the next entry, if there is one. If memory ran out, that record may
 -- allocate.
@@ -112,17 +131,16 @@ IfEnded (Err (Broken Memory)) P = P
 IfEnded (Err (Broken Disk)) P = ⊤
 IfEnded (Err (Broken Write)) P = ⊤
 
--- The records from those that a window held on were served: these entries were kept and written, and it broke off at the next one, if there
--- is one.
-pub record ServesOn (window : WindowState) (rest left : Option (List ℕ)) (result : Result Ending (TakeFault ServeFault)) (before : Market) (from : ℕ) (start end : DiskState) (held holds : Option (List ℕ)) : Type 0 where
+-- The records from those that a window held on were served: the entries of these were kept and written, and it broke off at the next one, whose entry
+-- is the last one, if it was served.
+pub record ServesOn (window : WindowState) (rest left : Option (List ℕ)) (result : Result Ending (TakeFault ServeFault)) (before : Market) (from : ℕ) (start end : DiskState) (out later : Output) : Type 0 where
+  pub read : List (Pair Record Outcome)
+  pub last : List (Pair Record Outcome)
   pub new : List (Pair Record Outcome)
   pub more : List (Pair Record Outcome)
-  pub acknowledged : ℕ
+  pub all : new ++ more ≡ read ++ last
   pub market : Market
-  pub so_far : (begin : Start) (old : List (Pair Record Outcome)) → IsKeptJournal begin old before → Keeps (head_of begin) (map records_of old) from start → GoesOn begin old before (asked_of new) new market
-  pub goes : GoesFrom commands Adds (Names market new more) window rest left result [] new tt tt
-  pub runs : (begin : Start) (old : List (Pair Record Outcome)) → IsKeptJournal begin old before → Keeps (head_of begin) (map records_of old) from start → Runs begin start end old before (asked_of (new ++ more)) (new ++ more) acknowledged
-  pub written : StandIn (result ≡ Err (Broken Write)) held holds (take acknowledged (new ++ more))
-  pub whole : (text : List ℕ) × Grows held holds (flat_map pair_encoding new ++ text)
-  pub ended : IfEnded result ((more ≡ []) × (acknowledged ≡ length new)
-      × ((begin : Start) (old : List (Pair Record Outcome)) → IsKeptJournal begin old before → Keeps (head_of begin) (map records_of old) from start → (place : ℕ) × Keeps (head_of begin) (map records_of (old ++ new)) place end))
+  pub goes : GoesFrom commands Adds (Names market read last) window rest left result [] read tt tt
+  pub stops : HasStopped (result ≡ Err (Broken Disk)) (result ≡ Err (Broken Write)) before market from start end out later new more (map pair_encoding new)
+  pub written : (text : List ℕ) × Grows out.held later.held (flat_map pair_encoding read ++ text)
+  pub ended : IfEnded result ((last ≡ []) × (new ≡ read) × (more ≡ []))

@@ -14,10 +14,10 @@ use Rattle.journal_disk.specs.Entries.{Keeps}
 use Rattle.journal_keeping.specs.Starts.{head_of}
 use Rattle.journal_keeping.specs.Keeping.{GoesOn, DuringCall}
 
--- So far these records were served, from the market after the old entries to this one, and each new entry is kept. The disk has the entries
+-- So far these new entries were added, from the market after the old ones to this one, and each is kept. The disk has the entries
 -- up to the appender's place, and at each moment since the start a crash left the start's images or the first of the entries.
-pub record HasKept (begin : Start) (start now : DiskState) (old : List (Pair Record Outcome)) (before : Market) (place : ℕ) (records : List Record) (new : List (Pair Record Outcome)) (market : Market) : Type 0 where
-  pub goes_on : GoesOn begin old before records new market
+pub record HasKept (begin : Start) (start now : DiskState) (old : List (Pair Record Outcome)) (before : Market) (place : ℕ) (new : List (Pair Record Outcome)) (market : Market) : Type 0 where
+  pub goes_on : GoesOn begin old before new market
   pub keeps : Keeps (head_of begin) (map records_of (old ++ new)) place now
   pub during : DuringCall begin start now old new
 

@@ -1,5 +1,5 @@
 -- How a kept file begins, and how a source of commands begins: with a checkpoint, or without one.
-use Rattle.std.specs.Prelude.{◌⊎◌, ◌<◌, ℕ, List, ◌++◌, take, Option, Some, None, IfSome, ⊤}
+use Rattle.std.specs.Prelude.{◌⊎◌, ◌<◌, ℕ, List, ◌++◌, Some, None, ⊤}
 use Rattle.wire_records.specs.Records.{Record}
 use Rattle.wire_records.specs.Grammars.{BeginsWith, BeginsWithNone}
 use Rattle.wire_records.specs.Reading.{Format}
@@ -8,7 +8,7 @@ use Rattle.wire_records.specs.declared.version.Version.{Version}
 use Rattle.market_snapshot.specs.Checkpoints.{checkpoint_bytes, HasCheckpointMagic}
 use Rattle.market_history.specs.Histories.{Start, Empty, Kept, CanStart}
 use Rattle.journal_disk.specs.Entries.{Head}
-use Rattle.journal_keeping.specs.Inputs.{InputFormat, BeginsUnsound}
+use Rattle.journal_keeping.specs.Inputs.{InputStarts, BeginsUnsound}
 
 -- the version of a journal that begins so
 abbrev pub version_of : Start → Version
@@ -37,22 +37,14 @@ sources = record {
 abbrev pub BeginsOtherwise : List ℕ → Type 0
 BeginsOtherwise bytes = BeginsWithNone sources.magics bytes × (¬ BeginsUnsound bytes)
 
--- the bytes begin as no source of a new disk, and with no unsound checkpoint, or not with the magic of the version of a disk
-abbrev pub IsNoSource : Option Version → List ℕ → Type 0
-IsNoSource None bytes = BeginsOtherwise bytes
-IsNoSource (Some version) bytes = (body : List ℕ) → ¬ BeginsWith commands.magics bytes version body
-
 -- so many bytes were taken, which have no whole beginning of a source: fewer than eight, or those of a checkpoint
 abbrev pub IsUnbegun : ℕ → List ℕ → Type 0
 IsUnbegun taken bytes = BeginsWithNone sources.magics bytes × ((taken < 8) ⊎ HasCheckpointMagic bytes)
 
 -- how a source begins; a new disk begins as its source does
-abbrev pub source_format : InputFormat
-source_format = record {
-  encode = source_start;
+abbrev pub source_starts : InputStarts
+source_starts = record {
   Begins = λ bytes input body. BeginsWith sources.magics bytes input body;
   MayBegin = λ begin. ⊤;
-  IsOther = λ wanted limit content. IfSome content (λ bytes. IsNoSource wanted (take limit bytes));
   IsPart = λ wanted taken bytes. IsUnbegun taken bytes;
-  ahead = 1030;
 }

@@ -3,7 +3,8 @@ ghost use Rattle.std.specs.Prelude.{◌≡◌, ◌≤◌, ◌+◌, ◌^◌, Some
 ghost use Rattle.flow_io.specs.Faults.{Blames};
 ghost use Rattle.flow_io.specs.Streams.{TakesAtMost};
 ghost use Rattle.market_history.specs.Histories.{Empty};
-ghost use Rattle.journal_keeping.specs.Inputs.{NotTaken, IsAfterStart};
+ghost use Rattle.journal_keeping.specs.Taking.{NotTaken, IsAfterStart};
+ghost use Rattle.journal_keeping.specs.Lengths.{most_input};
 ghost use Rattle.journal_keeping.specs.Beginning.{TakesStart};
 
 use crate::fault::InputFault;
@@ -27,7 +28,7 @@ pub struct NewInput<I> {
 pub trait Input {
     ghost use Rattle.std.specs.Prelude.{Option, List, ℕ};
     ghost use Rattle.flow_io.specs.Windows.{WindowState};
-    ghost use Rattle.journal_keeping.specs.Inputs.{InputFormat};
+    ghost use Rattle.journal_keeping.specs.Taking.{InputFormat};
 
     // How it begins.
     ghost format: { InputFormat };
@@ -43,7 +44,7 @@ pub trait Input {
         source: &mut S,
         version: Version,
     ) -> Result<Self, InputFault>
-        requires few { limit ≤ 2 ^ 32 }
+        requires few { limit ≤ most_input }
         ensures opens { IfOk result (λ input. IsAfterStart format limit (Empty version) (window input) (S.rest source.old) (S.rest source.new)) }
         ensures opened { IfOk result (λ input. is_open input (S.rest source.new)) }
         ensures fails { IfErr result (NotTaken format limit (Some version) (S.rest source.old) (S.rest source.new)) }
@@ -56,7 +57,7 @@ pub trait Input {
         limit: u64,
         source: &mut S,
     ) -> Result<NewInput<Self>, InputFault>
-        requires few { limit ≤ 2 ^ 32 }
+        requires few { limit ≤ most_input }
         ensures opens { IfOk result (λ new. TakesStart format limit new.market new.stored.items (window new.input) (S.rest source.old) (S.rest source.new)) }
         ensures opened { IfOk result (λ new. is_open new.input (S.rest source.new)) }
         ensures numbers { IfOk result (λ new. new.market.next_order ≤ 2 ^ 63) }

@@ -8,11 +8,13 @@ ghost use Rattle.flow_orders.specs.Outcomes.{Outcome};
 ghost use Rattle.market_rules.specs.Market.{Market};
 ghost use Rattle.market_history.specs.Histories.{Start};
 ghost use Rattle.journal_disk.specs.Looking.{OnlyLooks};
-ghost use Rattle.journal_keeping.specs.Starts.{source_format};
-ghost use Rattle.journal_keeping.specs.Keeping.{HoldsLegal, KeepsIn};
+ghost use Rattle.journal_keeping.specs.Starts.{source_starts};
+ghost use Rattle.journal_keeping.specs.Keeping.{HoldsLegal};
+ghost use Rattle.journal_keeping.specs.Outputs.{output};
+ghost use Rattle.journal_keeping.specs.Dialogs.{ServesIn, record_dialog};
 ghost use Rattle.journal_keeping.specs.Openings.{KeepNone};
 ghost use Rattle.journal_keeping.specs.Making.{IsMadeAfterStart};
-ghost use Rattle.journal_keeping.specs.Lengths.{GrowsAtMost};
+ghost use Rattle.journal_keeping.specs.Lengths.{most_input, longest_stored_entry, GrowsAtMost};
 ghost use Rattle.journal_keeping.specs.Pacing.{KeepsPace, RunsOut};
 ghost use Rattle.journal_keeping.specs.Ended.{ComesTo, IsRefusal, MayBeginAgain};
 
@@ -54,25 +56,26 @@ pub fn keep<S: Source, D: Disk, K: Sink>(
     disk: &mut D,
     out: &mut K,
 ) -> Result<(), KeepFault>
-    requires few { limit ≤ 2 ^ 32 }
+    requires few { limit ≤ most_input }
     ensures keeps { (begin : Start) (old : List (Pair Record Outcome)) (market : Market) → HoldsLegal (D.state disk.old) begin old market →
-        KeepsIn limit (S.rest source.old) (result ≡ Err KeepFault.Write) begin (D.state disk.old) (D.state disk.new) old market
-        (K.held out.old) (K.held out.new) }
+        ServesIn record_dialog limit (S.rest source.old) (result ≡ Err KeepFault.Write) begin (D.state disk.old) (D.state disk.new) old market
+        (output K.held K.calls K.faults out.old) (output K.held K.calls K.faults out.new) }
     ensures again { (begin : Start) (old : List (Pair Record Outcome)) (market : Market) → HoldsLegal (D.state disk.old) begin old market →
         MayBeginAgain (D.state disk.old) (D.state disk.new) }
-    ensures lengths { IfSome (D.state disk.old).content (λ _. GrowsAtMost 263183 limit (S.rest source.old) (D.state disk.old) (D.state disk.new)) }
+    ensures lengths { IfSome (D.state disk.old).content (λ _. GrowsAtMost longest_stored_entry limit (S.rest source.old) (D.state disk.old) (D.state disk.new)) }
     ensures comes { IfSome (D.state disk.old).content
-        (λ held. ComesTo limit held (S.rest source.old) (D.state disk.new) (K.held out.old) (K.held out.new) result) }
+        (λ held. ComesTo limit held (S.rest source.old) (D.state disk.new) (output K.held K.calls K.faults out.old) (output K.held K.calls K.faults out.new) result) }
     ensures legal { (begin : Start) (old : List (Pair Record Outcome)) (market : Market) → HoldsLegal (D.state disk.old) begin old market →
         IfSome (D.state disk.old).content (λ held. length held ≤ 2 ^ 60) → ¬ IsRefusal result }
     ensures untouched { IfSome (D.state disk.old).content
         (λ held. KeepNone held → OnlyLooks (D.state disk.old) (D.state disk.new) × (source.new ≡ source.old) × (out.new ≡ out.old)) }
     ensures made { IfSome (D.state disk.old).content
-        (λ held. IsMadeAfterStart source_format limit held (D.state disk.old) (D.state disk.new) (S.rest source.old) (S.rest source.new)) }
+        (λ held. IsMadeAfterStart source_starts limit held (D.state disk.old) (D.state disk.new) (S.rest source.old) (S.rest source.new)) }
     ensures taken { TakesAtMost (S.rest source.old) (S.rest source.new) (limit + 1) }
-    ensures paced { KeepsPace limit (S.rest source.old) (S.rest source.new) (K.held out.old) (K.held out.new) result }
+    ensures paced { KeepsPace limit (S.rest source.old) (S.rest source.new) (output K.held K.calls K.faults out.old) (output K.held K.calls K.faults out.new) result }
     ensures allocates { result ≡ Err KeepFault.Memory → IfSome (D.state disk.old).content
-        (λ held. RunsOut limit held (S.rest source.old) (S.rest source.new) (D.state disk.new) (K.held out.old) (K.held out.new)) }
+        (λ held. RunsOut limit held (S.rest source.old) (S.rest source.new) (D.state disk.new)
+        (output K.held K.calls K.faults out.old) (output K.held K.calls K.faults out.new)) }
     ensures unasked { IsRefusal result → (source.new ≡ source.old) × (out.new ≡ out.old) }
     ensures disk_cause { Blames (result ≡ Err KeepFault.Disk) (D.state disk.old).faults (D.state disk.new).faults }
     ensures source_cause { Blames (result ≡ Err KeepFault.Read) (S.faults source.old) (S.faults source.new) }

@@ -16,6 +16,7 @@ ghost use Rattle.journal_disk.specs.Recovering.{IsFound};
 ghost use Rattle.journal_keeping.specs.Starts.{version_of, head_of};
 ghost use Rattle.journal_keeping.specs.Keeping.{HoldsLegal};
 ghost use Rattle.journal_keeping.specs.Openings.{KeepNone};
+ghost use Rattle.journal_keeping.specs.Lengths.{most_input};
 ghost use Rattle.journal_keeping.specs.Beginning.{IsOpened, IsKeptOn, IsStored, OpensNot, WhileOpening, HasNotBegun, HasBegun};
 
 use crate::disk_start::first_market;
@@ -162,7 +163,7 @@ fn begin_kept<I: Input, S: Source, D: Disk>(
     version: Version,
     pair: Vec<u8>,
 ) -> Result<Ready<I>, BeginFault>
-    requires few { limit ≤ 2 ^ 32 }
+    requires few { limit ≤ most_input }
     requires found { IfSome (D.state disk.old).content (λ held. IsFound (Some version) held (D.state disk.old)) }
     requires room { longest_plain_pair ≤ vec_capacity pair }
     ensures begun { IfOk result (λ b. HasBegun I.format limit (D.state disk.old) (D.state disk.new) (I.window b.input) (S.rest source.old) (S.rest source.new)
@@ -192,7 +193,7 @@ fn begin_new<I: Input + Drop, S: Source, D: Disk>(
     disk: &mut D,
     pair: Vec<u8>,
 ) -> Result<Ready<I>, BeginFault>
-    requires few { limit ≤ 2 ^ 32 }
+    requires few { limit ≤ most_input }
     requires found { IfSome (D.state disk.old).content (λ held. IsFound None held (D.state disk.old)) }
     requires room { longest_plain_pair ≤ vec_capacity pair }
     ensures begun { IfOk result (λ b. HasBegun I.format limit (D.state disk.old) (D.state disk.new) (I.window b.input) (S.rest source.old) (S.rest source.new)
@@ -239,7 +240,7 @@ pub fn begin<I: Input + Drop, S: Source, D: Disk>(
     source: &mut S,
     disk: &mut D,
 ) -> Result<Ready<I>, BeginFault>
-    requires few { limit ≤ 2 ^ 32 }
+    requires few { limit ≤ most_input }
     ensures begun { IfOk result (λ b. HasBegun I.format limit (D.state disk.old) (D.state disk.new) (I.window b.input) (S.rest source.old) (S.rest source.new)
         b.writer.session b.writer.entries b.writer.appender) }
     ensures opened { IfOk result (λ b. I.is_open b.input (S.rest source.new)) }

@@ -16,7 +16,7 @@ pub(crate) struct Records {
 
 impl Input for Records {
     ghost use Rattle.wire_records.specs.Records.{longest_record};
-    ghost use Rattle.journal_keeping.specs.Starts.{source_format};
+    ghost use Rattle.journal_keeping.specs.Taking.{source_format};
 
     ghost format = { source_format };
 

@@ -9,8 +9,8 @@ ghost use Rattle.wire_records.specs.Formats.{commands};
 ghost use Rattle.market_rules.specs.Market.{Market as market_value};
 ghost use Rattle.market_snapshot.specs.Checkpoints.{IsCheckpoint, checkpoint_bytes};
 ghost use Rattle.market_history.specs.Histories.{Empty};
-ghost use Rattle.journal_keeping.specs.Inputs.{NotTaken};
-ghost use Rattle.journal_keeping.specs.Starts.{source_format};
+ghost use Rattle.journal_keeping.specs.Taking.{NotTaken, source_format};
+ghost use Rattle.journal_keeping.specs.Lengths.{most_input};
 ghost use Rattle.journal_keeping.specs.Beginning.{IsAfterSource, OpensStart};
 
 use crate::fault::InputFault;
@@ -89,7 +89,7 @@ fn after_checkpoint<S: Source>(
     requires room { window.room ≡ longest_record }
     requires open { window.over ≡ None }
     requires within { window.place + length window.held ≤ window.limit }
-    requires few { window.limit ≤ 2 ^ 32 }
+    requires few { window.limit ≤ most_input }
     requires placed { window.place ≡ length (checkpoint_bytes market) }
     requires checkpoint { checkpoint.items ≡ checkpoint_bytes market }
     ensures opens { IfOk result (λ o. (before : Option (List ℕ)) → IsCheckpoint market (checkpoint_bytes market) →
@@ -131,7 +131,7 @@ fn start_at<S: Source>(
     requires room { window.room ≡ longest_record }
     requires open { window.over ≡ None }
     requires within { window.place + length window.held ≤ window.limit }
-    requires few { window.limit ≤ 2 ^ 32 }
+    requires few { window.limit ≤ most_input }
     requires first { window.place ≡ 0 }
     ensures opens { IfOk result (λ o. (before : Option (List ℕ)) → Takes before (S.rest source.old) window.held →
         OpensStart window.limit o.market o.stored.items o.window before (S.rest source.new)) }
@@ -170,7 +170,7 @@ pub(crate) fn open_start<S: Source>(
     limit: u64,
     source: &mut S,
 ) -> Result<OpenStart, InputFault>
-    requires few { limit ≤ 2 ^ 32 }
+    requires few { limit ≤ most_input }
     ensures opens { IfOk result (λ o. OpensStart limit o.market o.stored.items o.window (S.rest source.old) (S.rest source.new)) }
     ensures numbers { IfOk result (λ o. o.market.next_order ≤ 2 ^ 63) }
     ensures of_source { IfErr result (NotTaken source_format limit None (S.rest source.old) (S.rest source.new)) }

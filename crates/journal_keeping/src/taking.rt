@@ -2,9 +2,8 @@
 //!
 //! The loop is this module's own. That of `file_units` takes what is done with a unit as a trait whose ghost states are in `Type 0`,
 //! but the state of a disk, with the sets of images that a crash may leave, is in `Type 1`.
-ghost use Rattle.std.specs.Prelude.{◌≡◌, ◌≢◌, ◌≤◌, ◌<◌, ◌+◌, ◌-◌, ◌*◌, ◌^◌, ◌⊎◌, ◌++◌, ℕ, List, [], ◌∷◌, length, map, Some, None, Err, IsErr, IfSome, IsSome, IfOk, IfErr, OnOk, OnErr, vec_capacity};
+ghost use Rattle.std.specs.Prelude.{◌≡◌, ◌≢◌, ◌≤◌, ◌<◌, ◌+◌, ◌-◌, ◌*◌, ◌^◌, ◌⊎◌, ◌++◌, ℕ, List, [], ◌∷◌, length, map, Some, None, Err, IsErr, IfSome, IsSome, IfOk, IfErr, OnOk, OnErr, vec_capacity, ⊤};
 ghost use Rattle.flow_io.specs.Faults.{Blames};
-ghost use Rattle.flow_io.specs.Streams.{Grows, GrowsByPrefix};
 ghost use Rattle.flow_io.specs.Windows.{Fills, IsWithin};
 ghost use Rattle.flow_io.specs.declared.window.InputEnd.TheVariants.{Source as source_end, Limit as limit_end};
 ghost use Rattle.wire_records.specs.Records.{Record, AreBytes};
@@ -22,7 +21,8 @@ ghost use Rattle.journal_disk.specs.Entries.{Head, WithOrWithout, Keeps};
 ghost use Rattle.journal_disk.specs.Lengths.{ReachesAtMost};
 ghost use Rattle.journal_keeping.specs.Starts.{head_of};
 ghost use Rattle.journal_keeping.specs.Keeping.{IsKeptJournal};
-ghost use Rattle.journal_keeping.specs.Lengths.{HasYetAtMost};
+ghost use Rattle.journal_keeping.specs.Lengths.{longest_stored_entry, HasYetAtMost};
+ghost use Rattle.journal_keeping.specs.Outputs.{output, Gains};
 ghost use Rattle.journal_keeping.specs.Private.{IsReady, IsTakenNext, IsStill, BreaksNext, ServesOn};
 
 use crate::fault::ServeFault;
@@ -45,10 +45,12 @@ pub struct Writer {
     pub pair: Vec<u8>,
 }
 
-// Keeps an entry on the disk, and then writes it to `out`.
-fn put_pair<D: Disk, K: Sink>(
+/// Keeps an entry on the disk, and then writes its text to `out`, by one write. `Disk` and `Write` come only if the count of faults of the disk or of `out`
+/// rose; at `Disk` nothing was written, and at `Write` the entry is kept. Costs two writes of the disk with a sync each, and one write of `out`.
+pub fn keep_entry<D: Disk, K: Sink>(
     appender: &mut Appender,
     pair: &[u8],
+    text: &[u8],
     disk: &mut D,
     out: &mut K,
 ) -> Result<(), ServeFault>
@@ -63,17 +65,17 @@ fn put_pair<D: Disk, K: Sink>(
         Keeps head pairs appender.old (D.state disk.old) → IsRecordPair last → pair.now ≡ pair_bytes last →
         AtEachMoment (D.state disk.old) (D.state disk.new) (WithOrWithout head pairs last) }
     ensures lengths { ReachesAtMost (appender.old + (6 + length pair.now)) (D.state disk.old) (D.state disk.new) }
-    ensures told { OnOk result (IsSome (D.state disk.new).content → IsSome (D.state disk.old).content) }
+    ensures told { result ≢ Err ServeFault.Disk → IsSome (D.state disk.new).content → IsSome (D.state disk.old).content }
     ensures place { OnOk result (appender.new ≡ appender.old + (5 + length pair.now)) }
-    ensures written { OnOk result (Grows (K.held out.old) (K.held out.new) pair.now) }
-    ensures cut { result ≡ Err ServeFault.Write → GrowsByPrefix (K.held out.old) (K.held out.new) pair.now }
+    ensures gained { OnOk result (Gains ⊥ (output K.held K.calls K.faults out.old) (output K.held K.calls K.faults out.new) (text.now ∷ [])) }
+    ensures cut { result ≡ Err ServeFault.Write → Gains ⊤ (output K.held K.calls K.faults out.old) (output K.held K.calls K.faults out.new) (text.now ∷ []) }
     ensures unasked { result ≡ Err ServeFault.Disk → out.new ≡ out.old }
     ensures refused { IfErr result (λ fault. (fault ≡ ServeFault.Disk) ⊎ (fault ≡ ServeFault.Write)) }
     ensures disk_cause { Blames (result ≡ Err ServeFault.Disk) (D.state disk.old).faults (D.state disk.new).faults }
     ensures out_cause { Blames (result ≡ Err ServeFault.Write) (K.faults out.old) (K.faults out.new) }
 {
     match appender.append(disk, pair) {
-        Ok(()) => match out.write(pair) {
+        Ok(()) => match out.write(text) {
             Ok(()) => Ok(()),
             Err(_) => Err(ServeFault::Write),
         },
@@ -93,24 +95,31 @@ fn keep_next<D: Disk, K: Sink>(
     requires kept { IfSome (D.state disk.old).content
         (λ _. (head : Head) × (pairs : List RecordPair) × Keeps head pairs writer.old.appender (D.state disk.old)) }
     ensures taken { IfOk result (λ prefix. IsTakenNext prefix bytes.now writer.old.session writer.new.session
-        writer.old.appender writer.new.appender (D.state disk.old) (D.state disk.new) (K.held out.old) (K.held out.new)) }
+        writer.old.appender writer.new.appender (D.state disk.old) (D.state disk.new)
+        (output K.held K.calls K.faults out.old) (output K.held K.calls K.faults out.new)) }
     ensures room { vec_capacity writer.old.pair ≤ vec_capacity writer.new.pair }
     ensures still { IfOk result (λ prefix. IsStill prefix ((writer.new.session ≡ writer.old.session)
         × (writer.new.appender ≡ writer.old.appender) × (disk.new ≡ disk.old) × (out.new ≡ out.old))) }
     ensures stays { IfOk result (λ prefix. (left : ℕ) → length bytes.now ≤ left → IsReady writer.old.session writer.old.appender left →
         StaysReady (IsReady writer.new.session writer.new.appender) prefix left) }
-    ensures places { IfOk result (λ prefix. (left most : ℕ) → length bytes.now ≤ left → writer.old.appender + 263183 * left ≤ most →
-        StaysReady (λ yet. writer.new.appender + 263183 * yet ≤ most) prefix left) }
+    ensures places { IfOk result (λ prefix. (left most : ℕ) → length bytes.now ≤ left → writer.old.appender + longest_stored_entry * left ≤ most →
+        StaysReady (λ yet. writer.new.appender + longest_stored_entry * yet ≤ most) prefix left) }
     ensures lengths { (left : ℕ) → length bytes.now ≤ left →
-        ReachesAtMost (writer.old.appender + 263183 * left + 1) (D.state disk.old) (D.state disk.new) }
+        ReachesAtMost (writer.old.appender + longest_stored_entry * left + 1) (D.state disk.old) (D.state disk.new) }
     ensures broken { IfErr result (BreaksNext bytes.now writer.old.session writer.old.appender writer.new.appender
-        (D.state disk.old) (D.state disk.new) (K.held out.old) (K.held out.new) (disk.new ≡ disk.old) (out.new ≡ out.old)) }
+        (D.state disk.old) (D.state disk.new) (output K.held K.calls K.faults out.old) (output K.held K.calls K.faults out.new) (disk.new ≡ disk.old)) }
     ensures disk_cause { Blames (result ≡ Err ServeFault.Disk) (D.state disk.old).faults (D.state disk.new).faults }
     ensures out_cause { Blames (result ≡ Err ServeFault.Write) (K.faults out.old) (K.faults out.new) }
 {
     writer.pair.clear();
     match writer.session.serve_next(bytes, &mut writer.pair) {
-        Ok(Prefix::Taken(taken)) => match put_pair(&mut writer.appender, &writer.pair, disk, out) {
+        Ok(Prefix::Taken(taken)) => match keep_entry(
+            &mut writer.appender,
+            &writer.pair,
+            &writer.pair,
+            disk,
+            out,
+        ) {
             Ok(()) => Ok(Prefix::Taken(taken)),
             Err(fault) => Err(fault),
         },
@@ -162,9 +171,9 @@ pub(crate) fn serve_on<S: Source, D: Disk, K: Sink>(
     requires kept { IfSome (D.state disk.old).content (λ _. (begin : Start) × (old : List (Pair Record Outcome))
         × IsKeptJournal begin old writer.old.session × Keeps (head_of begin) (map records_of old) writer.old.appender (D.state disk.old)) }
     ensures goes { ServesOn window.old (S.rest source.old) (S.rest source.new) result writer.old.session writer.old.appender
-        (D.state disk.old) (D.state disk.new) (K.held out.old) (K.held out.new) }
+        (D.state disk.old) (D.state disk.new) (output K.held K.calls K.faults out.old) (output K.held K.calls K.faults out.new) }
     ensures lengths { (count : ℕ) → HasYetAtMost count window.old (S.rest source.old) →
-        ReachesAtMost (writer.old.appender + 263183 * count + 1) (D.state disk.old) (D.state disk.new) }
+        ReachesAtMost (writer.old.appender + longest_stored_entry * count + 1) (D.state disk.old) (D.state disk.new) }
     ensures disk_cause { Blames (result ≡ Err (TakeFault.Broken ServeFault.Disk)) (D.state disk.old).faults (D.state disk.new).faults }
     ensures source_cause { Blames (result ≡ Err TakeFault.Read) (S.faults source.old) (S.faults source.new) }
     ensures out_cause { Blames (result ≡ Err (TakeFault.Broken ServeFault.Write)) (K.faults out.old) (K.faults out.new) }

@@ -6,8 +6,7 @@ use Rattle.flow_io.specs.Windows.{WindowState}
 use Rattle.file_units.proofs.Gone.{went_well, within_limit}
 use Rattle.journal_disk.specs.Entries.{framed}
 use Rattle.journal_keeping.specs.declared.fault.InputFault.{InputFault}
-use Rattle.journal_keeping.specs.Inputs.{NotTaken}
-use Rattle.journal_keeping.specs.Starts.{source_format}
+use Rattle.journal_keeping.specs.Taking.{NotTaken, source_format}
 use Rattle.journal_keeping.proofs.Counts.{went_on}
 use Rattle.journal_keeping.proofs.PastCheckpoint.{few_after, unread_after, ended_after, limit_after, other_after, out_after, opened_after, not_read_then}
 use Rattle.journal_keeping.proofs.source_start.after_checkpoint.Goals as goal

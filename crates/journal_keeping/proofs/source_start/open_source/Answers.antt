@@ -2,8 +2,7 @@ use Rattle.std.proofs.Common.{Some, ◌+◌, ap, sym, subst, ◌∙◌}
 use Rattle.flow_io.specs.Windows.{WindowState, Fills}
 use Rattle.file_units.proofs.Gone.{went_well}
 use Rattle.journal_keeping.specs.declared.fault.InputFault.{InputFault}
-use Rattle.journal_keeping.specs.Inputs.{NotTaken}
-use Rattle.journal_keeping.specs.Starts.{source_format}
+use Rattle.journal_keeping.specs.Taking.{NotTaken, source_format}
 use Rattle.journal_keeping.proofs.Counts.{went_on, on_ok, on_err}
 use Rattle.journal_keeping.proofs.Magic.{after_magic, ended_before, limit_before, other_magic, taken_few, unread_few, none_taken}
 use Rattle.journal_keeping.proofs.source_start.open_source.Goals as goal

@@ -1,10 +1,11 @@
 use Rattle.std.proofs.Common.{◌≡◌, Err, ap, ◌∙◌}
 use Rattle.journal_records.specs.Formats.{records_of}
+use Rattle.journal_keeping.specs.Outputs.{output}
 use Rattle.journal_keeping.proofs.Next.{pair_of, whole, two_records, their_bytes, takes, still_ready, still_within, still_reaches, breaks}
 use Rattle.journal_keeping.proofs.taking.keep_next.Goals as goal
 
-pub put_pair-requires-clause-pair : goal.put_pair-requires-clause-pair
-put_pair-requires-clause-pair g c =
+pub keep_entry-requires-clause-pair : goal.keep_entry-requires-clause-pair
+keep_entry-requires-clause-pair g c =
     let one = rw c.in-Ok-Taken.field-0-is at c.in-Ok-Taken.ensures.taken in
     let ready = c.requires.ready in
     rw c.deref.ensures.value (whole c.in-Ok-Taken.taken c.args.bytes.now c.args.writer.now.session c.serve_next.new.self c.serve_next.new.out.items one ready.0 ready.1 ready.2.0)
@@ -13,45 +14,47 @@ pub returns-in-Ok-clause-taken : goal.returns-in-Ok-clause-taken
 returns-in-Ok-clause-taken g c =
     let one = rw c.in-Ok-Taken.field-0-is at c.in-Ok-Taken.ensures.taken in
     let ready = c.requires.ready in
-    let pair = pair_of c.in-Ok-Taken.taken c.args.bytes.now c.args.writer.now.session c.serve_next.new.self c.serve_next.new.out.items one ready.0 ready.1 ready.2.0 in
     let two = two_records c.in-Ok-Taken.taken c.args.bytes.now c.args.writer.now.session c.serve_next.new.self c.serve_next.new.out.items one ready.0 ready.1 ready.2.0 in
+    let pair = pair_of c.in-Ok-Taken.taken c.args.bytes.now c.args.writer.now.session c.serve_next.new.self c.serve_next.new.out.items one ready.0 ready.1 ready.2.0 in
     let bytes = c.deref.ensures.value ∙ their_bytes c.in-Ok-Taken.taken c.args.bytes.now c.args.writer.now.session c.serve_next.new.self c.serve_next.new.out.items one ready.0 ready.1 ready.2.0 in
-    takes c.in-Ok-Taken.taken c.args.bytes.now c.args.writer.now.session c.serve_next.new.self c.serve_next.new.out.items one ready.0 ready.1 ready.2.0 c.args.writer.now.appender c.put_pair.new.appender (g.D.Disk.state c.args.disk.now) (g.D.Disk.state c.put_pair.new.disk) (g.K.Sink.held c.args.out.now) (g.K.Sink.held c.put_pair.new.out)
+    takes c.in-Ok-Taken.taken c.args.bytes.now c.args.writer.now.session c.serve_next.new.self c.serve_next.new.out.items one ready.0 ready.1 ready.2.0 c.args.writer.now.appender c.keep_entry.new.appender (g.D.Disk.state c.args.disk.now) (g.D.Disk.state c.keep_entry.new.disk)
+    (output g.K.Sink.held g.K.Sink.calls g.K.Sink.faults c.args.out.now) (output g.K.Sink.held g.K.Sink.calls g.K.Sink.faults c.keep_entry.new.out)
     (record { keeps = λ version pairs at. c.in-Ok.ensures.kept (λ is. cc is) version pairs (records_of pair) at two bytes; moments = λ version pairs at. c.in-Ok.ensures.moments version pairs (records_of pair) at two bytes })
-    c.in-Ok.ensures.told (rw c.deref.ensures.value at c.in-Ok.ensures.written)
+    (c.in-Ok.ensures.told (λ is. cc is)) (rw c.deref-in-Ok-Taken.ensures.value at c.in-Ok.ensures.gained)
 
 pub returns-in-Ok-clause-stays : goal.returns-in-Ok-clause-stays
 returns-in-Ok-clause-stays g c = λ left inside ready.
     let one = rw c.in-Ok-Taken.field-0-is at c.in-Ok-Taken.ensures.taken in
     let stays = rw c.in-Ok-Taken.field-0-is at c.in-Ok-Taken.ensures.stays in
-    (stays left inside ready.0, still_ready c.in-Ok-Taken.taken c.args.bytes.now c.args.writer.now.session c.serve_next.new.self c.serve_next.new.out.items one left inside ready.0 c.args.writer.now.appender c.put_pair.new.appender ready.1 (rw c.deref.ensures.value at c.in-Ok.ensures.place))
+    (stays left inside ready.0, still_ready c.in-Ok-Taken.taken c.args.bytes.now c.args.writer.now.session c.serve_next.new.self c.serve_next.new.out.items one left inside ready.0 c.args.writer.now.appender c.keep_entry.new.appender ready.1 (rw c.deref.ensures.value at c.in-Ok.ensures.place))
 
-pub returns-in-Err-put_pair-clause-broken : goal.returns-in-Err-put_pair-clause-broken
-returns-in-Err-put_pair-clause-broken g c =
+pub returns-in-Err-keep_entry-clause-broken : goal.returns-in-Err-keep_entry-clause-broken
+returns-in-Err-keep_entry-clause-broken g c =
     let one = rw c.in-Ok-Taken.field-0-is at c.in-Ok-Taken.ensures.taken in
     let ready = c.requires.ready in
     let pair = pair_of c.in-Ok-Taken.taken c.args.bytes.now c.args.writer.now.session c.serve_next.new.self c.serve_next.new.out.items one ready.0 ready.1 ready.2.0 in
     let two = two_records c.in-Ok-Taken.taken c.args.bytes.now c.args.writer.now.session c.serve_next.new.self c.serve_next.new.out.items one ready.0 ready.1 ready.2.0 in
     let bytes = c.deref.ensures.value ∙ their_bytes c.in-Ok-Taken.taken c.args.bytes.now c.args.writer.now.session c.serve_next.new.self c.serve_next.new.out.items one ready.0 ready.1 ready.2.0 in
-    let put = c.in-Err-put_pair.ensures in
-    breaks c.in-Ok-Taken.taken c.args.bytes.now c.args.writer.now.session c.serve_next.new.self c.serve_next.new.out.items one ready.0 ready.1 ready.2.0 c.args.writer.now.appender c.put_pair.new.appender (g.D.Disk.state c.args.disk.now) (g.D.Disk.state c.put_pair.new.disk) (g.K.Sink.held c.args.out.now) (g.K.Sink.held c.put_pair.new.out)
-    (c.put_pair.new.disk ≡ c.args.disk.now) (c.put_pair.new.out ≡ c.args.out.now) c.in-Err-put_pair.fault put.refused (λ is. put.unasked (ap Err is)) (λ version pairs at. put.moments version pairs (records_of pair) at two bytes)
-    (λ is version pairs at. put.kept (λ bad. cc (bad, is)) version pairs (records_of pair) at two bytes) (λ is. rw c.deref.ensures.value at put.cut (ap Err is))
+    let kept = c.in-Err-keep_entry.ensures in
+    breaks c.in-Ok-Taken.taken c.args.bytes.now c.args.writer.now.session c.serve_next.new.self c.serve_next.new.out.items one ready.0 ready.1 ready.2.0 c.args.writer.now.appender c.keep_entry.new.appender (g.D.Disk.state c.args.disk.now) (g.D.Disk.state c.keep_entry.new.disk)
+    (output g.K.Sink.held g.K.Sink.calls g.K.Sink.faults c.args.out.now) (output g.K.Sink.held g.K.Sink.calls g.K.Sink.faults c.keep_entry.new.out)
+    (c.keep_entry.new.disk ≡ c.args.disk.now) c.in-Err-keep_entry.fault kept.refused (λ is. ap (output g.K.Sink.held g.K.Sink.calls g.K.Sink.faults) (kept.unasked (ap Err is))) (λ version pairs at. kept.moments version pairs (records_of pair) at two bytes)
+    (λ is version pairs at. kept.kept (λ bad. cc (bad, is)) version pairs (records_of pair) at two bytes) (λ is. kept.told (λ bad. cc (bad, is))) (λ is. rw c.deref-in-Ok-Taken.ensures.value at kept.cut (ap Err is))
 
 pub returns-in-Ok-clause-places : goal.returns-in-Ok-clause-places
 returns-in-Ok-clause-places g c = λ left most fits room.
     let one = rw c.in-Ok-Taken.field-0-is at c.in-Ok-Taken.ensures.taken in
     let ready = c.requires.ready in
-    still_within c.in-Ok-Taken.taken c.args.bytes.now c.args.writer.now.session c.serve_next.new.self c.serve_next.new.out.items one ready.0 ready.1 ready.2.0 c.args.writer.now.appender c.put_pair.new.appender left most fits room (rw c.deref.ensures.value at c.in-Ok.ensures.place)
+    still_within c.in-Ok-Taken.taken c.args.bytes.now c.args.writer.now.session c.serve_next.new.self c.serve_next.new.out.items one ready.0 ready.1 ready.2.0 c.args.writer.now.appender c.keep_entry.new.appender left most fits room (rw c.deref.ensures.value at c.in-Ok.ensures.place)
 
 pub returns-in-Ok-clause-lengths : goal.returns-in-Ok-clause-lengths
 returns-in-Ok-clause-lengths g c = λ left fits.
     let one = rw c.in-Ok-Taken.field-0-is at c.in-Ok-Taken.ensures.taken in
     let ready = c.requires.ready in
-    still_reaches c.in-Ok-Taken.taken c.args.bytes.now c.args.writer.now.session c.serve_next.new.self c.serve_next.new.out.items one ready.0 ready.1 ready.2.0 c.args.writer.now.appender (g.D.Disk.state c.args.disk.now) (g.D.Disk.state c.put_pair.new.disk) left fits (rw c.deref.ensures.value at c.put_pair.ensures.lengths)
+    still_reaches c.in-Ok-Taken.taken c.args.bytes.now c.args.writer.now.session c.serve_next.new.self c.serve_next.new.out.items one ready.0 ready.1 ready.2.0 c.args.writer.now.appender (g.D.Disk.state c.args.disk.now) (g.D.Disk.state c.keep_entry.new.disk) left fits (rw c.deref.ensures.value at c.keep_entry.ensures.lengths)
 
-pub returns-in-Err-put_pair-clause-lengths : goal.returns-in-Err-put_pair-clause-lengths
-returns-in-Err-put_pair-clause-lengths g c = λ left fits.
+pub returns-in-Err-keep_entry-clause-lengths : goal.returns-in-Err-keep_entry-clause-lengths
+returns-in-Err-keep_entry-clause-lengths g c = λ left fits.
     let one = rw c.in-Ok-Taken.field-0-is at c.in-Ok-Taken.ensures.taken in
     let ready = c.requires.ready in
-    still_reaches c.in-Ok-Taken.taken c.args.bytes.now c.args.writer.now.session c.serve_next.new.self c.serve_next.new.out.items one ready.0 ready.1 ready.2.0 c.args.writer.now.appender (g.D.Disk.state c.args.disk.now) (g.D.Disk.state c.put_pair.new.disk) left fits (rw c.deref.ensures.value at c.put_pair.ensures.lengths)
+    still_reaches c.in-Ok-Taken.taken c.args.bytes.now c.args.writer.now.session c.serve_next.new.self c.serve_next.new.out.items one ready.0 ready.1 ready.2.0 c.args.writer.now.appender (g.D.Disk.state c.args.disk.now) (g.D.Disk.state c.keep_entry.new.disk) left fits (rw c.deref.ensures.value at c.keep_entry.ensures.lengths)
