@@ -1,35 +1,31 @@
 -- Lines that are answered one after the other: none yet, one more, and how it ends.
-use Rattle.std.proofs.Common.{◌≡◌, ◌≢◌, ℕ, ◌+◌, ◌-◌, ◌≤◌, ◌^◌, List, [], ◌∷◌, ◌++◌, Option, None, Some, Result, Err, length, length-append, map, refl, sym, ap, subst, ◌∙◌, arith, append_assoc}
+use Rattle.std.proofs.Common.{◌≡◌, ◌≢◌, ℕ, ◌+◌, ◌-◌, ◌≤◌, ◌^◌, List, [], ◌∷◌, ◌++◌, Option, None, Some, Result, Err, length, length-append, refl, sym, ap, subst, ◌∙◌, arith, append_assoc}
 use Rattle.std.proofs.lemmas.List.{append-nil}
 use Rattle.std.proofs.lemmas.List.Elements.{All-push, All-nil}
 use Rattle.std.proofs.lemmas.Grind.{flat_map-append}
-use Rattle.journal_records.specs.Formats.{records_of}
 use Rattle.market_rules.specs.Market.{Market}
-use Rattle.market_history.specs.Histories.{Start}
 use Rattle.flow_io.specs.Streams.{Takes}
 use Rattle.flow_io.specs.Windows.{WindowState}
 use Rattle.flow_io.proofs.Reading.{Takes-more}
 use Rattle.file_units.specs.Inputs.{known}
 use Rattle.disk_edge.specs.Disks.{DiskState, IsDisk}
-use Rattle.journal_disk.specs.Entries.{Keeps}
 use Rattle.line_records.specs.Lines.{HasNoFeed, ended_by_feeds}
-use Rattle.journal_keeping.specs.Starts.{head_of}
-use Rattle.journal_keeping.specs.Keeping.{IsKeptJournal, Runs}
-use Rattle.journal_keeping.specs.Pacing.{asked_of}
 use Rattle.file_units.specs.declared.units.Ending.{Ending}
 use Rattle.file_units.specs.declared.input.TakeFault.{TakeFault}
 use Rattle.file_units.specs.declared.input.TakeFault.TheVariants.{Broken}
+use Rattle.journal_keeping.specs.Lengths.{most_input}
 use Rattle.journal_keeping.specs.declared.fault.ServeFault.{ServeFault}
-use Rattle.journal_keeping.specs.declared.fault.ServeFault.TheVariants.{Write, Memory}
-use Rattle.journal_keeping.proofs.Serving.{ended}
-use Rattle.journal_keeping.proofs.Turns.{so_none}
+use Rattle.journal_keeping.specs.declared.fault.ServeFault.TheVariants.{Disk, Write, Memory}
+use Rattle.journal_keeping.proofs.Stopping.{stops_after, stops_wider, stops_later}
+use Rattle.journal_keeping.proofs.Turns.{added_none}
 use Rattle.input_lines.specs.Finding.{IsOpen}
 use Rattle.line_keeping.specs.Answers.{IsLineBegun, AreAnsweredInto}
-use Rattle.line_keeping.specs.Outputs.{Output}
-use Rattle.line_keeping.specs.Private.{HasAdded, AnswersLine, Breaks, BreaksLine, HasGone, StopAt, AreRead, AreDone, AnswersOn}
-use Rattle.line_keeping.proofs.Gaining.{gains_none, gains_more, gains_wider}
+use Rattle.journal_keeping.specs.Outputs.{Output}
+use Rattle.line_keeping.specs.Private.{AnswersLine, Breaks, BreaksLine, HasGone, StopAt, AreRead, AreDone, AnswersOn}
+use Rattle.journal_keeping.specs.Private.{HasAdded}
+use Rattle.journal_keeping.proofs.Gaining.{gains_none, gains_more, gains_wider}
 use Rattle.line_keeping.proofs.Joining.{Pairs, Texts, lines_more}
-use Rattle.line_keeping.proofs.Adding.{added_more, runs_after}
+use Rattle.journal_keeping.proofs.Adding.{added_more}
 
 Takes-nothing : (told : Option (List ℕ)) → Takes told told []
 Takes-nothing None = tt
@@ -41,7 +37,7 @@ feeds_more lines line = flat_map-append (λ (piece : List ℕ). piece ++ 10 ∷ 
 
 module _ (first : WindowState) (rest : Option (List ℕ)) (old : Market) (count from : ℕ) (start : DiskState) (out : Output) where
   -- nothing was answered yet
-  pub gone_none : (entries place : ℕ) → IsOpen first rest → IsDisk start → entries ≡ count → place ≡ from → old.next_order ≤ from + 2 ^ 63 → count ≤ from → from ≤ 2 ^ 60 → first.limit ≤ 2 ^ 32
+  pub gone_none : (entries place : ℕ) → IsOpen first rest → IsDisk start → entries ≡ count → place ≡ from → old.next_order ≤ from + 2 ^ 63 → count ≤ from → from ≤ 2 ^ 60 → first.limit ≤ most_input
       → HasGone first first rest rest old old count entries from place 0 start start out out
   gone_none entries place is_open is_disk is_count is_place orders few low short = record {
     taken = [];
@@ -56,7 +52,7 @@ module _ (first : WindowState) (rest : Option (List ℕ)) (old : Market) (count 
     pairs = [];
     texts = [];
     answered = (refl, refl, refl);
-    added = subst (λ (n : ℕ). HasAdded start start old old from n []) (sym is_place) (so_none start old from None is_disk);
+    added = subst (λ (n : ℕ). HasAdded start start old old from n []) (sym is_place) (added_none start old from is_disk);
     counted = omega (arith, is_count);
     gained = gains_none ⊥ out;
     orders = omega (arith, orders, is_place);
@@ -99,14 +95,6 @@ module _ (first : WindowState) (rest : Option (List ℕ)) (old : Market) (count 
       room = omega (arith, gone.room, answers.place.1, answers.size, moved, limit, is_open.within);
     }
 
-    -- what is known of the disk and the output where it ends after a line
-    runs_here : (begin : Start) (kept : Pairs) → IsKeptJournal begin kept old → Keeps (head_of begin) (map records_of kept) from start → Runs begin start disk kept old (asked_of (gone.pairs ++ [])) (gone.pairs ++ []) (length gone.pairs)
-    runs_here begin kept is at =
-        subst (λ (l : Pairs). Runs begin start disk kept old (asked_of l) l (length gone.pairs)) (sym (append-nil gone.pairs)) (ended begin start disk kept old place (asked_of gone.pairs) gone.pairs market (gone.added.kept begin kept is at))
-
-    keeps_here : (begin : Start) (kept : Pairs) → IsKeptJournal begin kept old → Keeps (head_of begin) (map records_of kept) from start → (p : ℕ) × Keeps (head_of begin) (map records_of (kept ++ gone.pairs)) p disk
-    keeps_here begin kept is at = (place, (gone.added.kept begin kept is at).keeps)
-
     -- it ends after the last line that was answered, with these bytes after it
     module _ (after : Option (List ℕ)) (joined past : List ℕ) (takes : Takes left after (joined ++ past)) (short : length past ≤ 1) (within : now.place + length (now.held ++ joined) ≤ now.limit) where
       all_taken : List ℕ
@@ -141,14 +129,11 @@ module _ (first : WindowState) (rest : Option (List ℕ)) (old : Market) (count 
         texts = gone.texts;
         market = market;
         answered = done;
-        journal = λ not begin kept is at. (gone.added.kept begin kept is at).goes_on.journal;
         more = [];
         words = gone.texts;
         last = market;
         further = more;
-        runs = runs_here;
-        gained = gains_wider ⊥ _ out later gone.texts (λ no. absurd no) gone.gained;
-        whole = λ not. (refl, keeps_here);
+        stops = stops_after _ _ start disk old market from place gone.pairs gone.added out later gone.texts (gains_wider ⊥ _ out later gone.texts (λ no. absurd no) gone.gained);
         lacks = λ is. absurd (lacks is);
       }
 
@@ -187,25 +172,12 @@ module _ (first : WindowState) (rest : Option (List ℕ)) (old : Market) (count 
         texts = gone.texts ++ b.texts;
         market = b.market;
         answered = into b.pairs b.texts b.market b.begun;
-        journal = λ not. absurd (not (fault, refl));
         more = b.more;
         words = gone.texts ++ b.words;
         last = b.last;
         further = subst (λ (l : Pairs). AreAnsweredInto old count gone.read line l (gone.texts ++ b.words) b.last) (sym (append_assoc gone.pairs b.pairs b.more))
             (into (b.pairs ++ b.more) b.words b.last b.further);
-        runs = λ begin kept is at.
-            let k = gone.added.kept begin kept is at in
-            let runs = runs_after begin start disk kept gone.pairs old market place k (b.pairs ++ b.more) disk2 (length b.pairs) (b.runs begin (kept ++ gone.pairs) k.goes_on.journal k.keeps) in
-            subst (λ (n : ℕ). Runs begin start disk2 kept old (asked_of ((gone.pairs ++ b.pairs) ++ b.more)) ((gone.pairs ++ b.pairs) ++ b.more) n) (sym (length-append gone.pairs b.pairs))
-            (subst (λ (l : Pairs). Runs begin start disk2 kept old (asked_of l) l (length gone.pairs + length b.pairs)) (sym (append_assoc gone.pairs b.pairs b.more)) runs);
-        gained = gains_wider (fault ≡ Write) _ out last (gone.texts ++ b.texts) (λ is. ap (λ (f : ServeFault). Err (Broken f)) is) (gains_more (fault ≡ Write) out later last gone.texts b.texts gone.gained b.gained);
-        whole = λ not.
-            let w = b.whole (λ is. not (ap (λ (f : ServeFault). Err (Broken f)) is)) in (
-              w.0,
-              λ begin kept is at.
-                  let k = gone.added.kept begin kept is at in
-                  let keeps = w.1 begin (kept ++ gone.pairs) k.goes_on.journal k.keeps in
-                  (keeps.0, subst (λ (l : Pairs). Keeps (head_of begin) (map records_of l) keeps.0 disk2) (append_assoc kept gone.pairs b.pairs) keeps.1),
-            );
+        stops = stops_wider (fault ≡ Disk) _ (fault ≡ Write) _ old b.market from start disk2 out last (gone.pairs ++ b.pairs) b.more (gone.texts ++ b.texts) (λ is. ap (λ (f : ServeFault). Err (Broken f)) is) (λ is. ap (λ (f : ServeFault). Err (Broken f)) is)
+            (stops_later (fault ≡ Disk) (fault ≡ Write) start disk disk2 old market b.market from place gone.pairs b.pairs b.more out later last gone.texts b.texts gone.added gone.gained b.stops);
         lacks = λ is. breaks.lacks (err_is fault Memory is);
       }

@@ -18,13 +18,15 @@ use Rattle.market_history.proofs.Starting.{kept_magic, magic_on}
 use Rattle.journal_disk.specs.Entries.{framed}
 use Rattle.journal_disk.proofs.Entries.{length-framed}
 use Rattle.journal_keeping.specs.declared.fault.InputFault.TheVariants.{Read, Memory, NotFlow, BadCheckpoint}
-use Rattle.journal_keeping.specs.Inputs.{BeginsUnsound, InputBegins, HasShownStart, NotTaken, IsAfterStart}
+use Rattle.journal_keeping.specs.Inputs.{BeginsUnsound, InputBegins, HasShownStart}
+use Rattle.journal_keeping.specs.Taking.{NotTaken, IsAfterStart}
 use Rattle.journal_keeping.specs.Beginning.{TakesStart}
 use Rattle.journal_keeping.proofs.Starts.{magic_first, magic_long}
 use Rattle.journal_keeping.proofs.SourceStart.{first_taken, in_checkpoint, are_first}
 use Rattle.input_lines.specs.Long.{most_line}
 use Rattle.input_lines.specs.Finding.{IsOpen, HasEnded}
-use Rattle.line_keeping.specs.Inputs.{newest, IsBefore, IsPartOfMagic, IsUnopened, lines_format}
+use Rattle.line_keeping.specs.Inputs.{newest, IsBefore, IsPartOfMagic, IsUnopened, line_starts}
+use Rattle.line_keeping.specs.Private.{lines_format}
 use Rattle.line_keeping.specs.Private.{ShowsStart, ShowsNone}
 
 -- a checkpoint has eight bytes at least
@@ -38,7 +40,7 @@ checkpoint_opened market rest one (inr unsound) = unsound.1 market (checkpoint_b
 
 -- what the bytes that were taken first show
 pub start_shown : (limit : ℕ) (content after : Option (List ℕ)) (first : List ℕ) → Takes content after first → length first ≤ limit → (before : Start) (text : List ℕ) → IsBefore first before text
-    → (¬ IsUnopened None first) ⊎ (IfSome after (λ left. left ≡ []) ⊎ (limit ≡ length first)) → IfSome content (λ bytes. HasShownStart lines_format limit bytes after)
+    → (¬ IsUnopened None first) ⊎ (IfSome after (λ left. left ≡ []) ⊎ (limit ≡ length first)) → IfSome content (λ bytes. HasShownStart line_starts limit bytes after)
 start_shown limit None after first takes few before text is why = tt
 start_shown limit (Some bytes) None first takes few before text is why = absurd takes
 start_shown limit (Some bytes) (Some left) first takes few before text is why =
@@ -73,13 +75,13 @@ module _ (limit : ℕ) (new : WindowState) (rest after : Option (List ℕ)) (sho
   why (inr (inl ended)) = inr (inl ended.1)
   why (inr (inr full)) = inr (inr (omega (arith, full, shows.limit)))
 
-  bare_shown : (version : Version) → IfSome rest (λ bytes. HasShownStart lines_format limit bytes after)
+  bare_shown : (version : Version) → IfSome rest (λ bytes. HasShownStart line_starts limit bytes after)
   bare_shown version = start_shown limit rest after new.held shows.takes within (Empty version) new.held (held_none, refl) (why (shows.other (λ is_true. absurd cc)).1)
 
-  bare_begins : (version : Version) → InputBegins lines_format limit rest (Empty version)
+  bare_begins : (version : Version) → InputBegins line_starts limit rest (Empty version)
   bare_begins version = by_cases rest after shows.takes other
     where
-      by_cases : (b a : Option (List ℕ)) → Takes b a new.held → (¬ HasCheckpointMagic (take limit (known new.held a))) → InputBegins lines_format limit b (Empty version)
+      by_cases : (b a : Option (List ℕ)) → Takes b a new.held → (¬ HasCheckpointMagic (take limit (known new.held a))) → InputBegins line_starts limit b (Empty version)
       by_cases None a takes none = tt
       by_cases (Some bytes) None takes none = absurd takes
       by_cases (Some bytes) (Some left) takes none = (take limit bytes, (subst (λ (l : List ℕ). ¬ HasCheckpointMagic (take limit l)) (sym takes) none, refl))
@@ -183,10 +185,10 @@ module _ (limit : ℕ) (w : WindowState) (rest x : Option (List ℕ)) (shows : S
     place : new.place ≡ length (checkpoint_bytes market)
     place = found.taken.place ∙ ap length found.is_one.encoded
 
-    checkpoint_begins : InputBegins lines_format limit rest (Kept market)
+    checkpoint_begins : InputBegins line_starts limit rest (Kept market)
     checkpoint_begins = by_cases rest y taken
       where
-        by_cases : (b a : Option (List ℕ)) → Takes b a (checkpoint_bytes market ++ new.held) → InputBegins lines_format limit b (Kept market)
+        by_cases : (b a : Option (List ℕ)) → Takes b a (checkpoint_bytes market ++ new.held) → InputBegins line_starts limit b (Kept market)
         by_cases None a takes = tt
         by_cases (Some bytes) None takes = absurd takes
         by_cases (Some bytes) (Some left) takes = (

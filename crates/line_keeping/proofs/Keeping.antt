@@ -1,35 +1,33 @@
 -- Commands that are served, kept and told one after the other: none yet, one more, and one at which it broke off.
-use Rattle.std.proofs.Common.{◌≡◌, ℕ, ◌+◌, ◌*◌, ◌<◌, ◌≤◌, ◌^◌, List, [], ◌∷◌, ◌++◌, Option, None, Some, IfSome, IsSome, length, length-append, take, drop, get_or, take-append-drop, map, refl, sym, ap, subst, ◌∙◌, arith, rules, append_assoc}
+use Rattle.std.proofs.Common.{◌≡◌, ◌⊎◌, ⊎_elim, ℕ, ◌+◌, ◌*◌, ◌<◌, ◌≤◌, ◌^◌, List, [], ◌∷◌, ◌++◌, Option, None, Some, IfSome, IsSome, length, length-append, take, drop, get_or, take-append-drop, refl, sym, ap, subst, ◌∙◌, arith, rules, append_assoc}
 use Rattle.std.specs.Prelude.{⊤}
-use Rattle.std.proofs.lemmas.List.{append-nil, map-append, drop_more}
+use Rattle.std.proofs.lemmas.List.{append-nil, drop_more}
 use Rattle.std.proofs.Math.Seq.{take-add}
 use Rattle.wire_records.specs.Records.{Record, encoding}
 use Rattle.wire_records.specs.Commands.{Command, Pair}
 use Rattle.wire_records.proofs.Encoded.{length-encoding}
 use Rattle.flow_orders.specs.Outcomes.{Outcome}
-use Rattle.journal_records.specs.Pairs.{IsPair, pair_encoding}
+use Rattle.journal_records.specs.Pairs.{IsPair, pair_encoding, longest_pair}
 use Rattle.journal_records.specs.Formats.{records_of}
 use Rattle.market_rules.specs.Market.{Market}
 use Rattle.batch_report.specs.Reports.{IsReport}
 use Rattle.disk_edge.specs.Disks.{DiskState, IsDisk, AtEachMoment}
 use Rattle.journal_disk.specs.Pairs.{RecordPair, IsRecordPair, pair_bytes}
 use Rattle.journal_disk.specs.Entries.{Head, WithOrWithout, Keeps}
-use Rattle.journal_keeping.specs.Starts.{head_of}
-use Rattle.journal_keeping.specs.Keeping.{Runs}
-use Rattle.journal_keeping.specs.Pacing.{asked_of}
+use Rattle.journal_keeping.specs.Lengths.{longest_stored_entry}
 use Rattle.journal_keeping.specs.Private.{KeepsOneMore}
 use Rattle.journal_keeping.specs.declared.fault.ServeFault.{ServeFault}
 use Rattle.journal_keeping.specs.declared.fault.ServeFault.TheVariants.{Disk, Write, Memory}
-use Rattle.journal_keeping.proofs.Serving.{ended, failed}
-use Rattle.journal_keeping.proofs.Turns.{canonical_is_admissible, is_record_pair, same_bytes, so_none, so_more}
+use Rattle.journal_keeping.proofs.Turns.{is_record_pair, same_bytes, added_none, added_one}
+use Rattle.journal_keeping.proofs.Stopping.{stops_after, stops_failed}
 use Rattle.line_keeping.specs.Answers.{AreAnswered}
-use Rattle.line_keeping.specs.Outputs.{Output, Gains}
+use Rattle.journal_keeping.specs.Outputs.{Output, Gains}
 use Rattle.line_keeping.specs.Private.{IsReadyFor, IsServed, AnswersCommand, BreaksCommand, AnswersCommands, BreaksCommands}
-use Rattle.line_keeping.proofs.Gaining.{gains_none, gains_more, gains_wider}
+use Rattle.journal_keeping.proofs.Gaining.{gains_none, gains_more, gains_wider}
 use Rattle.line_keeping.proofs.Joining.{Pairs, answered_more}
 
 -- the longest entry
-pub longest_entry : (pair : Pair Record Outcome) → IsPair pair → length (pair_encoding pair) ≤ 263178
+pub longest_entry : (pair : Pair Record Outcome) → IsPair pair → length (pair_encoding pair) ≤ longest_pair
 unfolding pair_encoding
 longest_entry pair fits = omega (arith, length-append (encoding pair.asked) (encoding (records_of pair).1), length-encoding pair.asked, length-encoding (records_of pair).1, fits.asked.body, fits.answered.body)
 
@@ -42,6 +40,17 @@ keeps_one pair from to disk later bytes fits is kept moments = record {
   keeps = λ head pairs keeps. kept head pairs (records_of pair) keeps (is_record_pair pair fits) (is ∙ same_bytes pair);
   moments = λ head pairs keeps. moments head pairs (records_of pair) keeps (is_record_pair pair fits) (is ∙ same_bytes pair);
 }
+
+-- why a command wasn't kept and told, if it was served
+pub breaks_one : (command : Command) (old new : Market) (count from to : ℕ) (disk later : DiskState) (out after : Output) (SameDisk : Type 0) (pair : Pair Record Outcome) (text : List ℕ) (fault : ServeFault) → (fault ≡ Disk) ⊎ (fault ≡ Write)
+    → IsServed command old pair new → IsReport new (count + 1) (records_of pair) text → (fault ≡ Disk → after ≡ out)
+    → ((head : Head) (pairs : List RecordPair) → Keeps head pairs from disk → AtEachMoment disk later (WithOrWithout head pairs (records_of pair)))
+    → (fault ≡ Write → KeepsOneMore pair from to disk later) → (fault ≡ Write → IsSome later.content → IsSome disk.content) → (fault ≡ Write → Gains ⊤ out after (text ∷ []))
+    → BreaksCommand command old count from to disk later out after SameDisk fault
+breaks_one command old new count from to disk later out after SameDisk pair text fault refused served report silent moments keeps told cut = ⊎_elim
+    (λ (is : fault ≡ Disk). subst (λ (f : ServeFault). BreaksCommand command old count from to disk later out after SameDisk f) (sym is) (silent is, pair, text, new, served, report, moments))
+    (λ (is : fault ≡ Write). subst (λ (f : ServeFault). BreaksCommand command old count from to disk later out after SameDisk f) (sym is) (pair, text, new, served, report, keeps is, told is, cut is))
+    refused
 
 some_is : (bytes : List ℕ) → IsSome (Some bytes)
 some_is bytes = search rules
@@ -62,8 +71,8 @@ parted_at l k x inside is =
     (take-add k 1 l ∙ ap (λ z. take k l ++ take 1 z) following, sym (take-append-drop k l) ∙ ap (λ z. take k l ++ z) following)
 
 -- a disk on which commands are kept may keep one more
-pub ready_more : (commands done : ℕ) (entries place : ℕ) (market : Market) (count from : ℕ) (now : Market) → market.next_order ≤ from + 2 ^ 63 → count ≤ from → from + 263183 * commands ≤ 2 ^ 61 → done < commands
-    → from + done ≤ place → place ≤ from + 263183 * done → now.next_order ≤ market.next_order + done → entries ≡ count + done → IsReadyFor now entries place 0
+pub ready_more : (commands done : ℕ) (entries place : ℕ) (market : Market) (count from : ℕ) (now : Market) → market.next_order ≤ from + 2 ^ 63 → count ≤ from → from + longest_stored_entry * commands ≤ 2 ^ 61 → done < commands
+    → from + done ≤ place → place ≤ from + longest_stored_entry * done → now.next_order ≤ market.next_order + done → entries ≡ count + done → IsReadyFor now entries place 0
 ready_more commands done entries place market count from now orders counted room less low high few is = record {
   orders = omega (arith, orders, few, low);
   counted = omega (arith, is, counted, low);
@@ -76,7 +85,7 @@ module _ (old : Market) (count from : ℕ) (disk : DiskState) (out : Output) whe
     pairs = [];
     texts = [];
     answered = (refl, refl, refl);
-    added = so_none disk old from None is_disk;
+    added = added_none disk old from is_disk;
     stays = λ keeps. keeps;
     counted = omega arith;
     size = refl;
@@ -92,7 +101,7 @@ module _ (old : Market) (count from : ℕ) (disk : DiskState) (out : Output) whe
       pairs = so.pairs ++ one.pair ∷ [];
       texts = so.texts ++ one.text ∷ [];
       answered = answered_more old count done so.pairs so.texts mid command one.pair one.text new (entries + 1) so.answered one.served (omega (arith, so.counted)) one.report;
-      added = so_more disk m later old mid new from place to None None None so.pairs one.pair so.added one.served.fits one.served.step one.keeps one.told tt;
+      added = added_one disk m later old mid new from place to so.pairs one.pair so.added one.served.fits one.served.step one.keeps one.told;
       stays = λ keeps. keeps_on m.content later.content one.told (so.stays keeps) (λ kept. (kept.0, kept.1 ++ records_of one.pair ∷ [], one.keeps.keeps kept.0 kept.1 kept.2));
       counted = omega (arith, so.counted, length-append so.pairs (one.pair ∷ []));
       size = omega (arith, so.size, length-append so.pairs (one.pair ∷ []), length-append done (command ∷ []));
@@ -119,10 +128,7 @@ module _ (old : Market) (count from : ℕ) (disk : DiskState) (out : Output) whe
         words = so.texts;
         last = mid;
         further = (done, command ∷ rest, refl, subst (λ (l : Pairs). AreAnswered old count done l so.texts mid) (sym (append-nil so.pairs)) so.answered);
-        runs = λ begin kept is at.
-            subst (λ (l : Pairs). Runs begin disk m kept old (asked_of l) l (length so.pairs)) (sym (append-nil so.pairs)) (ended begin disk m kept old place (asked_of so.pairs) so.pairs mid (so.added.kept begin kept is at));
-        gained = gains_wider ⊥ _ out o so.texts (λ no. absurd no) so.gained;
-        whole = λ not. (refl, λ begin kept is at. (place, (so.added.kept begin kept is at).keeps));
+        stops = stops_after _ _ disk m old mid from place so.pairs so.added out o so.texts (gains_wider ⊥ _ out o so.texts (λ no. absurd no) so.gained);
       }
 
       joined : done ++ command ∷ rest ≡ (done ++ command ∷ []) ++ rest
@@ -140,13 +146,7 @@ module _ (old : Market) (count from : ℕ) (disk : DiskState) (out : Output) whe
         words = so.texts ++ text ∷ [];
         last = new;
         further = (done ++ command ∷ [], rest, joined, answered_more old count done so.pairs so.texts mid command pair text new (entries + 1) so.answered served (omega (arith, so.counted)) report);
-        runs = λ begin kept is at.
-            let k = so.added.kept begin kept is at in
-            let right = canonical_is_admissible begin (kept ++ so.pairs) mid pair new k.goes_on.journal served.step in
-            subst (λ (l : List Record). Runs begin disk later kept old l (so.pairs ++ pair ∷ []) (length so.pairs)) (sym (map-append (λ (p : Pair Record Outcome). p.asked) so.pairs (pair ∷ [])))
-            (failed begin disk m later kept old place (asked_of so.pairs) so.pairs mid new pair k is_disk served.fits served.step right (moments (head_of begin) (map records_of (kept ++ so.pairs)) k.keeps));
-        gained = gains_wider ⊥ _ out o so.texts (λ no. absurd no) so.gained;
-        whole = λ not. absurd (not refl);
+        stops = stops_failed _ _ disk m old mid from place so.pairs so.added out o so.texts (gains_wider ⊥ _ out o so.texts (λ no. absurd no) so.gained) refl later new pair is_disk served.fits served.step moments;
       }
 
       -- its text was cut short
@@ -154,7 +154,7 @@ module _ (old : Market) (count from : ℕ) (disk : DiskState) (out : Output) whe
           → KeepsOneMore pair place to m later → (IsSome later.content → IsSome m.content) → Gains ⊤ o after (text ∷ []) → Broke later after Write
       write_breaks pair text new to later after served report keeps told gains =
           let all = so.pairs ++ pair ∷ [] in
-          let added = so_more disk m later old mid new from place to None None None so.pairs pair so.added served.fits served.step keeps told tt in
+          let added = added_one disk m later old mid new from place to so.pairs pair so.added served.fits served.step keeps told in
           let answered = answered_more old count done so.pairs so.texts mid command pair text new (entries + 1) so.answered served (omega (arith, so.counted)) report in
           record {
             pairs = all;
@@ -165,10 +165,7 @@ module _ (old : Market) (count from : ℕ) (disk : DiskState) (out : Output) whe
             words = so.texts ++ text ∷ [];
             last = new;
             further = (done ++ command ∷ [], rest, joined, subst (λ (l : Pairs). AreAnswered old count (done ++ command ∷ []) l (so.texts ++ text ∷ []) new) (sym (append-nil all)) answered);
-            runs = λ begin kept is at.
-                subst (λ (l : Pairs). Runs begin disk later kept old (asked_of l) l (length all)) (sym (append-nil all)) (ended begin disk later kept old to (asked_of all) all new (added.kept begin kept is at));
-            gained = gains_wider ⊤ _ out after (so.texts ++ text ∷ []) (λ _. refl) (gains_more ⊤ out o after so.texts (text ∷ []) so.gained gains);
-            whole = λ not. (refl, λ begin kept is at. (to, (added.kept begin kept is at).keeps));
+            stops = stops_after _ _ disk later old new from to all added out after (so.texts ++ text ∷ []) (gains_wider ⊤ _ out after (so.texts ++ text ∷ []) (λ _. refl) (gains_more ⊤ out o after so.texts (text ∷ []) so.gained gains));
           }
 
 -- by what it broke off with

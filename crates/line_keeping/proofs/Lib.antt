@@ -1,6 +1,5 @@
 pub mod Gaining
 pub mod Joining
-pub mod Adding
 pub mod Going
 pub mod Endings
 pub mod Served

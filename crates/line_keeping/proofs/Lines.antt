@@ -1,30 +1,25 @@
 -- One line that is answered, or at which answering broke off.
-use Rattle.std.proofs.Common.{◌≡◌, inl, inr, ℕ, ◌*◌, ◌≤◌, List, [], ◌∷◌, ◌++◌, None, Result, Ok, Err, OnOk, IfErr, length, map, refl, sym, ap, subst, arith}
+use Rattle.std.proofs.Common.{◌≡◌, inl, inr, ℕ, ◌*◌, ◌≤◌, List, [], ◌∷◌, None, Result, Ok, Err, OnOk, IfErr, length, map, refl, ap, subst, arith}
 use Rattle.std.specs.Prelude.{⊤}
-use Rattle.std.proofs.lemmas.List.{append-nil, length-map}
+use Rattle.std.proofs.lemmas.List.{length-map}
 use Rattle.std.proofs.lemmas.List.Elements.{All-nil}
 use Rattle.wire_records.specs.Commands.{Command, Place}
 use Rattle.wire_records.specs.declared.version.Version.{Version}
-use Rattle.journal_records.specs.Formats.{records_of}
 use Rattle.market_rules.specs.Market.{Market}
-use Rattle.market_history.specs.Histories.{Start}
 use Rattle.curve_ladder.specs.Segments.{segments_of, request_of}
 use Rattle.curve_ladder.proofs.SegmentLemmas.{segments_count}
 use Rattle.order_text.specs.Lines.{IsBlank, Asked, OfLadder, commands_of, LineAsks, SaysNothing}
 use Rattle.disk_edge.specs.Disks.{DiskState, IsDisk}
-use Rattle.journal_disk.specs.Entries.{Keeps}
-use Rattle.journal_keeping.specs.Starts.{head_of}
-use Rattle.journal_keeping.specs.Keeping.{IsKeptJournal, Runs}
 use Rattle.journal_keeping.specs.declared.fault.ServeFault.{ServeFault}
 use Rattle.journal_keeping.specs.declared.fault.ServeFault.TheVariants.{Write, Memory}
-use Rattle.journal_keeping.proofs.Serving.{ended}
-use Rattle.journal_keeping.proofs.Turns.{so_none}
+use Rattle.journal_keeping.proofs.Stopping.{stops_after}
+use Rattle.journal_keeping.proofs.Turns.{added_none}
 use Rattle.input_lines.specs.Long.{IsLong}
-use Rattle.line_keeping.specs.Answers.{HasNoAnswer, IsNoCommand, AsksIn, no_command_text}
-use Rattle.line_keeping.specs.Outputs.{Output, Gains}
+use Rattle.line_keeping.specs.Answers.{most_entries, HasNoAnswer, IsNoCommand, AsksIn, no_command_text}
+use Rattle.journal_keeping.specs.Outputs.{Output, Gains}
 use Rattle.line_keeping.specs.Private.{AnswersCommands, BreaksCommands, AnswersLine, BreaksLine}
-use Rattle.line_keeping.proofs.Gaining.{gains_none, gains_wider}
-use Rattle.line_keeping.proofs.Joining.{Pairs, Texts}
+use Rattle.journal_keeping.proofs.Gaining.{gains_none, gains_wider}
+use Rattle.line_keeping.proofs.Joining.{Texts}
 
 pub on_both : {T E : Type 0} (result : Result T E) (P Q R : Type 0) → (P → Q → R) → OnOk result P → OnOk result Q → OnOk result R
 on_both (Ok value) P Q R f p q = f p q
@@ -46,8 +41,8 @@ at_market market version tickers line asked v t asks = subst (λ (x : Texts). Li
 pub nothing_at : (market : Market) (version : Version) (tickers : Texts) (line : List ℕ) → version ≡ market.version → tickers ≡ market.tickers → SaysNothing version tickers line → SaysNothing market.version market.tickers line
 nothing_at market version tickers line v t says = subst (λ (x : Texts). SaysNothing market.version x line) t (subst (λ (x : Version). SaysNothing x tickers line) v says)
 
--- a ladder has at most 32 orders
-pub ladder_few : (version : Version) (tickers : Texts) (line : List ℕ) (commands : List Command) → LineAsks version tickers line (OfLadder commands) → length commands ≤ 32
+-- a ladder has at most `most_entries` orders
+pub ladder_few : (version : Version) (tickers : Texts) (line : List ℕ) (commands : List Command) → LineAsks version tickers line (OfLadder commands) → length commands ≤ most_entries
 ladder_few version tickers line commands asks =
     let l = asks.asks in
     omega (arith, ap length l.commands_are, length-map (map (request_of l.account l.row) (segments_of l.ladder)) (Place None), length-map (segments_of l.ladder) (request_of l.account l.row), (segments_count l.ladder l.lawful).1)
@@ -58,7 +53,7 @@ module _ (number : ℕ) (line : List ℕ) (old : Market) (count from : ℕ) (dis
     pairs = [];
     texts = [];
     answered = inl (no_answer, refl, refl, refl);
-    added = so_none disk old from None is_disk;
+    added = added_none disk old from is_disk;
     counted = omega arith;
     size = omega arith;
     place = (omega arith, omega arith);
@@ -71,7 +66,7 @@ module _ (number : ℕ) (line : List ℕ) (old : Market) (count from : ℕ) (dis
     pairs = [];
     texts = no_command_text number ∷ [];
     answered = inr (inl (none, refl, refl, refl));
-    added = so_none disk old from None is_disk;
+    added = added_none disk old from is_disk;
     counted = omega arith;
     size = omega arith;
     place = (omega arith, omega arith);
@@ -79,7 +74,7 @@ module _ (number : ℕ) (line : List ℕ) (old : Market) (count from : ℕ) (dis
     gained = gained;
   }
 
-  pub line_asked : (asked : Asked) (new : Market) (entries to : ℕ) (later : DiskState) (after : Output) → AsksIn old line asked → length (commands_of asked) ≤ 32 * length line → AnswersCommands (commands_of asked) old new count entries from to disk later out after
+  pub line_asked : (asked : Asked) (new : Market) (entries to : ℕ) (later : DiskState) (after : Output) → AsksIn old line asked → length (commands_of asked) ≤ most_entries * length line → AnswersCommands (commands_of asked) old new count entries from to disk later out after
       → AnswersLine number line old new count entries from to disk later out after
   line_asked asked new entries to later after asks few answers = record {
     pairs = answers.pairs;
@@ -105,18 +100,10 @@ module _ (number : ℕ) (line : List ℕ) (old : Market) (count from : ℕ) (dis
       words = b.words;
       last = b.last;
       further = inr (inr (asked, b.further.0, b.further.1, asks, b.further.2, b.further.3));
-      runs = b.runs;
-      gained = b.gained;
-      whole = b.whole;
+      stops = b.stops;
     };
     lacks = λ is. (asks.0, asks.1.written);
   }
-
-  nothing_runs : IsDisk disk → (begin : Start) (kept : Pairs) → IsKeptJournal begin kept old → Keeps (head_of begin) (map records_of kept) from disk → Runs begin disk disk kept old [] [] 0
-  nothing_runs is_disk begin kept is at = ended begin disk disk kept old from [] [] old ((so_none disk old from None is_disk).kept begin kept is at)
-
-  nothing_keeps : (begin : Start) (kept : Pairs) → IsKeptJournal begin kept old → Keeps (head_of begin) (map records_of kept) from disk → (place : ℕ) × Keeps (head_of begin) (map records_of (kept ++ [])) place disk
-  nothing_keeps begin kept is at = (from, subst (λ (l : Pairs). Keeps (head_of begin) (map records_of l) from disk) (sym (append-nil kept)) at)
 
   -- memory ran out while it was read
   pub line_unread : IsDisk disk → ¬ IsLong line → ¬ IsBlank line → BreaksLine number line old count from disk disk out out Memory
@@ -130,9 +117,7 @@ module _ (number : ℕ) (line : List ℕ) (old : Market) (count from : ℕ) (dis
       words = [];
       last = old;
       further = inl (refl, refl, refl);
-      runs = nothing_runs is_disk;
-      gained = gains_none _ out;
-      whole = λ not. (refl, nothing_keeps);
+      stops = stops_after _ _ disk disk old old from from [] (added_none disk old from is_disk) out out [] (gains_none _ out);
     };
     lacks = λ is. (short, written);
   }
@@ -149,9 +134,7 @@ module _ (number : ℕ) (line : List ℕ) (old : Market) (count from : ℕ) (dis
       words = no_command_text number ∷ [];
       last = old;
       further = inr (inl (none, refl, refl, refl));
-      runs = nothing_runs is_disk;
-      gained = gains_wider ⊤ _ out after (no_command_text number ∷ []) (λ _. refl) refused;
-      whole = λ not. (refl, nothing_keeps);
+      stops = stops_after _ _ disk disk old old from from [] (added_none disk old from is_disk) out after (no_command_text number ∷ []) (gains_wider ⊤ _ out after (no_command_text number ∷ []) (λ _. refl) refused);
     };
     lacks = λ is. absurd cc;
   }

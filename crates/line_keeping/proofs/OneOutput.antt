@@ -5,7 +5,7 @@ use Rattle.market_history.specs.Histories.{Start, market_of}
 use Rattle.journal_keeping.specs.Openings.{Opening, Legal, OpensAs}
 use Rattle.journal_keeping.proofs.OneOpening.{one_opening}
 use Rattle.line_keeping.specs.Answers.{AreLinesAnswered}
-use Rattle.line_keeping.specs.Inputs.{lines_format, IsBefore}
+use Rattle.line_keeping.specs.Inputs.{IsBefore, line_starts}
 use Rattle.line_keeping.specs.Laws.{OneOutput}
 use Rattle.line_keeping.proofs.Joining.{Pairs, Texts}
 use Rattle.line_keeping.proofs.OneInput.{one_start, one_input}
@@ -16,7 +16,7 @@ legal_is : (v w : Start) (p q : Pairs) (m n : Market) → ◌≡◌ {A = Opening
 legal_is v w p q m n e = (cc, cc, cc)
 
 -- a disk is continued in one way, after what is before the lines
-one_begin : (held bytes : List ℕ) (v w : Start) (p q : Pairs) (m n : Market) (before other : Start) (text more : List ℕ) → OpensAs lines_format held v p m before → OpensAs lines_format held w q n other → IsBefore bytes before text → IsBefore bytes other more → (v ≡ w) × (p ≡ q) × (m ≡ n)
+one_begin : (held bytes : List ℕ) (v w : Start) (p q : Pairs) (m n : Market) (before other : Start) (text more : List ℕ) → OpensAs line_starts held v p m before → OpensAs line_starts held w q n other → IsBefore bytes before text → IsBefore bytes other more → (v ≡ w) × (p ≡ q) × (m ≡ n)
 one_begin held bytes v w p q m n before other text more (inl a) (inl b) is is_too = legal_is v w p q m n (one_opening held (Legal v p m) (Legal w q n) a.0 b.0)
 one_begin held bytes v w p q m n before other text more (inl a) (inr b) is is_too = absurd (a.0.0 b.0.0)
 one_begin held bytes v w p q m n before other text more (inr a) (inl b) is is_too = absurd (b.0.0 a.0.0)

@@ -13,8 +13,7 @@ use Rattle.journal_records.specs.Pairs.{IsPair, pair_encoding}
 use Rattle.market_rules.specs.Market.{Market, IsConsistent}
 use Rattle.market_rules.specs.Journal.{Step}
 use Rattle.batch_report.specs.Reports.{IsReport}
-use Rattle.exchange_session.specs.Serving.{AnswersOne, ServesCommand}
-use Rattle.exchange_session.specs.declared.session.Served.{Served}
+use Rattle.exchange_session.specs.Serving.{AnswersOne}
 
 -- the entry that a record gets
 abbrev pub pair_of : (old : Market) (asked : Record) (new : Market) (text : List ℕ) → AnswersOne old asked new text → Pair Record Outcome

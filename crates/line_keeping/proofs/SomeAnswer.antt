@@ -22,7 +22,7 @@ use Rattle.order_text.proofs.Fitting.{commands_fit}
 use Rattle.order_text.proofs.ShortRows.{rows_are_short}
 use Rattle.batch_report.specs.Reports.{IsReport}
 use Rattle.input_lines.specs.Long.{IsLong}
-use Rattle.line_keeping.specs.Answers.{no_command_text, AsksIn, AreAnswered, IsLineAnswered, AreLinesAnswered}
+use Rattle.line_keeping.specs.Answers.{no_command_text, AsksIn, AreAnswered, IsLineAnswered, AreLinesAnswered, most_entries}
 use Rattle.line_keeping.specs.Laws.{SomeAnswer}
 use Rattle.line_keeping.proofs.Joining.{Pairs, Texts}
 use Rattle.line_keeping.proofs.Lines.{ladder_few}
@@ -84,14 +84,14 @@ commands_some old count (command ∷ commands) consistent fit short few =
 
 -- ---- lines
 
--- a line asks for at most 32 commands
-few_asked : (m : Market) (line : List ℕ) (asked : Asked) → LineAsks m.version m.tickers line asked → length (commands_of asked) ≤ 32
+-- a line asks for at most `most_entries` commands
+few_asked : (m : Market) (line : List ℕ) (asked : Asked) → LineAsks m.version m.tickers line asked → length (commands_of asked) ≤ most_entries
 few_asked m line (Alone command) asks = omega arith
 few_asked m line (OfLadder commands) asks = ladder_few m.version m.tickers line commands asks
 
-module _ (old : Market) (count number : ℕ) (line : List ℕ) (consistent : IsConsistent old) (few : old.next_order + 32 < 2 ^ 64) where
+module _ (old : Market) (count number : ℕ) (line : List ℕ) (consistent : IsConsistent old) (few : old.next_order + most_entries < 2 ^ 64) where
   abbrev Line : Type 0
-  Line = Found old 32 (IsLineAnswered old count number line)
+  Line = Found old most_entries (IsLineAnswered old count number line)
 
   -- a line that asks for something
   asked_some : (asked : Asked) → AsksIn old line asked → IsNotDenied Line
@@ -119,13 +119,13 @@ module _ (old : Market) (count number : ℕ) (line : List ℕ) (consistent : IsC
   line_some (inr short) = follows (short_some short) (one_of (IsBlank line))
 
 -- lines are answered in some way
-lines_some : (old : Market) (count number : ℕ) (lines : Texts) → IsConsistent old → old.next_order + 32 * length lines < 2 ^ 64 → IsNotDenied (Found old (32 * length lines) (AreLinesAnswered old count number lines))
+lines_some : (old : Market) (count number : ℕ) (lines : Texts) → IsConsistent old → old.next_order + most_entries * length lines < 2 ^ 64 → IsNotDenied (Found old (most_entries * length lines) (AreLinesAnswered old count number lines))
 lines_some old count number [] consistent few =
     not_denied (record { pairs = []; texts = []; new = old; are = (refl, refl, refl); each = All-nil IsPair; consistent = consistent; orders = omega arith })
 lines_some old count number (line ∷ lines) consistent few =
     follows
-    (λ (one : Found old 32 (IsLineAnswered old count number line)). follows
-    (λ (rest : Found one.new (32 * length lines) (AreLinesAnswered one.new (count + length one.pairs) (number + 1) lines)). not_denied (record {
+    (λ (one : Found old most_entries (IsLineAnswered old count number line)). follows
+    (λ (rest : Found one.new (most_entries * length lines) (AreLinesAnswered one.new (count + length one.pairs) (number + 1) lines)). not_denied (record {
       pairs = one.pairs ++ rest.pairs;
       texts = one.texts ++ rest.texts;
       new = rest.new;
@@ -139,4 +139,4 @@ lines_some old count number (line ∷ lines) consistent few =
 
 pub some_answer : SomeAnswer
 some_answer old count number lines consistent few =
-    follows (λ (so : Found old (32 * length lines) (AreLinesAnswered old count number lines)). not_denied (so.pairs, so.texts, so.new, so.are, so.each)) (lines_some old count number lines consistent few)
+    follows (λ (so : Found old (most_entries * length lines) (AreLinesAnswered old count number lines)). not_denied (so.pairs, so.texts, so.new, so.are, so.each)) (lines_some old count number lines consistent few)

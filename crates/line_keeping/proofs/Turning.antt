@@ -1,5 +1,5 @@
 -- One turn of the loop over lines: a line was found, and how it ends.
-use Rattle.std.proofs.Common.{◌≡◌, ◌≢◌, inl, ℕ, ◌+◌, ◌-◌, ◌<◌, ◌≤◌, ◌^◌, List, [], ◌∷◌, ◌++◌, Option, IfSome, Ok, Err, length, length-append, take, drop, map, refl, sym, ap, subst, ◌∙◌, arith, append_assoc}
+use Rattle.std.proofs.Common.{◌≡◌, ◌≢◌, inl, ℕ, ◌+◌, ◌-◌, ◌<◌, ◌≤◌, ◌^◌, List, [], ◌∷◌, ◌++◌, Option, IfSome, Ok, Err, length, length-append, take, drop, map, sym, ap, subst, ◌∙◌, arith, append_assoc}
 use Rattle.std.specs.Prelude.{⊤}
 use Rattle.std.proofs.lemmas.List.{append-nil, length-take-le}
 use Rattle.wire_records.specs.Records.{Record}
@@ -16,21 +16,21 @@ use Rattle.disk_edge.specs.Disks.{DiskState, IsDisk}
 use Rattle.journal_disk.specs.Entries.{Keeps}
 use Rattle.line_records.specs.Lines.{HasNoFeed, ended_by_feeds}
 use Rattle.journal_keeping.specs.Starts.{head_of}
-use Rattle.journal_keeping.specs.Keeping.{IsKeptJournal, Runs}
-use Rattle.journal_keeping.specs.Pacing.{asked_of}
-use Rattle.journal_keeping.proofs.Serving.{ended}
+use Rattle.journal_keeping.specs.Keeping.{IsKeptJournal}
+use Rattle.journal_keeping.proofs.Stopping.{stops_after}
 use Rattle.file_units.specs.declared.units.Ending.TheVariants.{End, TooLong}
 use Rattle.file_units.specs.declared.input.TakeFault.TheVariants.{Read, Broken}
+use Rattle.journal_keeping.specs.Lengths.{most_input}
 use Rattle.journal_keeping.specs.declared.fault.ServeFault.{ServeFault}
 use Rattle.journal_keeping.specs.declared.fault.ServeFault.TheVariants.{Write}
 use Rattle.input_lines.specs.Finding.{FindsNext, FindsNoFeed}
 use Rattle.input_lines.specs.declared.lines.Next.TheVariants as next
 use Rattle.line_keeping.specs.Answers.{no_command_text, AreLinesAnswered}
-use Rattle.line_keeping.specs.Outputs.{Output, Gains}
+use Rattle.journal_keeping.specs.Outputs.{Output, Gains}
 use Rattle.line_keeping.specs.Private.{AnswersLine, BreaksLine, HasGone, StopAt, AnswersOn, KeepsSome}
 use Rattle.line_keeping.proofs.Joining.{Texts, lines_more}
-use Rattle.line_keeping.proofs.Adding.{added_more}
-use Rattle.line_keeping.proofs.Gaining.{gains_more, gains_wider}
+use Rattle.journal_keeping.proofs.Adding.{added_more}
+use Rattle.journal_keeping.proofs.Gaining.{gains_more, gains_wider}
 use Rattle.line_keeping.proofs.Keeping.{keeps_on}
 use Rattle.line_keeping.proofs.Lines.{line_refused, line_unwritten}
 use Rattle.line_keeping.proofs.Going.{feeds_more, gone_more, ends_so, breaks_so}
@@ -43,7 +43,7 @@ lines_below (line ∷ lines) = omega (arith, lines_below lines, length-append (l
 
 module _ (first : WindowState) (rest : Option (List ℕ)) (old : Market) (count from : ℕ) (start : DiskState) (out : Output)
     (now : WindowState) (left : Option (List ℕ)) (market : Market) (entries place lines : ℕ) (disk : DiskState) (later : Output) (gone : HasGone first now rest left old market count entries from place lines start disk out later) where
-  pub few_lines : first.limit ≤ 2 ^ 32 → lines + 1 < 2 ^ 64
+  pub few_lines : first.limit ≤ most_input → lines + 1 < 2 ^ 64
   few_lines short = omega (arith, gone.number, lines_below gone.read, gone.place_is, gone.is_open.within, gone.limit, short)
 
   pub still_kept : IfSome start.content (λ _. (begin : Start) × (kept : List (Pair Record Outcome)) × IsKeptJournal begin kept old × Keeps (head_of begin) (map records_of kept) from start) → KeepsSome place disk
@@ -218,15 +218,11 @@ module _ (first : WindowState) (rest : Option (List ℕ)) (old : Market) (count 
           texts = texts;
           market = market2;
           answered = answered;
-          journal = λ not begin kept is at. (added.kept begin kept is at).goes_on.journal;
           more = [];
           words = texts;
           last = market2;
           further = subst (λ (p : List (Pair Record Outcome)). AreLinesAnswered old count 1 (gone.read ++ line ∷ []) p texts market2) (sym (append-nil pairs)) answered;
-          runs = λ begin kept is at.
-              subst (λ (p : List (Pair Record Outcome)). Runs begin start disk2 kept old (asked_of p) p (length pairs)) (sym (append-nil pairs)) (ended begin start disk2 kept old place2 (asked_of pairs) pairs market2 (added.kept begin kept is at));
-          gained = gains_wider ⊥ _ out last texts (λ no. absurd no) (gains_more ⊥ out later last gone.texts answers.texts gone.gained answers.gained);
-          whole = λ not. (refl, λ begin kept is at. (place2, (added.kept begin kept is at).keeps));
+          stops = stops_after _ _ start disk2 old market2 from place2 pairs added out last texts (gains_wider ⊥ _ out last texts (λ no. absurd no) (gains_more ⊥ out later last gone.texts answers.texts gone.gained answers.gained));
           lacks = λ is. absurd cc;
         }
 

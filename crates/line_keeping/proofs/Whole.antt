@@ -1,9 +1,9 @@
 -- What serving lines results in, from what its parts did.
-use Rattle.std.proofs.Common.{◌≡◌, ◌≢◌, ◌⊎◌, inl, inr, ℕ, zero, suc, ◌+◌, ◌-◌, ◌*◌, ◌<◌, ◌≤◌, List, [], ◌∷◌, ◌++◌, Option, None, Some, IfSome, Result, Ok, Err, Contains, length, length-append, take, drop, get_or, map, refl, sym, ap, subst, ◌∙◌, arith, append_assoc, take-append-drop}
+use Rattle.std.proofs.Common.{◌≡◌, ◌≢◌, ◌⊎◌, inl, inr, ℕ, zero, suc, ◌+◌, ◌-◌, ◌<◌, ◌≤◌, List, [], ◌∷◌, ◌++◌, Option, None, Some, IfSome, Result, Ok, Err, Contains, length, length-append, take, drop, get_or, map, refl, sym, ap, subst, ◌∙◌, arith, append_assoc, take-append-drop}
 use Rattle.std.specs.Prelude.{⊤}
 use Rattle.std.proofs.lemmas.List.{append-nil}
 use Rattle.std.proofs.lemmas.List.Elements.{All-nil, Contains-append_left}
-use Rattle.std.proofs.Math.Seq.{take-append-add, take-append_seam}
+use Rattle.std.proofs.Math.Seq.{take-append-add}
 use Rattle.word_driver.specs.Does.{IsTaken}
 use Rattle.flow_io.specs.Streams.{Takes, TakesAtMost}
 use Rattle.flow_io.specs.Windows.{WindowState}
@@ -15,10 +15,8 @@ use Rattle.market_snapshot.specs.Checkpoints.{checkpoint_magic, HasCheckpointMag
 use Rattle.wire_records.specs.declared.version.Version.{Version}
 use Rattle.market_history.specs.Histories.{Start, Empty, Kept, CanStart}
 use Rattle.market_history.proofs.Starting.{magic_on}
-use Rattle.disk_edge.specs.Disks.{DiskState, IsDisk, AtEachMoment}
-use Rattle.disk_edge.proofs.Moments.{weaker, then_more, at_the_end}
+use Rattle.disk_edge.specs.Disks.{DiskState}
 use Rattle.journal_disk.specs.Entries.{Keeps}
-use Rattle.journal_disk.specs.Lengths.{HasAtMost, LeavesAtMost, ReachesAtMost}
 use Rattle.line_records.specs.Lines.{HasNoFeed, AreLines, ended_by_feeds}
 use Rattle.line_records.proofs.Pieces.{lines_after}
 use Rattle.file_units.specs.declared.units.Ending.{Ending}
@@ -32,27 +30,26 @@ use Rattle.journal_keeping.specs.declared.fault.BeginFault.TheVariants.{Open, In
 use Rattle.journal_keeping.specs.declared.fault.ServeFault.{ServeFault}
 use Rattle.journal_keeping.specs.declared.fault.ServeFault.TheVariants.{Disk, Write, Memory}
 use Rattle.journal_keeping.specs.Faults.{of_begin, kept_result}
-use Rattle.journal_keeping.specs.Inputs.{InputBegins, IsNearStart, IsAfterStart}
+use Rattle.journal_keeping.specs.Inputs.{InputBegins}
+use Rattle.journal_keeping.specs.Taking.{IsNearStart, IsAfterStart}
 use Rattle.journal_keeping.specs.Starts.{version_of, head_of}
-use Rattle.journal_keeping.specs.Keeping.{IsKeptJournal, HoldsLegal, GoesOnIn}
-use Rattle.journal_keeping.specs.Lengths.{GrowsAtMost, BringsAtMost, HasYetAtMost}
-use Rattle.journal_keeping.specs.Ended.{MayBeginAgain}
-use Rattle.journal_keeping.specs.Beginning.{IsBegun, OpensSafely, NotBegun, Unread}
-use Rattle.journal_keeping.specs.Pacing.{asked_of}
-use Rattle.journal_keeping.proofs.Starting.{opens_journal, brought}
+use Rattle.journal_keeping.specs.Keeping.{IsKeptJournal, GoesOnIn}
+use Rattle.journal_keeping.specs.Beginning.{IsBegun, NotBegun, Unread}
+use Rattle.journal_keeping.specs.Dialogs.{KeepsJust}
 use Rattle.journal_keeping.proofs.Begun.{Opens}
-use Rattle.journal_keeping.proofs.Lengths.{last_commit, left_less}
 use Rattle.journal_keeping.proofs.Magic.{at_most}
-use Rattle.journal_keeping.proofs.Serving.{unbegun, opened_first}
-use Rattle.journal_keeping.proofs.Whole.{after_run, wanted_one}
-use Rattle.line_keeping.specs.Answers.{AreLinesAnswered, AreAnsweredInto, AreFirstAnswered}
-use Rattle.line_keeping.specs.Inputs.{bytes_before, IsBefore, IsPartOfMagic, lines_format, HasLines, HasLinesWithin}
-use Rattle.line_keeping.specs.Outputs.{Output}
-use Rattle.line_keeping.specs.Keeping.{ServesIn}
-use Rattle.line_keeping.specs.Ended.{HasAnswered, BreaksOff, KeepsJust, RunsOutAt, ComesTo, LeavesNone}
-use Rattle.line_keeping.specs.Private.{StopAt, AreRead, AreDone, BrokeOff, AnswersOn}
+use Rattle.journal_keeping.proofs.Serving.{goes_none}
+use Rattle.journal_keeping.proofs.Dialogs.{serves_added, has_served, keeps_just}
+use Rattle.journal_keeping.proofs.Whole.{wanted_one}
+use Rattle.line_keeping.specs.Answers.{MayRunOut, AreLinesAnswered, AreAnsweredInto, AreFirstAnswered}
+use Rattle.line_keeping.specs.Inputs.{line_starts, bytes_before, IsBefore, IsPartOfMagic, HasLines, HasLinesWithin}
+use Rattle.journal_keeping.specs.Outputs.{Output}
+use Rattle.journal_keeping.specs.Dialogs.{ServesIn, KeepsJust}
+use Rattle.line_keeping.specs.Keeping.{line_dialog}
+use Rattle.line_keeping.specs.Ended.{HasAnswered, BreaksOff, ComesTo, LeavesNone}
+use Rattle.line_keeping.specs.Private.{lines_format, StopAt, AreRead, AreDone, AnswersOn}
 use Rattle.line_keeping.proofs.Joining.{Pairs, Texts}
-use Rattle.line_keeping.proofs.Gaining.{gains_none, gains_wider}
+use Rattle.journal_keeping.proofs.Gaining.{gains_none}
 use Rattle.line_keeping.proofs.Endings.{less_or_not}
 use Rattle.line_keeping.proofs.Looking.{too_few}
 
@@ -107,79 +104,35 @@ comes_not_begun limit held content left end out (Open (unopened.Damaged place)) 
 comes_not_begun limit held content left end out (Open (unopened.Rejected number)) is unread = (refl, is)
 comes_not_begun limit held content left end out (Open unopened.Disk) is unread = inl (refl, inl unread)
 comes_not_begun limit held content left end out (Open unopened.Memory) is unread = inl (unread, refl)
-comes_not_begun limit held content left end out (Input input.NotFlow) (inl kept) unread = (refl, kept.0, kept.1, kept.2, kept.3, kept.4, kept.5, kept.6)
+comes_not_begun limit held content left end out (Input input.NotFlow) (inl kept) unread = (refl, kept.0, kept.1, kept.2, kept.3, kept.4, kept.5)
 comes_not_begun limit held content left end out (Input input.NotFlow) (inr (new, same, images, why)) unread = absurd why
-comes_not_begun limit held content left end out (Input input.BadCheckpoint) (inl (begin, old, market, opens, why, place, keeps)) unread = absurd (wanted_one (version_of begin) why.0)
+comes_not_begun limit held content left end out (Input input.BadCheckpoint) (inl (begin, old, market, opens, why, kept)) unread = absurd (wanted_one (version_of begin) why.0)
 comes_not_begun limit held content left end out (Input input.BadCheckpoint) (inr (new, same, images, why)) unread = (refl, (new, why.1, same, images))
-comes_not_begun limit held content left end out (Input input.Read) (inl (begin, old, market, opens, part, place, keeps)) unread =
+comes_not_begun limit held content left end out (Input input.Read) (inl (begin, old, market, opens, part, kept)) unread =
     inl (record {
       begin = begin;
       old = old;
       market = market;
-      before = Empty (version_of begin);
+      input = Empty (version_of begin);
       opens = inl (opens, refl);
-      lines = [];
-      are = part_read (version_of begin) limit content left part;
       new = [];
       texts = [];
       now = market;
-      answered = (refl, refl, refl);
-      journal = subst (λ (l : Pairs). IsKeptJournal begin l market) (sym (append-nil old)) opens.2;
-      place = place;
-      keeps = subst (λ (l : Pairs). Keeps (head_of begin) (map records_of l) place end) (sym (append-nil old)) keeps;
+      goes_on = goes_none begin old market opens.2;
+      are = ([], part_read (version_of begin) limit content left part, (refl, refl, refl));
       gained = gains_none ⊥ out;
+      at = subst (λ (l : Pairs). KeepsJust end begin l) (sym (append-nil old)) kept;
     })
 comes_not_begun limit held content left end out (Input input.Read) (inr (new, same, images, why)) unread = inr (new, same, images, refl, why)
-comes_not_begun limit held content left end out (Input input.Memory) (inl (begin, old, market, opens, inl same, place, keeps)) unread = inl (same, refl)
-comes_not_begun limit held content left end out (Input input.Memory) (inl (begin, old, market, opens, inr new, place, keeps)) unread = absurd (wanted_one (version_of begin) new.0)
+comes_not_begun limit held content left end out (Input input.Memory) (inl (begin, old, market, opens, inl same, kept)) unread = inl (same, refl)
+comes_not_begun limit held content left end out (Input input.Memory) (inl (begin, old, market, opens, inr new, kept)) unread = absurd (wanted_one (version_of begin) new.0)
 comes_not_begun limit held content left end out (Input input.Memory) (inr (new, same, images, inl none)) unread = inl (none, refl)
 comes_not_begun limit held content left end out (Input input.Memory) (inr (new, same, images, inr early)) unread = inr (inl (new, same, refl, early.1))
 comes_not_begun limit held content left end out Make is near = inl (refl, inr (near_lines limit content left near))
 
 -- before the first line
-pub keeps_none : (limit : ℕ) (content : Option (List ℕ)) (Cut : Type 0) (begin : Start) (start next : DiskState) (old : Pairs) (market : Market) (out : Output) → IsDisk next → OpensSafely lines_format limit content start next begin old market
-    → ServesIn limit content Cut begin start next old market out out
-keeps_none limit content Cut begin start next old market out is_disk safe = (
-  safe.of,
-  safe.from,
-  safe.input,
-  safe.goes,
-  record {
-    new = [];
-    acknowledged = 0;
-    runs = unbegun safe.of start next old safe.from safe.journal is_disk safe.moments;
-    texts = [];
-    added = inl (refl, refl);
-    answers = [];
-    answered = inl (refl, refl);
-    gained = gains_none Cut out;
-  },
-)
-
-pub may_begin_again : (limit : ℕ) (content : Option (List ℕ)) (Cut : Type 0) (begin : Start) (start end : DiskState) (old : Pairs) (market : Market) (out later : Output) → HoldsLegal start begin old market → IsDisk end
-    → ServesIn limit content Cut begin start end old market out later → MayBeginAgain start end
-may_begin_again limit content Cut begin start end old market out later legal is_disk (of, from, before, goes, serves) =
-    after_run begin of start end old serves.new market from (asked_of serves.new) serves.acknowledged legal is_disk serves.runs
-
--- a write may be cut short in more cases
-pub cut_wider : (limit : ℕ) (content : Option (List ℕ)) (Less Cut : Type 0) → (Less → Cut) → (begin : Start) (start end : DiskState) (old : Pairs) (market : Market) (out later : Output)
-    → ServesIn limit content Less begin start end old market out later → ServesIn limit content Cut begin start end old market out later
-cut_wider limit content Less Cut wider begin start end old market out later (of, from, before, goes, serves) = (
-  of,
-  from,
-  before,
-  goes,
-  record {
-    new = serves.new;
-    acknowledged = serves.acknowledged;
-    runs = serves.runs;
-    texts = serves.texts;
-    added = serves.added;
-    answers = serves.answers;
-    answered = serves.answered;
-    gained = gains_wider Less Cut out later serves.answers wider serves.gained;
-  },
-)
+pub adds_none : (limit : ℕ) (content : Option (List ℕ)) (before : Start) (from : Market) (count : ℕ) → line_dialog.Adds limit content before from count [] []
+adds_none limit content before from count = inl (refl, refl)
 
 -- ---- the lines of the input
 
@@ -240,7 +193,7 @@ module _ (limit : ℕ) (before : Start) (w : WindowState) (content mid left : Op
 
     none_is : (version : Version) → before ≡ Empty version → ¬ HasCheckpointMagic (take limit bytes)
     none_is version is =
-        let begins = subst (λ (o : Option (List ℕ)). InputBegins lines_format limit o before) is_content following.begins in
+        let begins = subst (λ (o : Option (List ℕ)). InputBegins line_starts limit o before) is_content following.begins in
         (subst (λ (b : Start). IsBefore (take limit bytes) b begins.0) is begins.1).0
 
     size_is : length bytes ≡ length (bytes_before before) + length all
@@ -319,91 +272,53 @@ module _ (limit : ℕ) (before : Start) (w : WindowState) (content mid left : Op
 
 -- what it does to the disk and to the output
 pub keeps_served : (limit : ℕ) (content mid left : Option (List ℕ)) (w : WindowState) (of before : Start) (following : IsAfterStart lines_format limit before w content mid) (result : Result Ending (TakeFault ServeFault)) (begin : Start) (start begun end : DiskState) (old : Pairs) (market session : Market) (count place : ℕ) (out later : Output)
-    → GoesOnIn lines_format limit content start begin market of session before × IsKeptJournal of old session × (count ≡ length old) × Keeps (head_of of) (map records_of old) place begun → Opens of start begun old
-    → AnswersOn w mid left result session count place begun end out later → ServesIn limit content (result ≡ Err (Broken Write)) begin start end old market out later
+    → GoesOnIn line_starts limit content start begin market of session before × IsKeptJournal of old session × (count ≡ length old) × Keeps (head_of of) (map records_of old) place begun → Opens of start begun old
+    → AnswersOn w mid left result session count place begun end out later → ServesIn line_dialog limit content (result ≡ Err (Broken Write)) begin start end old market out later
 keeps_served limit content mid left w of before following result begin start begun end old market session count place out later is opens on =
-    let all = on.pairs ++ on.more in (
-      of,
-      session,
-      before,
-      is.0,
-      record {
-        new = all;
-        acknowledged = length on.pairs;
-        runs = opened_first of start begun end old session place (asked_of all) all (length on.pairs) opens is.3 (on.runs of old is.1 is.3);
-        texts = on.words;
-        added = inr (subst (λ (n : ℕ). IfSome content (λ bytes. (lines : Texts) × HasLinesWithin limit bytes before lines × (now : Market) × AreFirstAnswered session n lines all on.words now)) is.2
-            (first_answered limit before w content mid left following on.taken on.takes session count on.read on.line result all on.words on.last on.reads on.further));
-        answers = on.texts;
-        answered = inr (subst (λ (n : ℕ). IfSome content (λ bytes. (lines : Texts) × HasLinesWithin limit bytes before lines × (now : Market) × AreFirstAnswered session n lines (take (length on.pairs) all) on.texts now)) is.2
-            (subst (λ (p : Pairs). IfSome content (λ bytes. (lines : Texts) × HasLinesWithin limit bytes before lines × (now : Market) × AreFirstAnswered session count lines p on.texts now)) (sym (take-append_seam on.pairs on.more))
-            (first_answered limit before w content mid left following on.taken on.takes session count on.read on.line result on.pairs on.texts on.market on.reads on.answered)));
-        gained = on.gained;
-      },
-    )
+    serves_added line_dialog limit content (result ≡ Err (Broken Disk)) (result ≡ Err (Broken Write)) of before begin start begun end old market session on.market count place out later on.pairs on.more on.words on.texts is opens on.stops
+    (inr (first_answered limit before w content mid left following on.taken on.takes session count on.read on.line result (on.pairs ++ on.more) on.words on.last on.reads on.further))
+    (inr (first_answered limit before w content mid left following on.taken on.takes session count on.read on.line result on.pairs on.texts on.market on.reads on.answered))
 
 -- what it results in
-module _ (limit : ℕ) (held : List ℕ) (content : Option (List ℕ)) (begun : DiskState) (begin before : Start) (market : Market) (count place : ℕ) (is : IsBegun lines_format held begin before market count place begun)
+module _ (limit : ℕ) (held : List ℕ) (content : Option (List ℕ)) (begun : DiskState) (begin before : Start) (market : Market) (count place : ℕ) (is : IsBegun line_starts held begin before market count place begun)
     (mid left : Option (List ℕ)) (w : WindowState) (following : IsAfterStart lines_format limit before w content mid) (end : DiskState) (out later : Output) where
-  journal : IsKeptJournal begin is.0 market
-  journal = opens_journal lines_format limit held begin before is.0 market following.starts is.1
+  module _ (result : Result Ending (TakeFault ServeFault)) (on : AnswersOn w mid left result market count place begun end out later) where
+    kept : ¬ (result ≡ Err (Broken Disk)) → KeepsJust end begin (is.0 ++ on.pairs)
+    kept not = keeps_just line_starts held begin before market count place begun is following.starts (result ≡ Err (Broken Disk)) (result ≡ Err (Broken Write)) on.market end out later on.pairs on.more on.texts on.stops not
 
-  all_answered : (result : Result Ending (TakeFault ServeFault)) (on : AnswersOn w mid left result market count place begun end out later) (Are : List ℕ → Start → Texts → Type 0) → ¬ BrokeOff result → AreLinesAnswered market count 1 on.read on.pairs on.texts on.market
-      → IfSome content (λ bytes. Are bytes before on.read) → HasAnswered held content end out later Are
-  all_answered result on Are whole answered are =
-      let kept = (on.whole (λ e. whole (Disk, e))).1 begin is.0 journal is.3 in
-      record {
-        begin = begin;
-        old = is.0;
-        market = market;
-        before = before;
-        opens = is.1;
-        lines = on.read;
-        are = are;
-        new = on.pairs;
-        texts = on.texts;
-        now = on.market;
-        answered = subst (λ (n : ℕ). AreLinesAnswered market n 1 on.read on.pairs on.texts on.market) is.2 answered;
-        journal = on.journal whole begin is.0 journal is.3;
-        place = kept.0;
-        keeps = kept.1;
-        gained = gains_wider (result ≡ Err (Broken Write)) ⊥ out later on.texts (λ e. whole (Write, e)) on.gained;
-      }
+    all_answered : (Are : List ℕ → Start → Texts → Type 0) → ((fault : ServeFault) → ¬ (result ≡ Err (Broken fault))) → AreLinesAnswered market count 1 on.read on.pairs on.texts on.market
+        → IfSome content (λ bytes. Are bytes before on.read) → HasAnswered held content end out later Are
+    all_answered Are whole answered are =
+        has_served line_starts held begin before market count place begun is following.starts (result ≡ Err (Broken Disk)) (result ≡ Err (Broken Write)) on.market end out later on.pairs on.more on.texts on.stops
+        ⊥ (whole Write) (λ first m n new texts now. (lines : Texts) × IfSome content (λ bytes. Are bytes first lines) × AreLinesAnswered m n 1 lines new texts now) (KeepsJust end)
+        (on.read, are, answered) (kept (whole Disk))
 
-  stopped_at : (result : Result Ending (TakeFault ServeFault)) (on : AnswersOn w mid left result market count place begun end out later) (Cut : Type 0) (At : Start → Pairs → List ℕ → Type 0)
-      → StopAt (w.limit - w.place) (w.held ++ known on.taken left) (w.held ++ on.taken) left on.read on.line → AreAnsweredInto market count on.read on.line on.pairs on.texts on.market → (result ≡ Err (Broken Write) → Cut) → At begin (is.0 ++ on.pairs) on.line
-      → BreaksOff limit held content left Cut out later At
-  stopped_at result on Cut At stop into cut at = record {
-    begin = begin;
-    old = is.0;
-    market = market;
-    before = before;
-    opens = is.1;
-    read = on.read;
-    line = on.line;
-    more = stop.0;
-    lines = if_known limit before w content mid left following on.taken on.takes _ (λ bytes m l x y z. lines_are limit before w content mid left following on.taken on.takes bytes m l x y z (on.read ++ on.line ∷ stop.0) stop.1);
-    near = if_known limit before w content mid left following on.taken on.takes _ (λ bytes m l x y z. (
-      length (bytes_before before) + length (w.held ++ on.taken),
-      taken_is limit before w content mid left following on.taken on.takes bytes m l x y z,
-      omega (arith, stop.2),
-    ));
-    new = on.pairs;
-    texts = on.texts;
-    now = on.market;
-    answered = subst (λ (n : ℕ). AreAnsweredInto market n on.read on.line on.pairs on.texts on.market) is.2 into;
-    gained = gains_wider (result ≡ Err (Broken Write)) Cut out later on.texts cut on.gained;
-    at = at;
-  }
+    stopped_at : (Cut : Type 0) (May : List ℕ → Type 0) (At : Start → Pairs → Type 0) → StopAt (w.limit - w.place) (w.held ++ known on.taken left) (w.held ++ on.taken) left on.read on.line
+        → AreAnsweredInto market count on.read on.line on.pairs on.texts on.market → (result ≡ Err (Broken Write) → Cut) → May on.line → At begin (is.0 ++ on.pairs) → BreaksOff limit held content left Cut out later May At
+    stopped_at Cut May At stop into cut may at =
+        has_served line_starts held begin before market count place begun is following.starts (result ≡ Err (Broken Disk)) (result ≡ Err (Broken Write)) on.market end out later on.pairs on.more on.texts on.stops
+        Cut cut (λ first m n new texts now. (read : Texts) × (line : List ℕ) × (more : Texts) × May line × AreAnsweredInto m n read line new texts now
+        × IfSome content (λ bytes. HasLinesWithin limit bytes first (read ++ line ∷ more)
+        × (taken : ℕ) × IsTaken bytes left taken × (taken ≤ length (bytes_before first) + length (ended_by_feeds (read ++ line ∷ [])) + 65538))) At (
+          on.read,
+          on.line,
+          stop.0,
+          may,
+          into,
+          if_known limit before w content mid left following on.taken on.takes _ (λ bytes m l x y z. (
+            lines_are limit before w content mid left following on.taken on.takes bytes m l x y z (on.read ++ on.line ∷ stop.0) stop.1,
+            length (bytes_before before) + length (w.held ++ on.taken),
+            taken_is limit before w content mid left following on.taken on.takes bytes m l x y z,
+            omega (arith, stop.2),
+          )),
+        )
+        at
 
-  keeps_just : (result : Result Ending (TakeFault ServeFault)) (on : AnswersOn w mid left result market count place begun end out later) → result ≢ Err (Broken Disk) → KeepsJust end begin (is.0 ++ on.pairs) on.line
-  keeps_just result on not = (on.whole not).1 begin is.0 journal is.3
+  done_whole : (ending : Ending) (fault : ServeFault) → ¬ (◌≡◌ {A = Result Ending (TakeFault ServeFault)} (Ok ending) (Err (Broken fault)))
+  done_whole ending fault e = absurd cc
 
-  done_whole : (ending : Ending) → ¬ BrokeOff (Ok ending)
-  done_whole ending e = absurd (let is = e.1 in cc)
-
-  read_whole : ¬ BrokeOff (Err Read)
-  read_whole e = absurd (let is = e.1 in cc)
+  read_whole : (fault : ServeFault) → ¬ (◌≡◌ {A = Result Ending (TakeFault ServeFault)} (Err Read) (Err (Broken fault)))
+  read_whole fault e = absurd cc
 
   pub comes_served : (result : Result Ending (TakeFault ServeFault)) → AnswersOn w mid left result market count place begun end out later → ComesTo limit held content left end out later (kept_result result)
   comes_served (Ok End) on =
@@ -421,9 +336,9 @@ module _ (limit : ℕ) (held : List ℕ) (content : Option (List ℕ)) (begun : 
   comes_served (Err Read) on =
       inl (all_answered (Err Read) on (λ bytes first lines. (n : ℕ) × IsTaken bytes left n × HasLines ⊤ (take n (take limit bytes)) first lines) read_whole on.answered
       (if_known limit before w content mid left following on.taken on.takes _ (λ bytes m l x y z. read_is limit before w content mid left following on.taken on.takes bytes m l x y z on.read on.reads)))
-  comes_served (Err (Broken Write)) on = stopped_at (Err (Broken Write)) on ⊤ (KeepsJust end) on.reads on.answered (λ e. tt) (keeps_just (Err (Broken Write)) on (λ e. absurd cc))
-  comes_served (Err (Broken Disk)) on = inr (stopped_at (Err (Broken Disk)) on ⊥ (λ b pairs line. ⊤) on.reads on.answered (λ e. absurd cc) tt)
-  comes_served (Err (Broken Memory)) on = inr (inr (stopped_at (Err (Broken Memory)) on ⊥ (RunsOutAt end) on.reads on.answered (λ e. absurd cc) (keeps_just (Err (Broken Memory)) on (λ e. absurd cc), on.lacks refl)))
+  comes_served (Err (Broken Write)) on = stopped_at (Err (Broken Write)) on ⊤ (λ line. ⊤) (KeepsJust end) on.reads on.answered (λ e. tt) tt (kept (Err (Broken Write)) on (λ e. absurd cc))
+  comes_served (Err (Broken Disk)) on = inr (stopped_at (Err (Broken Disk)) on ⊥ (λ line. ⊤) (λ b pairs. ⊤) on.reads on.answered (λ e. absurd cc) tt tt)
+  comes_served (Err (Broken Memory)) on = inr (inr (stopped_at (Err (Broken Memory)) on ⊥ MayRunOut (KeepsJust end) on.reads on.answered (λ e. absurd cc) (on.lacks refl) (kept (Err (Broken Memory)) on (λ e. absurd cc))))
   comes_served (Ok (Torn n)) on = absurd on.reads
 
 -- ---- how much was read
@@ -441,35 +356,3 @@ pub taken_few : (limit : ℕ) (before : Start) (w : WindowState) (content mid le
 taken_few limit before w content mid left taken following takes few =
     at_most content left ((bytes_before before ++ w.held) ++ taken) (limit + 1) (Takes-more content mid left (bytes_before before ++ w.held) taken following.takes takes)
     (omega (arith, few, following.place, following.limited, length-append (bytes_before before ++ w.held) taken, length-append (bytes_before before) w.held))
-
--- ---- how long the disk is
-
--- the window follows what is before the lines: so many bytes fewer may be served
-yet_after : (limit count : ℕ) (before : Start) (w : WindowState) (content after : Option (List ℕ)) → IsAfterStart lines_format limit before w content after → BringsAtMost limit content count → HasYetAtMost (count - length (bytes_before before)) w after
-yet_after limit count before w content after following (inl up) = inl (omega (arith, up, following.limited, following.place, following.within))
-yet_after limit count before w content after following (inr has) =
-    let less = left_less (bytes_before before ++ w.held) content after has.0 following.takes has.1 in
-    inr (less.0, less.1, omega (arith, has.2, less.2, length-append (bytes_before before) w.held))
-
-grows_by : (limit : ℕ) (begin : Start) (before : Start) (w : WindowState) (content after : Option (List ℕ)) → IsAfterStart lines_format limit before w content after → (start mid end : DiskState) → IsDisk mid
-    → ((most : ℕ) → 9 ≤ most → LeavesAtMost most start → AtEachMoment start mid (HasAtMost (most + 2 * length (bytes_before before)))) → (pairs : Pairs) (place : ℕ) → Keeps (head_of begin) (map records_of pairs) place mid
-    → ((count : ℕ) → HasYetAtMost count w after → ReachesAtMost (place + (8421856 * count + 1)) mid end) → GrowsAtMost 8421856 limit content start end
-grows_by limit begin before w content after following start mid end is_disk within pairs place keeps served = λ most count nine short brings.
-    let size = length (bytes_before before) in
-    let run = within most nine short in
-    let there = at_the_end start mid (HasAtMost (most + 2 * size)) is_disk run in
-    let last = last_commit (head_of begin) (map records_of pairs) place (most + 2 * size) mid is_disk keeps there in
-    let few = brought lines_format limit before w content after following count brings in
-    let all = most + 8421856 * count in
-    then_more start mid end (HasAtMost all) (weaker start mid (HasAtMost (most + 2 * size)) (HasAtMost all) (λ image le. omega (arith, le, few)) run)
-    (served (count - size) (yet_after limit count before w content after following brings) all (omega (arith, last, few)) (λ image left. omega (arith, there image left, few)))
-
-pub grows_served : (limit : ℕ) (begin : Start) (before : Start) (w : WindowState) (content after : Option (List ℕ)) → IsAfterStart lines_format limit before w content after → (start mid end : DiskState) → IsDisk mid
-    → ((most : ℕ) → 9 ≤ most → LeavesAtMost most start → AtEachMoment start mid (HasAtMost (most + 2 * length (bytes_before before)))) → (held : List ℕ) (market : Market) (count place : ℕ) → IsBegun lines_format held begin before market count place mid
-    → ((more : ℕ) → HasYetAtMost more w after → ReachesAtMost (place + (8421856 * more + 1)) mid end) → GrowsAtMost 8421856 limit content start end
-grows_served limit begin before w content after following start mid end is_disk within held market count place begun served = grows_by limit begin before w content after following start mid end is_disk within begun.0 place begun.3 served
-
--- a disk that grew by two bytes for each that was brought grew by no more than for 32 entries
-pub grows_unserved : (limit : ℕ) (content : Option (List ℕ)) (start end : DiskState) → GrowsAtMost 2 limit content start end → GrowsAtMost 8421856 limit content start end
-grows_unserved limit content start end grows = λ most count nine short brings.
-    weaker start end (HasAtMost (most + 2 * count)) (HasAtMost (most + 8421856 * count)) (λ image le. omega (arith, le)) (grows most count nine short brings)

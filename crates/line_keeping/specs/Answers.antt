@@ -13,6 +13,10 @@ use Rattle.order_text.specs.Lines.{IsBlank, Asked, commands_of, LineAsks, SaysNo
 use Rattle.batch_report.specs.Reports.{IsReport}
 use Rattle.input_lines.specs.Long.{IsLong}
 
+-- The most entries that a line adds: those of a ladder.
+abbrev pub most_entries : ℕ
+most_entries = 32
+
 -- a line has no answer: it is blank, and not too long
 abbrev pub HasNoAnswer : List ℕ → Type 0
 HasNoAnswer line = (¬ IsLong line) × IsBlank line

@@ -1,11 +1,11 @@
 -- The input: what is before its lines, and the lines.
-use Rattle.std.specs.Prelude.{◌≡◌, ◌<◌, ◌⊎◌, ℕ, List, [], ◌++◌, length, take, Option, Some, None, IfSome, ⊤}
+use Rattle.std.specs.Prelude.{◌≡◌, ◌<◌, ◌⊎◌, ℕ, List, [], ◌++◌, length, take, Option, Some, None, ⊤}
 use Rattle.wire_records.specs.declared.version.Version.{Version}
 use Rattle.wire_records.specs.declared.version.Version.TheVariants.{Four}
 use Rattle.market_snapshot.specs.Checkpoints.{checkpoint_magic, checkpoint_bytes, IsCheckpoint, HasCheckpointMagic}
 use Rattle.market_history.specs.Histories.{Start, Empty, Kept}
 use Rattle.line_records.specs.Lines.{AreLines}
-use Rattle.journal_keeping.specs.Inputs.{InputFormat, BeginsUnsound}
+use Rattle.journal_keeping.specs.Inputs.{InputStarts, BeginsUnsound}
 
 -- the highest version
 abbrev pub newest : Version
@@ -27,12 +27,6 @@ abbrev pub BeginsNew : Start → Type 0
 BeginsNew (Empty version) = version ≡ newest
 BeginsNew (Kept market) = ⊤
 
--- An input doesn't begin as it should if a checkpoint is before its lines and the file isn't new; any input of a new file does, but for one that
--- begins with an unsound checkpoint.
-abbrev pub IsOtherInput : Option Version → ℕ → Option (List ℕ) → Type 0
-IsOtherInput None limit content = ⊥
-IsOtherInput (Some version) limit content = IfSome content (λ bytes. HasCheckpointMagic (take limit bytes))
-
 -- the bytes are fewer than eight, and a part of the magic of a checkpoint
 abbrev pub IsPartOfMagic : List ℕ → Type 0
 IsPartOfMagic bytes = (rest : List ℕ) × (checkpoint_magic ≡ bytes ++ rest) × (length bytes < 8)
@@ -44,14 +38,11 @@ IsUnopened None bytes = IsPartOfMagic bytes ⊎ BeginsUnsound bytes
 IsUnopened (Some version) bytes = IsPartOfMagic bytes
 
 -- how an input of lines begins
-abbrev pub lines_format : InputFormat
-lines_format = record {
-  encode = bytes_before;
+abbrev pub line_starts : InputStarts
+line_starts = record {
   Begins = IsBefore;
   MayBegin = BeginsNew;
-  IsOther = IsOtherInput;
   IsPart = λ wanted taken bytes. IsUnopened wanted bytes;
-  ahead = 65538;
 }
 
 -- the lines of an input that has more bytes than these, or no more, and what is before them

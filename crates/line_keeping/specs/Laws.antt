@@ -13,9 +13,9 @@ use Rattle.market_rules.specs.Journal.{IsAnswered}
 use Rattle.market_history.specs.Histories.{Start}
 use Rattle.line_records.specs.Lines.{Say}
 use Rattle.input_lines.specs.Long.{IsLong}
-use Rattle.line_keeping.specs.Answers.{AreLinesAnswered}
+use Rattle.line_keeping.specs.Answers.{most_entries, AreLinesAnswered}
 use Rattle.journal_keeping.specs.Openings.{OpensAs}
-use Rattle.line_keeping.specs.Inputs.{bytes_before, BeginsNew, lines_format, HasLinesWithin}
+use Rattle.line_keeping.specs.Inputs.{bytes_before, BeginsNew, line_starts, HasLinesWithin}
 
 -- an input has at most one list of lines, and at most one thing before them: the same bytes, with which a new file begins in one way
 abbrev pub OneInput : Type 0
@@ -34,7 +34,7 @@ pub record LeadsTo (limit : ℕ) (held bytes : List ℕ) (begin : Start) (pairs 
   pub old : List (Pair Record Outcome)
   pub market : Market
   pub before : Start
-  pub opens : OpensAs lines_format held begin old market before
+  pub opens : OpensAs line_starts held begin old market before
   pub lines : List (List ℕ)
   pub are : HasLinesWithin limit bytes before lines
   pub added : List (Pair Record Outcome)
@@ -46,10 +46,10 @@ abbrev pub OneOutput : Type 0
 OneOutput = (limit : ℕ) (held bytes : List ℕ) (begin other : Start) (pairs others : List (Pair Record Outcome)) (texts words : List (List ℕ)) (new last : Market)
     → LeadsTo limit held bytes begin pairs texts new → LeadsTo limit held bytes other others words last → (begin ≡ other) × (pairs ≡ others) × (texts ≡ words) × (new ≡ last)
 
--- Lines are answered in some way, whatever they are, and their entries fit the widths of a journal, stated as not denied. A line asks for at most 32
--- commands, those of a ladder, and the numbers of as many orders have to fit.
+-- Lines are answered in some way, whatever they are, and their entries fit the widths of a journal, stated as not denied. A line asks for at most
+-- `most_entries` commands, those of a ladder, and the numbers of as many orders have to fit.
 abbrev pub SomeAnswer : Type 0
-SomeAnswer = (old : Market) (count number : ℕ) (lines : List (List ℕ)) → IsConsistent old → old.next_order + 32 * length lines < 2 ^ 64
+SomeAnswer = (old : Market) (count number : ℕ) (lines : List (List ℕ)) → IsConsistent old → old.next_order + most_entries * length lines < 2 ^ 64
     → IsNotDenied ((pairs : List (Pair Record Outcome)) × (texts : List (List ℕ)) × (new : Market) × AreLinesAnswered old count number lines pairs texts new × All IsPair pairs)
 
 -- If each line is blank or a command by the tickers of the lines before, as `encode` reads them from the market's tickers on, and none is too long, the

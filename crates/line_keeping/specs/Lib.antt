@@ -1,6 +1,5 @@
 pub mod Answers
 pub mod Inputs
-pub mod Outputs
 pub mod Keeping
 pub mod Ended
 pub mod Private

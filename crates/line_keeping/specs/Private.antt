@@ -1,5 +1,5 @@
 -- For private functions alone: what finding a line, answering it, and opening an input do.
-use Rattle.std.specs.Prelude.{◌≡◌, ◌≢◌, ◌<◌, ◌≤◌, ◌+◌, ◌*◌, ◌-◌, ◌^◌, ◌⊎◌, ℕ, List, [], ◌∷◌, ◌++◌, length, take, map, All, Option, None, IfSome, IsSome, Bool, IsTrue, Result, Ok, Err, ⊤}
+use Rattle.std.specs.Prelude.{◌≡◌, ◌<◌, ◌≤◌, ◌+◌, ◌*◌, ◌-◌, ◌^◌, ◌⊎◌, ℕ, List, [], ◌∷◌, ◌++◌, length, take, All, Option, Some, None, IfSome, IsSome, Bool, IsTrue, Result, Ok, Err, ⊤}
 use Rattle.flow_io.specs.Streams.{Takes}
 use Rattle.flow_io.specs.Windows.{WindowState}
 use Rattle.wire_records.specs.Records.{Record}
@@ -10,10 +10,10 @@ use Rattle.flow_orders.specs.Outcomes.{Outcome}
 use Rattle.canonical_rule.specs.Canonical.{IsCanonicalOutcome}
 use Rattle.journal_records.specs.Pairs.{IsPair, pair_encoding}
 use Rattle.journal_records.specs.Formats.{records_of}
+use Rattle.wire_records.specs.declared.version.Version.{Version}
 use Rattle.market_rules.specs.Market.{Market}
 use Rattle.market_snapshot.specs.Checkpoints.{checkpoint_magic, HasCheckpointMagic}
 use Rattle.market_rules.specs.Journal.{Step}
-use Rattle.market_history.specs.Histories.{Start}
 use Rattle.batch_report.specs.Reports.{IsReport}
 use Rattle.file_units.specs.Inputs.{known}
 use Rattle.disk_edge.specs.Disks.{DiskState, AtEachMoment}
@@ -21,10 +21,6 @@ use Rattle.journal_disk.specs.Pairs.{RecordPair}
 use Rattle.journal_disk.specs.Entries.{Head, WithOrWithout, Keeps}
 use Rattle.journal_disk.specs.Lengths.{ReachesAtMost}
 use Rattle.line_records.specs.Lines.{HasNoFeed, AreLines, ended_by_feeds}
-use Rattle.journal_keeping.specs.Starts.{head_of}
-use Rattle.journal_keeping.specs.Keeping.{IsKeptJournal, Runs}
-use Rattle.journal_keeping.specs.Pacing.{asked_of}
-use Rattle.journal_keeping.specs.Private.{KeepsOneMore, SoFar}
 use Rattle.file_units.specs.declared.units.Ending.{Ending}
 use Rattle.file_units.specs.declared.units.Ending.TheVariants.{End, Torn, TooLong}
 use Rattle.file_units.specs.declared.input.TakeFault.{TakeFault}
@@ -33,11 +29,30 @@ use Rattle.flow_io.specs.declared.sink.WriteFailed.{WriteFailed}
 use Rattle.journal_keeping.specs.declared.fault.ServeFault.{ServeFault}
 use Rattle.journal_keeping.specs.declared.fault.ServeFault.TheVariants.{Disk, Write, Memory}
 use Rattle.input_lines.specs.Finding.{IsOpen, HasEnded}
-use Rattle.line_keeping.specs.Answers.{no_command_text, AreAnswered, IsLineAnswered, IsLineBegun, AreLinesAnswered, AreAnsweredInto, MayRunOut}
-use Rattle.line_keeping.specs.Inputs.{IsUnopened}
-use Rattle.line_keeping.specs.Outputs.{Output, Gains}
+use Rattle.journal_keeping.specs.Taking.{InputFormat}
+use Rattle.journal_keeping.specs.Lengths.{longest_stored_entry}
+use Rattle.journal_keeping.specs.Outputs.{Output, Gains}
+use Rattle.journal_keeping.specs.Private.{KeepsOneMore, HasAdded, HasStopped}
+use Rattle.line_keeping.specs.Answers.{most_entries, no_command_text, AreAnswered, IsLineAnswered, IsLineBegun, AreLinesAnswered, AreAnsweredInto, MayRunOut}
+use Rattle.line_keeping.specs.Inputs.{bytes_before, line_starts, IsUnopened}
+use Rattle.line_keeping.specs.Keeping.{longest_stored_line}
 
 -- ---- what is before the lines
+
+-- An input doesn't begin as it should if a checkpoint is before its lines and the file isn't new; any input of a new file does, but for one that
+-- begins with an unsound checkpoint.
+abbrev pub IsOtherInput : Option Version → ℕ → Option (List ℕ) → Type 0
+IsOtherInput None limit content = ⊥
+IsOtherInput (Some version) limit content = IfSome content (λ bytes. HasCheckpointMagic (take limit bytes))
+
+-- how an input of lines is begun
+abbrev pub lines_format : InputFormat
+lines_format = record {
+  starts = line_starts;
+  encode = bytes_before;
+  IsOther = IsOtherInput;
+  ahead = 65538;
+}
 
 -- Bytes were taken from a source, which a window holds: whether they begin with the magic of a checkpoint, and if not, no more of the input within the limit makes
 -- them so.
@@ -83,11 +98,7 @@ pub record IsReadyToServe (market : Market) (entries place room : ℕ) : Type 0 
 pub record IsReadyFor (market : Market) (entries place left : ℕ) : Type 0 where
   pub orders : market.next_order ≤ place + 2 ^ 63
   pub counted : entries ≤ place
-  pub room : place + 263183 * left ≤ 2 ^ 61
-
--- A disk that keeps entries of a valid journal, which led to this market, keeps these after them: what a crash left meanwhile, and that its content wasn't lost.
-abbrev pub HasAdded : DiskState → DiskState → Market → Market → ℕ → ℕ → List (Pair Record Outcome) → Type 0
-HasAdded start now before market from place new = SoFar start now before market from place None None new
+  pub room : place + longest_stored_entry * left ≤ 2 ^ 61
 
 -- an entry that is one step of the market, and answers the record of a command
 pub record IsServed (command : Command) (old : Market) (pair : Pair Record Outcome) (new : Market) : Type 0 where
@@ -130,7 +141,7 @@ pub record AnswersCommands (commands : List Command) (old new : Market) (count e
   pub stays : KeepsSome from disk → KeepsSome to later
   pub counted : entries ≡ count + length pairs
   pub size : length pairs ≡ length commands
-  pub place : (from + length pairs ≤ to) × (to ≤ from + 263183 * length pairs)
+  pub place : (from + length pairs ≤ to) × (to ≤ from + longest_stored_entry * length pairs)
   pub orders : new.next_order ≤ old.next_order + length pairs
   pub gained : Gains ⊥ out after texts
 
@@ -145,9 +156,7 @@ pub record Breaks (Begun : List (Pair Record Outcome) → List (List ℕ) → Ma
   pub words : List (List ℕ)
   pub last : Market
   pub further : Begun (pairs ++ more) words last
-  pub runs : (begin : Start) (kept : List (Pair Record Outcome)) → IsKeptJournal begin kept old → Keeps (head_of begin) (map records_of kept) from disk → Runs begin disk later kept old (asked_of (pairs ++ more)) (pairs ++ more) (length pairs)
-  pub gained : Gains (fault ≡ Write) out after texts
-  pub whole : fault ≢ Disk → (more ≡ []) × ((begin : Start) (kept : List (Pair Record Outcome)) → IsKeptJournal begin kept old → Keeps (head_of begin) (map records_of kept) from disk → (place : ℕ) × Keeps (head_of begin) (map records_of (kept ++ pairs)) place later)
+  pub stops : HasStopped (fault ≡ Disk) (fault ≡ Write) old market from disk later out after pairs more texts
 
 -- the entries and texts of the first of these commands
 abbrev pub AreBegun : Market → ℕ → List Command → List (Pair Record Outcome) → List (List ℕ) → Market → Type 0
@@ -171,8 +180,8 @@ pub record AnswersLine (number : ℕ) (line : List ℕ) (old new : Market) (coun
   pub answered : IsLineAnswered old count number line pairs texts new
   pub added : HasAdded disk later old new from to pairs
   pub counted : entries ≡ count + length pairs
-  pub size : length pairs ≤ 32 * length line
-  pub place : (from + length pairs ≤ to) × (to ≤ from + 263183 * length pairs)
+  pub size : length pairs ≤ most_entries * length line
+  pub place : (from + length pairs ≤ to) × (to ≤ from + longest_stored_entry * length pairs)
   pub orders : new.next_order ≤ old.next_order + length pairs
   pub gained : Gains ⊥ out after texts
 
@@ -202,7 +211,7 @@ pub record HasGone (first now : WindowState) (rest left : Option (List ℕ)) (ol
   pub gained : Gains ⊥ out later texts
   pub orders : market.next_order ≤ place + 2 ^ 63
   pub few : entries ≤ place
-  pub room : place + 263183 * (32 * (now.limit - now.place)) ≤ 2 ^ 61
+  pub room : place + longest_stored_entry * (most_entries * (now.limit - now.place)) ≤ 2 ^ 61
 
 -- what the lines of the bytes after those that a window held are, by the result: `all` are these bytes, `seen` those that were taken of them
 module _ (limit : ℕ) (all seen : List ℕ) (after : Option (List ℕ)) (read : List (List ℕ)) (line : List ℕ) where
@@ -226,10 +235,6 @@ module _ (old : Market) (count : ℕ) (read : List (List ℕ)) (line : List ℕ)
   AreDone (Err Read) = AreLinesAnswered old count 1 read pairs texts new
   AreDone (Err (Broken fault)) = AreAnsweredInto old count read line pairs texts new
 
--- answering broke off at a line
-abbrev pub BrokeOff : Result Ending (TakeFault ServeFault) → Type 0
-BrokeOff result = (fault : ServeFault) × (result ≡ Err (Broken fault))
-
 -- The lines from those that a window held on were answered: these entries are acknowledged, and `more` is the one that was being kept, if one was.
 pub record AnswersOn (window : WindowState) (rest left : Option (List ℕ)) (result : Result Ending (TakeFault ServeFault)) (old : Market) (count from : ℕ) (start end : DiskState) (out later : Output) : Type 0 where
   pub taken : List ℕ
@@ -242,17 +247,14 @@ pub record AnswersOn (window : WindowState) (rest left : Option (List ℕ)) (res
   pub texts : List (List ℕ)
   pub market : Market
   pub answered : AreDone old count read line pairs texts market result
-  pub journal : ¬ BrokeOff result → (begin : Start) (kept : List (Pair Record Outcome)) → IsKeptJournal begin kept old → Keeps (head_of begin) (map records_of kept) from start → IsKeptJournal begin (kept ++ pairs) market
   pub more : List (Pair Record Outcome)
   pub words : List (List ℕ)
   pub last : Market
   pub further : AreDone old count read line (pairs ++ more) words last result
-  pub runs : (begin : Start) (kept : List (Pair Record Outcome)) → IsKeptJournal begin kept old → Keeps (head_of begin) (map records_of kept) from start → Runs begin start end kept old (asked_of (pairs ++ more)) (pairs ++ more) (length pairs)
-  pub gained : Gains (result ≡ Err (Broken Write)) out later texts
-  pub whole : result ≢ Err (Broken Disk) → (more ≡ []) × ((begin : Start) (kept : List (Pair Record Outcome)) → IsKeptJournal begin kept old → Keeps (head_of begin) (map records_of kept) from start → (place : ℕ) × Keeps (head_of begin) (map records_of (kept ++ pairs)) place end)
+  pub stops : HasStopped (result ≡ Err (Broken Disk)) (result ≡ Err (Broken Write)) old market from start end out later pairs more texts
   pub lacks : result ≡ Err (Broken Memory) → MayRunOut line
 
 -- how far a crash may leave a disk by now, from the bytes that the window gave up since
 abbrev pub Reaches : WindowState → WindowState → ℕ → ℕ → DiskState → DiskState → Type 0
 Reaches first now from place start disk =
-    (place ≤ from + 8421856 * (now.place - first.place)) × ReachesAtMost (from + (8421856 * (now.place - first.place) + 1)) start disk
+    (place ≤ from + longest_stored_line * (now.place - first.place)) × ReachesAtMost (from + (longest_stored_line * (now.place - first.place) + 1)) start disk

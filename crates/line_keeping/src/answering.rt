@@ -9,12 +9,12 @@ ghost use Rattle.flow_orders.specs.Outcomes.{Outcome};
 ghost use Rattle.journal_records.specs.Pairs.{pair_encoding};
 ghost use Rattle.journal_records.specs.Formats.{records_of};
 ghost use Rattle.batch_report.specs.Reports.{IsReport};
-ghost use Rattle.line_keeping.specs.Outputs.{output};
+ghost use Rattle.journal_keeping.specs.Outputs.{output};
 
 use batch_report::report_served;
 use disk_edge::Disk;
 use flow_io::{Sink, WriteFailed};
-use journal_keeping::{ServeFault, Writer};
+use journal_keeping::{ServeFault, Writer, keep_entry};
 use order_text::{LineFault, LineRead, ask_line};
 use std::alloc::Global;
 use wire_records::{Command, Memory};
@@ -36,7 +36,9 @@ impl Desk {
     ghost use Rattle.journal_disk.specs.Pairs.{RecordPair};
     ghost use Rattle.journal_disk.specs.Entries.{Head, Keeps};
     ghost use Rattle.journal_disk.specs.Lengths.{ReachesAtMost};
+    ghost use Rattle.journal_keeping.specs.Lengths.{longest_stored_entry};
     ghost use Rattle.input_lines.specs.Long.{most_line};
+    ghost use Rattle.line_keeping.specs.Answers.{most_entries};
     ghost use Rattle.line_keeping.specs.Private.{IsReadyFor, IsServed, AnswersCommand, BreaksCommand, AnswersCommands, BreaksCommands, AnswersLine, BreaksLine, Refuses, refusal_room};
 
     // Serves a command, and gets its entry and the entry's text ready. If memory runs out, the market may be past what is kept.
@@ -90,7 +92,7 @@ impl Desk {
         ensures orders { OnOk result (self.new.writer.session.next_order ≤ self.old.writer.session.next_order + 1) }
         ensures lines { self.new.lines ≡ self.old.lines }
         ensures room { vec_capacity self.old.text ≤ vec_capacity self.new.text }
-        ensures lengths { ReachesAtMost (self.old.writer.appender + 263184) (D.state disk.old) (D.state disk.new) }
+        ensures lengths { ReachesAtMost (self.old.writer.appender + (longest_stored_entry + 1)) (D.state disk.old) (D.state disk.new) }
         ensures broken { IfErr result (BreaksCommand (command_in command.now) self.old.writer.session self.old.entries self.old.writer.appender self.new.writer.appender
             (D.state disk.old) (D.state disk.new) (output K.held K.calls K.faults out.old) (output K.held K.calls K.faults out.new) (disk.new ≡ disk.old)) }
         ensures disk_cause { Blames (result ≡ Err ServeFault.Disk) (D.state disk.old).faults (D.state disk.new).faults }
@@ -100,14 +102,18 @@ impl Desk {
             Ok(()) => {}
             Err(_) => return Err(ServeFault::Memory),
         }
-        match self.writer.appender.append(disk, &self.writer.pair) {
-            Ok(()) => {}
-            Err(_) => return Err(ServeFault::Disk),
-        }
-        self.entries += 1;
-        match out.write(&self.text) {
-            Ok(()) => Ok(()),
-            Err(_) => Err(ServeFault::Write),
+        match keep_entry(
+            &mut self.writer.appender,
+            &self.writer.pair,
+            &self.text,
+            disk,
+            out,
+        ) {
+            Ok(()) => {
+                self.entries += 1;
+                Ok(())
+            }
+            Err(fault) => Err(fault),
         }
     }
 
@@ -127,7 +133,7 @@ impl Desk {
             (output K.held K.calls K.faults out.old) (output K.held K.calls K.faults out.new)) }
         ensures lines { self.new.lines ≡ self.old.lines }
         ensures room { vec_capacity self.old.text ≤ vec_capacity self.new.text }
-        ensures lengths { ReachesAtMost (self.old.writer.appender + (263183 * length commands.now + 1)) (D.state disk.old) (D.state disk.new) }
+        ensures lengths { ReachesAtMost (self.old.writer.appender + (longest_stored_entry * length commands.now + 1)) (D.state disk.old) (D.state disk.new) }
         ensures broken { IfErr result (BreaksCommands (map command_in commands.now) self.old.writer.session self.old.entries self.old.writer.appender
             (D.state disk.old) (D.state disk.new) (output K.held K.calls K.faults out.old) (output K.held K.calls K.faults out.new)) }
         ensures disk_cause { Blames (result ≡ Err ServeFault.Disk) (D.state disk.old).faults (D.state disk.new).faults }
@@ -178,7 +184,7 @@ impl Desk {
         requires short { length line.now ≤ most_line }
         requires few { self.old.lines + 1 < 2 ^ 64 }
         requires room { refusal_room ≤ vec_capacity self.old.text }
-        requires ready { IsReadyFor self.old.writer.session self.old.entries self.old.writer.appender (32 * length line.now) }
+        requires ready { IsReadyFor self.old.writer.session self.old.entries self.old.writer.appender (most_entries * length line.now) }
         requires kept { IfSome (D.state disk.old).content
             (λ _. (head : Head) × (pairs : List RecordPair) × Keeps head pairs self.old.writer.appender (D.state disk.old)) }
         ensures answers { OnOk result (AnswersLine (self.old.lines + 1) line.now self.old.writer.session self.new.writer.session self.old.entries self.new.entries
@@ -186,7 +192,7 @@ impl Desk {
             (output K.held K.calls K.faults out.old) (output K.held K.calls K.faults out.new)) }
         ensures counted { OnOk result (self.new.lines ≡ self.old.lines + 1) }
         ensures room { refusal_room ≤ vec_capacity self.new.text }
-        ensures lengths { ReachesAtMost (self.old.writer.appender + (263183 * (32 * length line.now) + 1)) (D.state disk.old) (D.state disk.new) }
+        ensures lengths { ReachesAtMost (self.old.writer.appender + (longest_stored_entry * (most_entries * length line.now) + 1)) (D.state disk.old) (D.state disk.new) }
         ensures broken { IfErr result (BreaksLine (self.old.lines + 1) line.now self.old.writer.session self.old.entries self.old.writer.appender
             (D.state disk.old) (D.state disk.new) (output K.held K.calls K.faults out.old) (output K.held K.calls K.faults out.new)) }
         ensures disk_cause { Blames (result ≡ Err ServeFault.Disk) (D.state disk.old).faults (D.state disk.new).faults }

@@ -3,12 +3,12 @@ ghost use Rattle.std.specs.Prelude.{◌≡◌, ◌≤◌, ◌+◌, ◌^◌, ℕ,
 ghost use Rattle.flow_io.specs.Faults.{Blames};
 ghost use Rattle.flow_io.specs.Streams.{TakesAtMost};
 ghost use Rattle.flow_io.specs.Windows.{empty_window};
-ghost use Rattle.journal_keeping.specs.Inputs.{NotTaken};
+ghost use Rattle.journal_keeping.specs.Taking.{NotTaken};
 ghost use Rattle.journal_keeping.specs.Beginning.{TakesStart};
+ghost use Rattle.journal_keeping.specs.Lengths.{most_input};
 ghost use Rattle.input_lines.specs.Long.{most_line};
 ghost use Rattle.input_lines.specs.Finding.{IsOpen};
-ghost use Rattle.line_keeping.specs.Inputs.{lines_format};
-ghost use Rattle.line_keeping.specs.Private.{refusal_room};
+ghost use Rattle.line_keeping.specs.Private.{lines_format, refusal_room};
 
 use crate::input::has_checkpoint;
 use flow_io::{Source, Window};
@@ -64,7 +64,7 @@ fn open_input<S: Source>(
     window: &mut Window,
     source: &mut S,
 ) -> Result<OpenInput, InputFault>
-    requires few { limit ≤ 2 ^ 32 }
+    requires few { limit ≤ most_input }
     requires window { window.old ≡ empty_window (most_line + 1) limit }
     ensures opens { IfOk result (λ o. length window.new.held ≤ 65538 →
         TakesStart lines_format limit o.market o.stored.items window.new (S.rest source.old) (S.rest source.new)) }
@@ -99,8 +99,7 @@ fn open_input<S: Source>(
 
 impl Input for Lines {
     ghost use Rattle.input_lines.specs.Finding.{IsOpen};
-    ghost use Rattle.line_keeping.specs.Inputs.{lines_format};
-    ghost use Rattle.line_keeping.specs.Private.{refusal_room};
+    ghost use Rattle.line_keeping.specs.Private.{lines_format, refusal_room};
 
     ghost format = { lines_format };
 

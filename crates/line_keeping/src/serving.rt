@@ -14,13 +14,14 @@ ghost use Rattle.journal_disk.specs.Lengths.{ReachesAtMost};
 ghost use Rattle.journal_keeping.specs.Starts.{head_of};
 ghost use Rattle.journal_keeping.specs.Keeping.{IsKeptJournal, HoldsLegal};
 ghost use Rattle.journal_keeping.specs.Openings.{KeepNone};
-ghost use Rattle.journal_keeping.specs.Lengths.{GrowsAtMost, HasYetAtMost};
+ghost use Rattle.journal_keeping.specs.Lengths.{most_input, GrowsAtMost, HasYetAtMost};
 ghost use Rattle.journal_keeping.specs.Making.{IsMadeAfterStart};
 ghost use Rattle.journal_keeping.specs.Ended.{IsRefusal, MayBeginAgain};
-ghost use Rattle.line_keeping.specs.Outputs.{output};
-ghost use Rattle.line_keeping.specs.Keeping.{ServesIn};
+ghost use Rattle.journal_keeping.specs.Outputs.{output};
+ghost use Rattle.journal_keeping.specs.Dialogs.{ServesIn};
+ghost use Rattle.line_keeping.specs.Keeping.{line_dialog, longest_stored_line};
 ghost use Rattle.line_keeping.specs.Ended.{ComesTo, LeavesNone};
-ghost use Rattle.line_keeping.specs.Inputs.{lines_format};
+ghost use Rattle.line_keeping.specs.Inputs.{line_starts};
 ghost use Rattle.input_lines.specs.Finding.{IsOpen};
 ghost use Rattle.line_keeping.specs.Private.{IsReadyToServe, AnswersOn};
 
@@ -42,7 +43,7 @@ fn serve_on<S: Source, D: Disk, K: Sink>(
     out: &mut K,
 ) -> Result<Ending, TakeFault<ServeFault>>
     requires open { IsOpen window.old (S.rest source.old) }
-    requires few { window.old.limit ≤ 2 ^ 32 }
+    requires few { window.old.limit ≤ most_input }
     requires ready { IsReadyToServe desk.old.writer.session desk.old.entries desk.old.writer.appender (vec_capacity desk.old.text) }
     requires first { desk.old.lines ≡ 0 }
     requires kept { IfSome (D.state disk.old).content (λ _. (begin : Start) × (old : List (Pair Record Outcome))
@@ -50,7 +51,7 @@ fn serve_on<S: Source, D: Disk, K: Sink>(
     ensures goes { AnswersOn window.old (S.rest source.old) (S.rest source.new) result desk.old.writer.session desk.old.entries desk.old.writer.appender
         (D.state disk.old) (D.state disk.new) (output K.held K.calls K.faults out.old) (output K.held K.calls K.faults out.new) }
     ensures lengths { (count : ℕ) → HasYetAtMost count window.old (S.rest source.old) →
-        ReachesAtMost (desk.old.writer.appender + (8421856 * count + 1)) (D.state disk.old) (D.state disk.new) }
+        ReachesAtMost (desk.old.writer.appender + (longest_stored_line * count + 1)) (D.state disk.old) (D.state disk.new) }
     ensures disk_cause { Blames (result ≡ Err (TakeFault.Broken ServeFault.Disk)) (D.state disk.old).faults (D.state disk.new).faults }
     ensures source_cause { Blames (result ≡ Err TakeFault.Read) (S.faults source.old) (S.faults source.new) }
     ensures out_cause { Blames (result ≡ Err (TakeFault.Broken ServeFault.Write)) (K.faults out.old) (K.faults out.new) }
@@ -125,13 +126,13 @@ pub fn serve_lines<S: Source, D: Disk, K: Sink>(
     disk: &mut D,
     out: &mut K,
 ) -> Result<(), KeepFault>
-    requires few { limit ≤ 2 ^ 32 }
+    requires few { limit ≤ most_input }
     ensures keeps { (begin : Start) (old : List (Pair Record Outcome)) (market : Market) → HoldsLegal (D.state disk.old) begin old market →
-        ServesIn limit (S.rest source.old) (result ≡ Err KeepFault.Write) begin (D.state disk.old) (D.state disk.new) old market
+        ServesIn line_dialog limit (S.rest source.old) (result ≡ Err KeepFault.Write) begin (D.state disk.old) (D.state disk.new) old market
         (output K.held K.calls K.faults out.old) (output K.held K.calls K.faults out.new) }
     ensures again { (begin : Start) (old : List (Pair Record Outcome)) (market : Market) → HoldsLegal (D.state disk.old) begin old market →
         MayBeginAgain (D.state disk.old) (D.state disk.new) }
-    ensures lengths { IfSome (D.state disk.old).content (λ _. GrowsAtMost 8421856 limit (S.rest source.old) (D.state disk.old) (D.state disk.new)) }
+    ensures lengths { IfSome (D.state disk.old).content (λ _. GrowsAtMost longest_stored_line limit (S.rest source.old) (D.state disk.old) (D.state disk.new)) }
     ensures comes { IfSome (D.state disk.old).content (λ held. ComesTo limit held (S.rest source.old) (S.rest source.new) (D.state disk.new)
         (output K.held K.calls K.faults out.old) (output K.held K.calls K.faults out.new) result) }
     ensures legal { (begin : Start) (old : List (Pair Record Outcome)) (market : Market) → HoldsLegal (D.state disk.old) begin old market →
@@ -139,7 +140,7 @@ pub fn serve_lines<S: Source, D: Disk, K: Sink>(
     ensures untouched { IfSome (D.state disk.old).content
         (λ held. KeepNone held → OnlyLooks (D.state disk.old) (D.state disk.new) × (source.new ≡ source.old) × (out.new ≡ out.old)) }
     ensures made { IfSome (D.state disk.old).content
-        (λ held. IsMadeAfterStart lines_format limit held (D.state disk.old) (D.state disk.new) (S.rest source.old) (S.rest source.new)) }
+        (λ held. IsMadeAfterStart line_starts limit held (D.state disk.old) (D.state disk.new) (S.rest source.old) (S.rest source.new)) }
     ensures taken { TakesAtMost (S.rest source.old) (S.rest source.new) (limit + 1) }
     ensures left { LeavesNone result (S.rest source.new) }
     ensures unasked { IsRefusal result → (source.new ≡ source.old) × (out.new ≡ out.old) }

@@ -1,4 +1,4 @@
-use Rattle.std.proofs.Common.{◌≡◌, ⊎_elim, inl, inr, ℕ, List, IfSome, Result, Err, refl, ap, sym, subst, ◌∙◌}
+use Rattle.std.proofs.Common.{◌≡◌, ◌*◌, arith, ⊎_elim, inl, inr, ℕ, List, IfSome, Result, Err, refl, ap, sym, subst, ◌∙◌}
 use Rattle.std.specs.Prelude.{⊤}
 use Rattle.file_units.specs.declared.input.TakeFault.TheVariants.{Broken}
 use Rattle.journal_keeping.specs.declared.fault.ServeFault.TheVariants as serve
@@ -10,18 +10,23 @@ use Rattle.journal_keeping.proofs.Starting.{begun_known, none_begun, none_open, 
 use Rattle.journal_keeping.proofs.Whole.{refused_not_legal}
 use Rattle.journal_keeping.proofs.Counts.{if_some, if_both, uncalled, later_call, blames_alike}
 use Rattle.journal_keeping.proofs.Making.{each_some}
-use Rattle.line_keeping.specs.Inputs.{lines_format}
+use Rattle.journal_keeping.proofs.Dialogs.{serves_none, serves_wider, may_begin_again}
+use Rattle.journal_keeping.proofs.Growing.{grows_served, grows_unserved}
+use Rattle.line_keeping.specs.Inputs.{line_starts}
+use Rattle.line_keeping.specs.Keeping.{line_dialog, longest_stored_line}
+use Rattle.line_keeping.specs.Private.{lines_format}
 use Rattle.line_keeping.specs.Ended.{ComesTo, LeavesNone}
-use Rattle.line_keeping.specs.Outputs.{output}
+use Rattle.journal_keeping.specs.Outputs.{output}
 use Rattle.line_keeping.proofs.Shown.{shown_more}
-use Rattle.line_keeping.proofs.Whole.{keeps_none, may_begin_again, comes_not_begun, keeps_served, comes_served, cut_wider, leaves_none, taken_few, grows_served, grows_unserved}
+use Rattle.line_keeping.proofs.Whole.{adds_none, comes_not_begun, keeps_served, comes_served, leaves_none, taken_few}
 use Rattle.line_keeping.proofs.serving.serve_lines.Goals as goal
 
 -- ---- nothing was answered
 
 pub returns-in-Err-clause-keeps : goal.returns-in-Err-clause-keeps
 returns-in-Err-clause-keeps g c = λ begin old market legal.
-    keeps_none c.args.limit (g.S.Source.rest c.args.source.now) _ begin (g.D.Disk.state c.args.disk.now) (g.D.Disk.state c.begin.new.disk) old market (output g.K.Sink.held g.K.Sink.calls g.K.Sink.faults c.args.out.now) (g.met.D.Disk.is_disk c.begin.new.disk) (c.in-Err.ensures.fails.safe begin old market legal)
+    let content = g.S.Source.rest c.args.source.now in
+    serves_none line_dialog c.args.limit content (adds_none c.args.limit content) _ begin (g.D.Disk.state c.args.disk.now) (g.D.Disk.state c.begin.new.disk) old market (output g.K.Sink.held g.K.Sink.calls g.K.Sink.faults c.args.out.now) (g.met.D.Disk.is_disk c.begin.new.disk) (c.in-Err.ensures.fails.safe begin old market legal)
 
 pub returns-in-Err-clause-again : goal.returns-in-Err-clause-again
 returns-in-Err-clause-again g c = λ begin old market legal.
@@ -30,11 +35,11 @@ returns-in-Err-clause-again g c = λ begin old market legal.
     let content = g.S.Source.rest c.args.source.now in
     let out = output g.K.Sink.held g.K.Sink.calls g.K.Sink.faults c.args.out.now in
     let is_disk = g.met.D.Disk.is_disk c.begin.new.disk in
-    may_begin_again c.args.limit content ⊤ begin start end old market out out legal is_disk (keeps_none c.args.limit content ⊤ begin start end old market out is_disk (c.in-Err.ensures.fails.safe begin old market legal))
+    may_begin_again line_dialog c.args.limit content ⊤ begin start end old market out out legal is_disk (serves_none line_dialog c.args.limit content (adds_none c.args.limit content) ⊤ begin start end old market out is_disk (c.in-Err.ensures.fails.safe begin old market legal))
 
 pub returns-in-Err-clause-lengths : goal.returns-in-Err-clause-lengths
 returns-in-Err-clause-lengths g c =
-    each_some (g.D.Disk.state c.args.disk.now).content _ (λ (held : List ℕ). grows_unserved c.args.limit (g.S.Source.rest c.args.source.now) (g.D.Disk.state c.args.disk.now) (g.D.Disk.state c.begin.new.disk) c.in-Err.ensures.fails.lengths)
+    each_some (g.D.Disk.state c.args.disk.now).content _ (λ (held : List ℕ). grows_unserved (λ n. longest_stored_line * n) (λ count. omega arith) c.args.limit (g.S.Source.rest c.args.source.now) (g.D.Disk.state c.args.disk.now) (g.D.Disk.state c.begin.new.disk) c.in-Err.ensures.fails.lengths)
 
 pub returns-in-Err-clause-comes : goal.returns-in-Err-clause-comes
 returns-in-Err-clause-comes g c =
@@ -88,7 +93,7 @@ returns-in-Err-clause-out_cause g c =
 pub serve_on-requires-clause-kept : goal.serve_on-requires-clause-kept
 serve_on-requires-clause-kept g c =
     let b = c.in-Ok.ensures.begun in
-    can_serve lines_format c.args.limit (g.D.Disk.state c.args.disk.now).content (g.D.Disk.state c.begin.new.disk).content b.begin b.input c.in-Ok.field-0.writer.session c.in-Ok.field-0.writer.entries c.in-Ok.field-0.writer.appender (g.D.Disk.state c.begin.new.disk) b.following.starts b.told b.begun
+    can_serve line_starts (g.D.Disk.state c.args.disk.now).content (g.D.Disk.state c.begin.new.disk).content b.begin b.input c.in-Ok.field-0.writer.session c.in-Ok.field-0.writer.entries c.in-Ok.field-0.writer.appender (g.D.Disk.state c.begin.new.disk) b.following.starts b.told b.begun
 
 pub returns-in-Ok-clause-keeps : goal.returns-in-Ok-clause-keeps
 returns-in-Ok-clause-keeps g c = λ begin old market legal.
@@ -103,7 +108,7 @@ returns-in-Ok-clause-keeps g c = λ begin old market legal.
     let b = c.in-Ok.ensures.begun in
     let writer = c.in-Ok.field-0.writer in
     let known = begun_known lines_format c.args.limit start begin old market legal content mid b.begin b.input writer.session writer.entries writer.appender b.following.starts b.following.begins b.begun in
-    cut_wider c.args.limit content (c.serve_on.result ≡ Err (Broken serve.Write)) _ (λ e. c.kept.ensures ∙ ap kept_result e) begin start end old market out later
+    serves_wider line_dialog c.args.limit content (c.serve_on.result ≡ Err (Broken serve.Write)) _ begin start end old market out later (λ e. c.kept.ensures ∙ ap kept_result e)
     (keeps_served c.args.limit content after left c.in-Ok.field-0.input.window b.begin b.input b.following c.serve_on.result begin start mid end old market writer.session writer.entries writer.appender out later known (b.moments begin old market legal) c.serve_on.ensures.goes)
 
 pub returns-in-Ok-clause-again : goal.returns-in-Ok-clause-again
@@ -119,7 +124,7 @@ returns-in-Ok-clause-again g c = λ begin old market legal.
     let b = c.in-Ok.ensures.begun in
     let writer = c.in-Ok.field-0.writer in
     let known = begun_known lines_format c.args.limit start begin old market legal content mid b.begin b.input writer.session writer.entries writer.appender b.following.starts b.following.begins b.begun in
-    may_begin_again c.args.limit content _ begin start end old market out later legal (g.met.D.Disk.is_disk c.serve_on.new.disk)
+    may_begin_again line_dialog c.args.limit content (c.serve_on.result ≡ Err (Broken serve.Write)) begin start end old market out later legal (g.met.D.Disk.is_disk c.serve_on.new.disk)
     (keeps_served c.args.limit content after left c.in-Ok.field-0.input.window b.begin b.input b.following c.serve_on.result begin start mid end old market writer.session writer.entries writer.appender out later known (b.moments begin old market legal) c.serve_on.ensures.goes)
 
 pub returns-in-Ok-clause-lengths : goal.returns-in-Ok-clause-lengths
@@ -130,7 +135,8 @@ returns-in-Ok-clause-lengths g c =
     let b = c.in-Ok.ensures.begun in
     let writer = c.in-Ok.field-0.writer in
     if_some start.content _ _
-    (λ (held : List ℕ) begun. grows_served c.args.limit b.begin b.input c.in-Ok.field-0.input.window (g.S.Source.rest c.args.source.now) (g.S.Source.rest c.begin.new.source) b.following start mid end (g.met.D.Disk.is_disk c.begin.new.disk) b.lengths held writer.session writer.entries writer.appender begun c.serve_on.ensures.lengths)
+    (λ (held : List ℕ) begun. grows_served lines_format c.args.limit b.input c.in-Ok.field-0.input.window (g.S.Source.rest c.args.source.now) (g.S.Source.rest c.begin.new.source) b.following (λ n. longest_stored_line * n) (λ size count few. omega (arith, few))
+    b.begin start mid end (g.met.D.Disk.is_disk c.begin.new.disk) b.lengths held writer.session writer.entries writer.appender begun c.serve_on.ensures.lengths)
     b.begun
 
 pub returns-in-Ok-clause-comes : goal.returns-in-Ok-clause-comes
@@ -168,7 +174,7 @@ returns-in-Ok-clause-taken g c =
 pub returns-in-Ok-clause-untouched : goal.returns-in-Ok-clause-untouched
 returns-in-Ok-clause-untouched g c =
     let b = c.in-Ok.ensures.begun in
-    none_begun lines_format c.args.limit (g.D.Disk.state c.args.disk.now).content b.begin b.input c.in-Ok.field-0.writer.session c.in-Ok.field-0.writer.entries c.in-Ok.field-0.writer.appender (g.D.Disk.state c.begin.new.disk) _ b.begun
+    none_begun line_starts (g.D.Disk.state c.args.disk.now).content b.begin b.input c.in-Ok.field-0.writer.session c.in-Ok.field-0.writer.entries c.in-Ok.field-0.writer.appender (g.D.Disk.state c.begin.new.disk) _ b.begun
 
 pub returns-in-Ok-clause-made : goal.returns-in-Ok-clause-made
 returns-in-Ok-clause-made g c =

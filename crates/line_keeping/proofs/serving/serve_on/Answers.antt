@@ -4,7 +4,7 @@ use Rattle.journal_disk.proofs.Lengths.{reach_none, reach_wider}
 use Rattle.file_units.proofs.Gone.{went_well}
 use Rattle.input_lines.specs.Finding.{FindsNext}
 use Rattle.input_lines.specs.declared.lines.Next.{Next}
-use Rattle.line_keeping.specs.Outputs.{output}
+use Rattle.journal_keeping.specs.Outputs.{output}
 use Rattle.line_keeping.proofs.Going.{gone_none}
 use Rattle.line_keeping.proofs.Turning.{few_lines, still_kept, line_turn, long_turn, end_turn, limit_turn, read_turn, line_broken, long_broken, last_found, last_broken, last_long, last_long_broken}
 use Rattle.line_keeping.proofs.Reaching.{reach_end, reach_line, reaches_more, reaches_on, line_size}

@@ -1,6 +1,6 @@
 use Rattle.std.proofs.Common.{◌≡◌, ◌-◌, ◌≤◌}
 use Rattle.std.specs.Prelude.{vec_capacity}
-use Rattle.line_keeping.specs.Outputs.{output}
+use Rattle.journal_keeping.specs.Outputs.{output}
 use Rattle.line_keeping.specs.Private.{HasGone, Reaches, refusal_room}
 use Rattle.line_keeping.proofs.serving.serve_on.Given as goal
 

@@ -4,10 +4,11 @@ use Rattle.wire_records.specs.Commands.{Command}
 use Rattle.wire_records.specs.Views.{command_in}
 use Rattle.wire_records.specs.declared.command.Command as owned
 use Rattle.journal_disk.proofs.Lengths.{reach_none, reach_more, reach_wider}
-use Rattle.line_keeping.specs.Outputs.{output}
+use Rattle.journal_keeping.specs.Outputs.{output}
 use Rattle.line_keeping.specs.Private.{AnswersCommands, BreaksCommands}
 use Rattle.line_keeping.proofs.Keeping.{commands_none, commands_more, breaks_by, parted_at, ready_more}
 use Rattle.line_keeping.proofs.answering.Desk.answer_commands.Goals as goal
+use Rattle.journal_keeping.specs.Lengths.{longest_stored_entry}
 
 pub loop-command-init : goal.loop-command-init
 loop-command-init g c = (
@@ -36,7 +37,7 @@ loop-command-preserved g c =
       e.lines ∙ i.1,
       omega (arith, i.2, e.room),
       reach_more _ (g.D.Disk.state c.args.disk.now) (g.D.Disk.state c.loop-command.disk) (g.D.Disk.state c.answer_command.new.disk) (g.met.D.Disk.is_disk c.loop-command.disk) i.3
-          (reach_wider (c.loop-command.self.writer.appender + 263184) (c.args.self.now.writer.appender + (263183 * length c.args.commands.now + 1)) (g.D.Disk.state c.loop-command.disk) (g.D.Disk.state c.answer_command.new.disk)
+          (reach_wider (c.loop-command.self.writer.appender + (longest_stored_entry + 1)) (c.args.self.now.writer.appender + (longest_stored_entry * length c.args.commands.now + 1)) (g.D.Disk.state c.loop-command.disk) (g.D.Disk.state c.answer_command.new.disk)
           (omega (arith, i.0.place.1, size, c.loop-command-test.true)) e.lengths),
       e.disk_cause.quiet (λ is. cc is) ∙ i.4,
       e.out_cause.quiet (λ is. cc is) ∙ i.5,
@@ -60,7 +61,7 @@ returns-in-Err-clause-lengths g c =
     let k = c.loop-command.command-index in
     let size : length i.0.pairs ≡ k = i.0.size ∙ length-map (take k c.args.commands.now) command_in ∙ length-take-le k c.args.commands.now (omega (arith, c.loop-command-test.true)) in
     reach_more _ (g.D.Disk.state c.args.disk.now) (g.D.Disk.state c.loop-command.disk) (g.D.Disk.state c.answer_command.new.disk) (g.met.D.Disk.is_disk c.loop-command.disk) i.3
-    (reach_wider (c.loop-command.self.writer.appender + 263184) (c.args.self.now.writer.appender + (263183 * length c.args.commands.now + 1)) (g.D.Disk.state c.loop-command.disk) (g.D.Disk.state c.answer_command.new.disk)
+    (reach_wider (c.loop-command.self.writer.appender + (longest_stored_entry + 1)) (c.args.self.now.writer.appender + (longest_stored_entry * length c.args.commands.now + 1)) (g.D.Disk.state c.loop-command.disk) (g.D.Disk.state c.answer_command.new.disk)
     (omega (arith, i.0.place.1, size, c.loop-command-test.true)) e.lengths)
 
 pub returns-in-Err-clause-broken : goal.returns-in-Err-clause-broken

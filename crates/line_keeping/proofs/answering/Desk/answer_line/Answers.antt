@@ -4,11 +4,13 @@ use Rattle.wire_records.specs.Views.{command_in}
 use Rattle.market_rules.specs.Market.{Market}
 use Rattle.order_text.specs.Lines.{Alone, OfLadder}
 use Rattle.journal_disk.proofs.Lengths.{reach_wider}
-use Rattle.line_keeping.specs.Outputs.{output}
+use Rattle.journal_keeping.specs.Outputs.{output}
 use Rattle.line_keeping.proofs.Keeping.{commands_none, commands_more, breaks_by}
 use Rattle.line_keeping.proofs.Lines.{on_both, if_err, line_some, at_market, nothing_at, ladder_few, line_none, line_refused, line_asked, line_broke, line_unread, line_unwritten}
 use Rattle.line_keeping.proofs.Served.{on_ok}
 use Rattle.line_keeping.proofs.answering.Desk.answer_line.Goals as goal
+use Rattle.journal_keeping.specs.Lengths.{longest_stored_entry}
+use Rattle.line_keeping.specs.Answers.{most_entries}
 
 pub answer_commands-requires-clause-ready : goal.answer_commands-requires-clause-ready
 answer_commands-requires-clause-ready g c =
@@ -40,7 +42,7 @@ returns-in-Ok-Asks-clause-answers g c =
 
 pub returns-in-Ok-Asks-clause-lengths : goal.returns-in-Ok-Asks-clause-lengths
 returns-in-Ok-Asks-clause-lengths g c =
-    reach_wider (c.args.self.now.writer.appender + 263184) (c.args.self.now.writer.appender + (263183 * (32 * length c.args.line.now) + 1)) (g.D.Disk.state c.args.disk.now) (g.D.Disk.state c.answer_command.new.disk)
+    reach_wider (c.args.self.now.writer.appender + (longest_stored_entry + 1)) (c.args.self.now.writer.appender + (longest_stored_entry * (most_entries * length c.args.line.now) + 1)) (g.D.Disk.state c.args.disk.now) (g.D.Disk.state c.answer_command.new.disk)
     (omega (arith, line_some c.args.line.now (rw c.in-Ok-Asks.field-0-is at c.in-Ok-Asks.ensures.asked).written)) c.answer_command.ensures.lengths
 
 pub returns-in-Ok-Asks-clause-broken : goal.returns-in-Ok-Asks-clause-broken
@@ -70,7 +72,7 @@ returns-in-Ok-Many-clause-answers g c =
 pub returns-in-Ok-Many-clause-lengths : goal.returns-in-Ok-Many-clause-lengths
 returns-in-Ok-Many-clause-lengths g c =
     let few = ladder_few c.version.result c.tickers.result.now c.args.line.now (map command_in c.in-Ok-Many.commands) (rw c.in-Ok-Many.field-0-is at c.in-Ok-Many.ensures.asked) in
-    reach_wider (c.args.self.now.writer.appender + (263183 * length c.as_slice.result.now + 1)) (c.args.self.now.writer.appender + (263183 * (32 * length c.args.line.now) + 1)) (g.D.Disk.state c.args.disk.now) (g.D.Disk.state c.answer_commands.new.disk)
+    reach_wider (c.args.self.now.writer.appender + (longest_stored_entry * length c.as_slice.result.now + 1)) (c.args.self.now.writer.appender + (longest_stored_entry * (most_entries * length c.args.line.now) + 1)) (g.D.Disk.state c.args.disk.now) (g.D.Disk.state c.answer_commands.new.disk)
     (omega (arith, few, line_some c.args.line.now (rw c.in-Ok-Many.field-0-is at c.in-Ok-Many.ensures.asked).written, length-map c.in-Ok-Many.commands command_in, ap length c.as_slice.ensures)) c.answer_commands.ensures.lengths
 
 pub returns-in-Ok-Many-clause-broken : goal.returns-in-Ok-Many-clause-broken

@@ -1,5 +1,5 @@
 use Rattle.std.proofs.Common.{◌≡◌, ◌++◌, ℕ, List, ap, ◌∙◌}
-use Rattle.line_keeping.specs.Outputs.{output}
+use Rattle.journal_keeping.specs.Outputs.{output}
 use Rattle.line_keeping.specs.Answers.{no_command_text}
 use Rattle.line_keeping.proofs.Gaining.{refuses_as}
 use Rattle.line_keeping.proofs.answering.Desk.refuse.Goals as goal
