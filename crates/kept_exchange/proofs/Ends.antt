@@ -6,7 +6,7 @@ use Rattle.disk_edge.specs.Disks.{DiskState}
 use Rattle.journal_keeping.specs.Pacing.{KeepsPace, RunsOut}
 use Rattle.journal_keeping.specs.Ended as kept
 use Rattle.journal_keeping.specs.declared.fault.KeepFault.TheVariants.{Read, Write, Disk, Memory, NotDisk, Damaged, Rejected, NotFlow, BadCheckpoint, Torn, TooLong}
-use Rattle.line_keeping.specs.Outputs.{Output}
+use Rattle.journal_keeping.specs.Outputs.{Output}
 use Rattle.line_keeping.specs.Ended as lines
 use Rattle.exit_status.specs.declared.status.Status.{Status}
 use Rattle.exit_status.specs.declared.status.Status.TheVariants as status
@@ -16,13 +16,13 @@ use Rattle.kept_exchange.specs.Lines.{LinesEndWith}
 use Rattle.kept_exchange.specs.Laws.{KeepEndsByResult, LinesEndByResult}
 use Rattle.kept_exchange.proofs.AsStatus.{Kept, each, one_result}
 
-module _ (limit : ℕ) (held : Option (List ℕ)) (end : DiskState) (source out : Change) where
+module _ (limit : ℕ) (held : Option (List ℕ)) (end : DiskState) (source : Change) (out later : Output) where
   abbrev pub ByResult : Kept → Type 0
   ByResult result =
-      IfSome held (λ bytes. kept.ComesTo limit bytes source.before end out.before out.after result) × KeepsPace limit source.before source.after out.before out.after result
-      × ((◌≡◌ {A = Kept} result (Err Memory)) → IfSome held (λ bytes. RunsOut limit bytes source.before source.after end out.before out.after))
+      IfSome held (λ bytes. kept.ComesTo limit bytes source.before end out later result) × KeepsPace limit source.before source.after out later result
+      × ((◌≡◌ {A = Kept} result (Err Memory)) → IfSome held (λ bytes. RunsOut limit bytes source.before source.after end out later))
 
-  pub ends_as : (result : Kept) → ByResult result → EndsWith limit held end source out (kept_status limit result)
+  pub ends_as : (result : Kept) → ByResult result → EndsWith limit held end source out later (kept_status limit result)
   ends_as (Ok done) by = (by.0, by.1)
   ends_as (Err Read) by = tt
   ends_as (Err Write) by = tt
@@ -37,10 +37,10 @@ module _ (limit : ℕ) (held : Option (List ℕ)) (end : DiskState) (source out 
   ends_as (Err TooLong) by = (by.0, refl)
 
   -- how far was read by a result that has this status
-  pace_of : (result other : Kept) → ◌≡◌ {A = Kept} result other → ByResult result → KeepsPace limit source.before source.after out.before out.after other
-  pace_of result other is by = subst (KeepsPace limit source.before source.after out.before out.after) is by.1
+  pace_of : (result other : Kept) → ◌≡◌ {A = Kept} result other → ByResult result → KeepsPace limit source.before source.after out later other
+  pace_of result other is by = subst (KeepsPace limit source.before source.after out later) is by.1
 
-  pub paced_as : (result : Kept) → ByResult result → IsPaced limit (kept_status limit result) source out
+  pub paced_as : (result : Kept) → ByResult result → IsPaced limit (kept_status limit result) source out later
   paced_as result by = record {
     read = λ e. pace_of result (Err Read) (one_result limit result (Err Read) e) by;
     near = λ e. ⊎_elim (λ write. pace_of result (Err Write) (one_result limit result (Err Write) write) by) (λ disk. pace_of result (Err Disk) (one_result limit result (Err Disk) disk) by) e;
@@ -50,8 +50,8 @@ module _ (limit : ℕ) (held : Option (List ℕ)) (end : DiskState) (source out 
   nothing : IfSome held (λ bytes. ⊤)
   nothing = each held (λ (bytes : List ℕ). ⊤) (λ bytes. tt)
 
-  by_status : (ends : Status) → EndsWith limit held end source out ends → IsPaced limit ends source out
-      → (ends ≡ status.NoMemory → IfSome held (λ bytes. RunsOut limit bytes source.before source.after end out.before out.after)) → (result : Kept) × (ends ≡ kept_status limit result) × ByResult result
+  by_status : (ends : Status) → EndsWith limit held end source out later ends → IsPaced limit ends source out later
+      → (ends ≡ status.NoMemory → IfSome held (λ bytes. RunsOut limit bytes source.before source.after end out later)) → (result : Kept) × (ends ≡ kept_status limit result) × ByResult result
   by_status status.Done x paced allocates = (Ok tt, refl, (x.0, x.1, λ e. absurd cc))
   by_status status.ReadFault x paced allocates = (Err Read, refl, (nothing, paced.read refl, λ e. absurd cc))
   by_status status.WriteFault x paced allocates = (Err Write, refl, (nothing, paced.near (inl refl), λ e. absurd cc))
@@ -69,12 +69,12 @@ module _ (limit : ℕ) (held : Option (List ℕ)) (end : DiskState) (source out 
   by_status (status.NoAccount number) x paced allocates = absurd x
 
 pub keep_ends : (end : DiskState) → KeepEndsByResult end
-keep_ends end limit held source out ends = (
-  λ x. let some = by_status limit held end source out ends x.0 x.1 x.2 in (some.0, some.1, some.2.0, some.2.1, some.2.2),
+keep_ends end limit held source out later ends = (
+  λ x. let some = by_status limit held end source out later ends x.0 x.1 x.2 in (some.0, some.1, some.2.0, some.2.1, some.2.2),
   λ some.
-      let by : ByResult limit held end source out some.0 = (some.2, some.3, some.4) in (
-        subst (EndsWith limit held end source out) (sym some.1) (ends_as limit held end source out some.0 by),
-        subst (λ (s : Status). IsPaced limit s source out) (sym some.1) (paced_as limit held end source out some.0 by),
+      let by : ByResult limit held end source out later some.0 = (some.2, some.3, some.4) in (
+        subst (EndsWith limit held end source out later) (sym some.1) (ends_as limit held end source out later some.0 by),
+        subst (λ (s : Status). IsPaced limit s source out later) (sym some.1) (paced_as limit held end source out later some.0 by),
         λ e. some.4 (one_result limit some.0 (Err Memory) (sym some.1 ∙ e)),
       ),
 )

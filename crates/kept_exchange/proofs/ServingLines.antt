@@ -1,5 +1,5 @@
 -- A call that serves lines and keeps their journal does what is promised of it.
-use Rattle.std.proofs.Common.{◌≡◌, ◌+◌, ℕ, List, subst, Option, IfSome, Result, Ok, Err, OnOk, OnErr, IsErr, ap}
+use Rattle.std.proofs.Common.{◌≡◌, ◌+◌, ℕ, List, subst, IfSome, Result, Ok, Err, OnOk, OnErr, IsErr, ap}
 use Rattle.flow_io.specs.Faults.{Blames}
 use Rattle.flow_io.specs.Streams.{Grows, GrowsByPrefix, TakesAtMost}
 use Rattle.flow_io.specs.Changes.{Change}
@@ -12,10 +12,11 @@ use Rattle.market_history.specs.Histories.{Start}
 use Rattle.disk_edge.specs.Disks.{DiskState}
 use Rattle.journal_keeping.specs.Keeping.{HoldsLegal}
 use Rattle.journal_keeping.specs.declared.fault.KeepFault.TheVariants.{Read, Write, Disk}
-use Rattle.line_keeping.specs.Outputs.{Output}
-use Rattle.line_keeping.specs.Keeping.{ServesIn}
+use Rattle.journal_keeping.specs.Outputs.{Output}
+use Rattle.journal_keeping.specs.Dialogs.{ServesIn}
+use Rattle.journal_keeping.proofs.Dialogs.{serves_wider}
+use Rattle.line_keeping.specs.Keeping.{line_dialog}
 use Rattle.line_keeping.specs.Ended.{ComesTo, LeavesNone}
-use Rattle.line_keeping.proofs.Gaining.{gains_wider}
 use Rattle.exit_status.specs.declared.status.Status.TheVariants as status
 use Rattle.exit_status.specs.Statuses.{line_of}
 use Rattle.exit_status.proofs.Noted.{written, cut_line}
@@ -24,29 +25,9 @@ use Rattle.kept_exchange.specs.Lines.{ServesLines}
 use Rattle.kept_exchange.proofs.AsStatus.{Kept, if_some, blames_as, one_result}
 use Rattle.kept_exchange.proofs.Ends.{lines_end_as}
 
--- what a call does to the disk and to the output, for a weaker condition on when a write was cut short
-serves_wider : (limit : ℕ) (content : Option (List ℕ)) (Cut Wider : Type 0) (begin : Start) (start end : DiskState) (old : List (Pair Record Outcome)) (market : Market) (out later : Output) → (Cut → Wider)
-    → ServesIn limit content Cut begin start end old market out later → ServesIn limit content Wider begin start end old market out later
-serves_wider limit content Cut Wider begin start end old market out later wider (of, from, before, goes, serves) = (
-  of,
-  from,
-  before,
-  goes,
-  record {
-    new = serves.new;
-    acknowledged = serves.acknowledged;
-    runs = serves.runs;
-    texts = serves.texts;
-    added = serves.added;
-    answers = serves.answers;
-    answered = serves.answered;
-    gained = gains_wider Cut Wider out later serves.answers wider serves.gained;
-  },
-)
-
 module _ (limit : ℕ) (result : Kept) (start end : DiskState) (source : Change) (out later : Output) where
   pub serves : (notes : Change) (noting : Result (Unit {0}) WriteFailed)
-      → ((begin : Start) (old : List (Pair Record Outcome)) (market : Market) → HoldsLegal start begin old market → ServesIn limit source.before (◌≡◌ {A = Kept} result (Err Write)) begin start end old market out later)
+      → ((begin : Start) (old : List (Pair Record Outcome)) (market : Market) → HoldsLegal start begin old market → ServesIn line_dialog limit source.before (◌≡◌ {A = Kept} result (Err Write)) begin start end old market out later)
       → IfSome start.content (λ held. ComesTo limit held source.before source.after end out later result)
       → TakesAtMost source.before source.after (limit + 1)
       → LeavesNone result source.after
@@ -58,7 +39,7 @@ module _ (limit : ℕ) (result : Kept) (start end : DiskState) (source : Change)
       → Blames (IsErr noting) notes.faults notes.faults_after
       → ServesLines limit (kept_status limit result) start end source out later notes
   serves notes noting keeps comes taken left disk read write line prefix cause = record {
-    keeps = λ begin old market holds. serves_wider limit source.before (◌≡◌ {A = Kept} result (Err Write)) (kept_status limit result ≡ status.WriteFault) begin start end old market out later (ap (kept_status limit)) (keeps begin old market holds);
+    keeps = λ begin old market holds. serves_wider line_dialog limit source.before (◌≡◌ {A = Kept} result (Err Write)) (kept_status limit result ≡ status.WriteFault) begin start end old market out later (ap (kept_status limit)) (keeps begin old market holds);
     comes = if_some start.content _ _ (λ (held : List ℕ) so. lines_end_as limit held source.before source.after end out later result so) comes;
     taken = taken;
     left = λ e. subst (λ (r : Kept). LeavesNone r source.after) (one_result limit result (Ok tt) e) left;

@@ -15,7 +15,7 @@ use Rattle.journal_keeping.specs.Ended as kept
 use Rattle.journal_keeping.specs.Pacing.{KeepsPace, RunsOut}
 use Rattle.journal_keeping.specs.declared.fault.KeepFault.{KeepFault}
 use Rattle.journal_keeping.specs.declared.fault.KeepFault.TheVariants.{Memory}
-use Rattle.line_keeping.specs.Outputs.{Output}
+use Rattle.journal_keeping.specs.Outputs.{Output}
 use Rattle.line_keeping.specs.Ended as lines
 use Rattle.exit_status.specs.declared.status.Status.{Status}
 use Rattle.exit_status.specs.declared.status.Status.TheVariants.{NoMemory}
@@ -57,8 +57,8 @@ pub record Follows (Asks : List ℕ → List ℕ → Status → Type 0) (status 
 
 -- what follows of each call that keeps a journal on a disk
 abbrev pub KeepFollows : DiskState → DiskState → Type 0
-KeepFollows start end = (limit : ℕ) (status : Status) (source out notes : Change) → ServesKeep limit status start end source out notes
-    → Follows (AsksStatus limit) status start end source out.faults out.faults_after
+KeepFollows start end = (limit : ℕ) (status : Status) (source : Change) (out later : Output) (notes : Change) → ServesKeep limit status start end source out later notes
+    → Follows (AsksStatus limit) status start end source out.faults later.faults
 
 -- what follows of each call that serves lines and keeps a journal on a disk
 abbrev pub LinesFollow : DiskState → DiskState → Type 0
@@ -67,12 +67,12 @@ LinesFollow start end = (limit : ℕ) (status : Status) (source : Change) (out l
 
 -- what holds by the status, how far was read and when memory ran out are what some result of keeping a journal, which has that status, leads to
 abbrev pub KeepEndsByResult : DiskState → Type 0
-KeepEndsByResult end = (limit : ℕ) (held : Option (List ℕ)) (source out : Change) (status : Status)
-    → (EndsWith limit held end source out status × IsPaced limit status source out
-    × (status ≡ NoMemory → IfSome held (λ bytes. RunsOut limit bytes source.before source.after end out.before out.after)))
+KeepEndsByResult end = (limit : ℕ) (held : Option (List ℕ)) (source : Change) (out later : Output) (status : Status)
+    → (EndsWith limit held end source out later status × IsPaced limit status source out later
+    × (status ≡ NoMemory → IfSome held (λ bytes. RunsOut limit bytes source.before source.after end out later)))
     ↔ ((result : Result ⊤ KeepFault) × (status ≡ kept_status limit result)
-    × IfSome held (λ bytes. kept.ComesTo limit bytes source.before end out.before out.after result) × KeepsPace limit source.before source.after out.before out.after result
-    × ((◌≡◌ {A = Result ⊤ KeepFault} result (Err Memory)) → IfSome held (λ bytes. RunsOut limit bytes source.before source.after end out.before out.after)))
+    × IfSome held (λ bytes. kept.ComesTo limit bytes source.before end out later result) × KeepsPace limit source.before source.after out later result
+    × ((◌≡◌ {A = Result ⊤ KeepFault} result (Err Memory)) → IfSome held (λ bytes. RunsOut limit bytes source.before source.after end out later)))
 
 -- what holds by the status is what some result of serving lines, which has that status, leads to
 abbrev pub LinesEndByResult : DiskState → Type 0

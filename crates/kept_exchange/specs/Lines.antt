@@ -1,5 +1,5 @@
 -- What the program does when asked to `serve FILE`: what a crash may leave on the disk, what the output gains, and which status comes.
-use Rattle.std.specs.Prelude.{◌≡◌, ◌⊎◌, ◌+◌, ◌<◌, ◌≤◌, ℕ, List, [], length, map, take, Option, IfSome, ⊤}
+use Rattle.std.specs.Prelude.{◌≡◌, ◌⊎◌, ◌+◌, ◌<◌, ◌≤◌, ℕ, List, [], length, take, Option, IfSome, ⊤}
 use Rattle.flow_io.specs.Faults.{Rose, Blames}
 use Rattle.flow_io.specs.Streams.{Grows, GrowsByPrefix, TakesAtMost}
 use Rattle.flow_io.specs.Changes.{Change}
@@ -7,22 +7,22 @@ use Rattle.wire_records.specs.Records.{Record}
 use Rattle.wire_records.specs.Commands.{Pair}
 use Rattle.word_driver.specs.Does.{IsTaken}
 use Rattle.flow_orders.specs.Outcomes.{Outcome}
-use Rattle.journal_records.specs.Formats.{records_of}
 use Rattle.market_rules.specs.Market.{Market}
 use Rattle.market_snapshot.specs.Checkpoints.{HasCheckpointMagic}
 use Rattle.market_history.specs.Histories.{Start}
 use Rattle.disk_edge.specs.Disks.{DiskState}
-use Rattle.journal_disk.specs.Entries.{Keeps}
 use Rattle.journal_keeping.specs.Inputs.{BeginsUnsound}
-use Rattle.journal_keeping.specs.Starts.{head_of}
 use Rattle.journal_keeping.specs.Keeping.{HoldsLegal}
 use Rattle.journal_keeping.specs.Openings.{Foreign, Damaged, Rejected, Legal, IsOpening}
 use Rattle.journal_keeping.specs.Ended.{IsRefused, StaysNew}
 use Rattle.journal_keeping.specs.Pacing.{RunsOutEarly}
-use Rattle.line_keeping.specs.Outputs.{Output}
+use Rattle.journal_keeping.specs.Outputs.{Output}
 use Rattle.line_keeping.specs.Inputs.{HasLines, HasLinesWithin}
-use Rattle.line_keeping.specs.Keeping.{ServesIn}
-use Rattle.line_keeping.specs.Ended.{HasAnswered, BreaksOff, KeepsJust, RunsOutAt, IsNotOpened, IsNotBegun}
+use Rattle.journal_keeping.specs.Dialogs.{ServesIn, KeepsJust}
+use Rattle.line_keeping.specs.Answers.{MayRunOut}
+use Rattle.line_keeping.specs.Keeping.{line_dialog}
+use Rattle.line_keeping.specs.Ended.{HasAnswered, BreaksOff, IsNotOpened, IsNotBegun}
+use Rattle.journal_keeping.specs.Dialogs.{KeepsJust}
 use Rattle.exit_status.specs.declared.status.Status.{Status}
 use Rattle.exit_status.specs.declared.status.Status.TheVariants as status
 use Rattle.exit_status.specs.Statuses.{line_of}
@@ -38,15 +38,15 @@ module _ (limit : ℕ) (held : List ℕ) (content left : Option (List ℕ)) (end
   LinesEndWith status.ReadFault =
       HasAnswered held content end out later (λ bytes before lines. (n : ℕ) × IsTaken bytes left n × HasLines ⊤ (take n (take limit bytes)) before lines)
       ⊎ IsNotOpened limit held content left end out later
-  LinesEndWith status.WriteFault = BreaksOff limit held content left ⊤ out later (KeepsJust end)
-  LinesEndWith status.DiskFault = IsNotBegun limit content left out later ⊎ BreaksOff limit held content left ⊥ out later (λ begin pairs line. ⊤)
+  LinesEndWith status.WriteFault = BreaksOff limit held content left ⊤ out later (λ line. ⊤) (KeepsJust end)
+  LinesEndWith status.DiskFault = IsNotBegun limit content left out later ⊎ BreaksOff limit held content left ⊥ out later (λ line. ⊤) (λ begin pairs. ⊤)
   LinesEndWith status.NoMemory =
       ((left ≡ content) × (later ≡ out))
-      ⊎ (RunsOutEarly limit held content left end (later ≡ out) ⊎ BreaksOff limit held content left ⊥ out later (RunsOutAt end))
+      ⊎ (RunsOutEarly limit held content left end out later ⊎ BreaksOff limit held content left ⊥ out later MayRunOut (KeepsJust end))
   -- a checkpoint is before the lines, but the disk isn't new
   LinesEndWith status.NotFlow =
       (later ≡ out) × (begin : Start) × (old : List (Pair Record Outcome)) × (market : Market) × IsOpening held (Legal begin old market)
-      × IfSome content (λ bytes. HasCheckpointMagic (take limit bytes)) × (place : ℕ) × Keeps (head_of begin) (map records_of old) place end
+      × IfSome content (λ bytes. HasCheckpointMagic (take limit bytes)) × KeepsJust end begin old
   LinesEndWith status.BadCheckpoint = (later ≡ out) × StaysNew BeginsUnsound limit held content end
   LinesEndWith status.NotDisk = (later ≡ out) × IsRefused held Foreign end
   LinesEndWith (status.Damaged place) = (later ≡ out) × IsRefused held (Damaged place) end
@@ -65,7 +65,7 @@ pub record ServesLines (limit : ℕ) (ends : Status) (start end : DiskState) (so
   -- disk begins with the checkpoint before the lines, or in the highest version, and any other keeps its beginning. Only if it was new at the start may
   -- a crash leave a new one, and after the call only if no entry was acknowledged.
   pub keeps : (begin : Start) (old : List (Pair Record Outcome)) (market : Market) → HoldsLegal start begin old market
-      → ServesIn limit source.before (ends ≡ status.WriteFault) begin start end old market out later
+      → ServesIn line_dialog limit source.before (ends ≡ status.WriteFault) begin start end old market out later
   -- Which status comes, how far the lines were answered and the source was read, and what the disk and the output have then.
   pub comes : IfSome start.content (λ held. LinesEndWith limit held source.before source.after end out later ends)
   -- At most one byte past the limit was taken of the source, and nothing is left of it at Done.

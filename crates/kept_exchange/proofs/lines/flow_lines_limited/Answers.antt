@@ -1,6 +1,6 @@
 use Rattle.std.proofs.Common.{subst}
 use Rattle.flow_io.specs.Changes.{change}
-use Rattle.line_keeping.specs.Outputs.{output}
+use Rattle.journal_keeping.specs.Outputs.{output}
 use Rattle.kept_exchange.specs.Keeping.{IsRefusal}
 use Rattle.kept_exchange.proofs.AsStatus.{refused_by}
 use Rattle.kept_exchange.proofs.ServingLines.{serves}
