@@ -6,5 +6,6 @@ pub mod Ladders
 pub mod ShortRows
 pub mod ReadNumbers
 pub mod Fitting
+pub mod Sizes
 mod ByWord
 pub mod OneAnswers

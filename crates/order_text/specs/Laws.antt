@@ -1,5 +1,5 @@
 -- What holds of lines. The module `laws` has a function for each of these.
-use Rattle.std.specs.Prelude.{◌≡◌, ◌≢◌, ℕ, List, map, All, Result, None}
+use Rattle.std.specs.Prelude.{◌≡◌, ◌≢◌, ◌≤◌, ℕ, List, length, map, All, Result, None}
 use Rattle.serde_json.specs.Data.{Data}
 use Rattle.wire_records.specs.Commands.{Request, Command, Place}
 use Rattle.wire_records.specs.declared.version.Version.{Version}
@@ -51,3 +51,8 @@ NoneIsUnanswered =
 abbrev pub LadderAsksTogether : Type 0
 LadderAsksTogether =
     (tickers : List (List ℕ)) (d : Data) (requests : List Request) → (asks : AsksLadder tickers d (map (Place None) requests)) → AskTogether asks.ladder (map curve_asked requests)
+
+-- a line asks for no more commands than it has bytes
+abbrev pub NoMoreThanBytes : Type 0
+NoMoreThanBytes =
+    (version : Version) (tickers : List (List ℕ)) (line : List ℕ) (asked : Asked) → LineAsks version tickers line asked → length (commands_of asked) ≤ length line

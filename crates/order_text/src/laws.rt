@@ -1,5 +1,5 @@
 //! What holds of lines. Each law is the contract of a function that does nothing.
-ghost use Rattle.order_text.specs.Laws.{OneSaying, OneTable, RowsAreShort, CommandsFit, OneAnswer, NoneIsUnanswered, LadderAsksTogether};
+ghost use Rattle.order_text.specs.Laws.{OneSaying, OneTable, RowsAreShort, CommandsFit, OneAnswer, NoneIsUnanswered, LadderAsksTogether, NoMoreThanBytes};
 
 /// A line asks for at most one thing, a command or a ladder's orders, and there is one table of tickers after it.
 pub fn one_saying()
@@ -35,4 +35,9 @@ pub fn none_is_unanswered()
 /// the ladder's value, and at most one of them isn't a whole number.
 pub fn ladder_asks_together()
     ensures { LadderAsksTogether }
+{}
+
+/// A line asks for no more commands than it has bytes.
+pub fn no_more_than_bytes()
+    ensures { NoMoreThanBytes }
 {}
