@@ -1,6 +1,7 @@
 //! The call that the program makes.
-ghost use Rattle.std.specs.Prelude.{◌≡◌, ◌≢◌, ◌^◌, ℕ, List, map, string_bytes};
+ghost use Rattle.std.specs.Prelude.{◌≡◌, ◌≢◌, ℕ, List, map, string_bytes};
 ghost use Rattle.flow_io.specs.Changes.{change};
+ghost use Rattle.exit_status.specs.Limits.{input_limit};
 ghost use Rattle.flow_exchange.specs.Forms.{Asks};
 ghost use Rattle.flow_exchange.specs.Private.{FormServes};
 ghost use Rattle.flow_exchange.specs.Program.{ServesCall};
@@ -51,7 +52,7 @@ fn do_form<S: Source, K: Sink>(
     }
 }
 
-/// Does what [`flow`] does, which calls it with the input limit 2^32.
+/// Does what [`flow`] does, which calls it with [`INPUT_LIMIT`].
 pub fn flow_limited<S: Source, K: Sink, N: Sink>(
     alloc: Global,
     words: &[String],
@@ -122,12 +123,12 @@ pub fn flow<S: Source, K: Sink, N: Sink>(
     out: &mut K,
     notes: &mut N,
 ) -> Status
-    ensures serves { ServesCall (2 ^ 32) (map string_bytes words.now) result (change S.rest S.faults source.old source.new)
+    ensures serves { ServesCall input_limit (map string_bytes words.now) result (change S.rest S.faults source.old source.new)
         (change K.held K.faults out.old out.new) (change N.held N.faults notes.old notes.new) }
-    ensures allocates { (form : Form) → Asks (map string_bytes words.now) form → MayRunOut form (2 ^ 32) result
+    ensures allocates { (form : Form) → Asks (map string_bytes words.now) form → MayRunOut form input_limit result
         (change S.rest S.faults source.old source.new) (change K.held K.faults out.old out.new) }
-    ensures promises { (form : Form) → Asks (map string_bytes words.now) form → Promises form (2 ^ 32) (S.rest source.old) }
-    ensures paced { Asks (map string_bytes words.now) Form.Run → KeepsPace (2 ^ 32) result
+    ensures promises { (form : Form) → Asks (map string_bytes words.now) form → Promises form input_limit (S.rest source.old) }
+    ensures paced { Asks (map string_bytes words.now) Form.Run → KeepsPace input_limit result
         (change S.rest S.faults source.old source.new) (change K.held K.faults out.old out.new) }
     ensures pieces { Asks (map string_bytes words.now) Form.Run → WritesInPieces K.calls K.held out.old out.new result }
     ensures idle { result ≡ Status.Usage → (source.new ≡ source.old) × (out.new ≡ out.old) }
