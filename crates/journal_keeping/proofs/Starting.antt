@@ -1,5 +1,5 @@
 -- A disk and an input that are opened, or why nothing was served, whatever the input is.
-use Rattle.std.proofs.Common.{◌≡◌, ◌⊎◌, inl, inr, ℕ, ◌+◌, ◌*◌, ◌≤◌, ◌^◌, List, [], ◌++◌, Option, Some, None, IfSome, IsSome, length, map, refl, sym, ap, subst, ◌∙◌, arith, length-append}
+use Rattle.std.proofs.Common.{◌≡◌, ◌⊎◌, inl, inr, ℕ, ◌+◌, ◌*◌, ◌≤◌, ◌^◌, List, [], ◌∷◌, ◌++◌, Option, Some, None, IfSome, IsSome, length, map, refl, sym, ap, subst, ◌∙◌, arith, length-append}
 use Rattle.flow_io.specs.Streams.{Takes, TakesAtMost}
 use Rattle.flow_io.specs.Windows.{WindowState}
 use Rattle.wire_records.specs.Records.{Record}
@@ -8,15 +8,17 @@ use Rattle.wire_records.specs.declared.version.Version.{Version}
 use Rattle.flow_orders.specs.Outcomes.{Outcome}
 use Rattle.journal_records.specs.Formats.{records_of}
 use Rattle.market_rules.specs.Market.{Market}
-use Rattle.market_history.specs.Histories.{Start, Empty, market_of, CanStart}
+use Rattle.market_snapshot.specs.Checkpoints.{checkpoint_bytes}
+use Rattle.market_history.specs.Histories.{Start, Empty, Kept, market_of, CanStart}
 use Rattle.file_units.proofs.Gone.{went_well}
 use Rattle.disk_edge.specs.Disks.{DiskState, IsDisk, AtEachMoment}
 use Rattle.disk_edge.specs.Images.{LeavesOnly}
 use Rattle.disk_edge.proofs.Moments.{weaker, then_more, at_the_end}
-use Rattle.journal_disk.specs.Entries.{IsHead, IsNewDisk, StandsFor, Keeps}
+use Rattle.journal_disk.specs.Entries.{IsHead, framed, IsNewDisk, StandsFor, Keeps}
 use Rattle.journal_disk.specs.Lengths.{HasAtMost, LeavesAtMost, ReachesAtMost}
 use Rattle.journal_disk.specs.Looking.{OnlyLooks}
 use Rattle.journal_disk.specs.Recovering.{IsFound}
+use Rattle.journal_disk.proofs.Entries.{length-framed}
 use Rattle.journal_disk.proofs.GoingOn.{looks_none, looks_more}
 use Rattle.journal_disk.proofs.Lengths.{reach_looks}
 use Rattle.journal_keeping.specs.declared.fault.OpenFault.{OpenFault}
@@ -289,11 +291,16 @@ module _ (format : InputFormat) (limit : ℕ) where
       }
 
   module _ (market : Market) (stored : List ℕ) (window : WindowState) (before after : Option (List ℕ)) (takes : TakesStart format limit market stored window before after) where
-    pub stored_small : limit ≤ 2 ^ 32 → length stored ≤ 2 ^ 33
-    stored_small few = omega (arith, few, takes.few, takes.following.place, takes.following.limited, takes.following.within)
-
     lawful : IsHead (head_of takes.begin)
     lawful = starts_begin_files takes.begin takes.following.starts
+
+    -- a checkpoint's length fits into four bytes
+    pub stored_small : length stored ≤ 2 ^ 33
+    stored_small = by takes.begin takes.stored_is lawful
+      where
+        by : (begin : Start) → IsStored begin stored → IsHead (head_of begin) → length stored ≤ 2 ^ 33
+        by (Empty version) is head = omega (arith, ap length is)
+        by (Kept of) is head = omega (arith, ap length is, length-append (framed (checkpoint_bytes of)) (0 ∷ []), length-framed (checkpoint_bytes of), head.1)
 
     module _ (start end : DiskState) (version : Version) (is_version : version ≡ market.version) (found : IfSome start.content (λ held. IsFound None held start))
         (moments : (bytes : List ℕ) (begin : Start) → start.content ≡ Some bytes → LeavesOnly start.images bytes → version_of begin ≡ version → IsHead (head_of begin) → IsStored begin stored

@@ -7,7 +7,7 @@ use Rattle.journal_disk.specs.Lengths.{HasAtMost, LeavesAtMost}
 
 -- The most bytes that an input may have.
 abbrev pub most_input : ℕ
-most_input = 2 ^ 32
+most_input = 2 ^ 40
 
 -- The most bytes that an entry takes on a disk: the longest entry, its length and the commit byte.
 abbrev pub longest_stored_entry : ℕ

@@ -48,7 +48,7 @@ use std::alloc::Global;
 ///
 /// Costs the audit of the kept entries, and for each record what serving it costs, two writes of the disk with a sync each, and one
 /// write of `out`. Holds a window of the longest command record, and a buffer of the longest entry of a disk. A checkpoint is held once,
-/// beside its market: that of a source until it is kept, and that of a disk until the audit begins. The limit is at most 2^32 bytes.
+/// beside its market: that of a source until it is kept, and that of a disk until the audit begins. The limit is at most 2^40 bytes.
 pub fn keep<S: Source, D: Disk, K: Sink>(
     alloc: Global,
     limit: u64,

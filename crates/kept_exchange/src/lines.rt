@@ -1,13 +1,13 @@
 //! The call that the program makes when asked to `serve FILE`.
-ghost use Rattle.std.specs.Prelude.{◌≡◌, ◌≤◌, ◌^◌, IfSome};
+ghost use Rattle.std.specs.Prelude.{◌≡◌, ◌≤◌, IfSome};
 ghost use Rattle.flow_io.specs.Changes.{change};
 ghost use Rattle.journal_disk.specs.Looking.{OnlyLooks};
 ghost use Rattle.journal_keeping.specs.Openings.{KeepNone};
 ghost use Rattle.journal_keeping.specs.Making.{IsMadeAfterStart};
-ghost use Rattle.journal_keeping.specs.Lengths.{most_input, GrowsAtMost};
+ghost use Rattle.journal_keeping.specs.Lengths.{longest_stored_entry, GrowsAtMost};
 ghost use Rattle.journal_keeping.specs.Outputs.{output};
 ghost use Rattle.line_keeping.specs.Inputs.{line_starts};
-ghost use Rattle.line_keeping.specs.Keeping.{longest_stored_line};
+ghost use Rattle.exit_status.specs.Limits.{input_limit};
 ghost use Rattle.kept_exchange.specs.Keeping.{IsRefusal};
 ghost use Rattle.kept_exchange.specs.Lines.{ServesLines};
 
@@ -27,14 +27,14 @@ pub fn flow_lines_limited<S: Source, D: Disk, K: Sink, N: Sink>(
     out: &mut K,
     notes: &mut N,
 ) -> Status
-    requires few { limit ≤ most_input }
+    requires few { limit ≤ input_limit }
     ensures serves { ServesLines limit result (D.state disk.old) (D.state disk.new) (change S.rest S.faults source.old source.new)
         (output K.held K.calls K.faults out.old) (output K.held K.calls K.faults out.new) (change N.held N.faults notes.old notes.new) }
     ensures untouched { IfSome (D.state disk.old).content
         (λ held. KeepNone held → OnlyLooks (D.state disk.old) (D.state disk.new) × (source.new ≡ source.old) × (out.new ≡ out.old)) }
     ensures made { IfSome (D.state disk.old).content
         (λ held. IsMadeAfterStart line_starts limit held (D.state disk.old) (D.state disk.new) (S.rest source.old) (S.rest source.new)) }
-    ensures lengths { IfSome (D.state disk.old).content (λ _. GrowsAtMost longest_stored_line limit (S.rest source.old) (D.state disk.old) (D.state disk.new)) }
+    ensures lengths { IfSome (D.state disk.old).content (λ _. GrowsAtMost longest_stored_entry limit (S.rest source.old) (D.state disk.old) (D.state disk.new)) }
     // If the disk is refused, nothing is read from the source, and nothing is written to `out`.
     ensures idle { IsRefusal result → (source.new ≡ source.old) × (out.new ≡ out.old) }
 {
@@ -67,17 +67,17 @@ pub fn flow_lines<S: Source, D: Disk, K: Sink, N: Sink>(
     out: &mut K,
     notes: &mut N,
 ) -> Status
-    ensures serves { ServesLines most_input result (D.state disk.old) (D.state disk.new) (change S.rest S.faults source.old source.new)
+    ensures serves { ServesLines input_limit result (D.state disk.old) (D.state disk.new) (change S.rest S.faults source.old source.new)
         (output K.held K.calls K.faults out.old) (output K.held K.calls K.faults out.new) (change N.held N.faults notes.old notes.new) }
     // A disk that keeps no valid journal is never changed, whatever the status, and nothing is read or written then.
     ensures untouched { IfSome (D.state disk.old).content
         (λ held. KeepNone held → OnlyLooks (D.state disk.old) (D.state disk.new) × (source.new ≡ source.old) × (out.new ≡ out.old)) }
     // A new disk is never changed, whatever the status, unless what was taken of the input shows what is before its lines.
     ensures made { IfSome (D.state disk.old).content
-        (λ held. IsMadeAfterStart line_starts most_input held (D.state disk.old) (D.state disk.new) (S.rest source.old) (S.rest source.new)) }
-    // At each moment a crash leaves at most 8,421,856 bytes for each byte of the source more than it might have left at the start, or than the
+        (λ held. IsMadeAfterStart line_starts input_limit held (D.state disk.old) (D.state disk.new) (S.rest source.old) (S.rest source.new)) }
+    // At each moment a crash leaves at most 263,183 bytes for each byte of the source more than it might have left at the start, or than the
     // 9 of a new disk. So if that was at most 2^59, and the source has at most 2^32 bytes, what it leaves has at most 2^60.
-    ensures lengths { IfSome (D.state disk.old).content (λ _. GrowsAtMost longest_stored_line most_input (S.rest source.old) (D.state disk.old) (D.state disk.new)) }
+    ensures lengths { IfSome (D.state disk.old).content (λ _. GrowsAtMost longest_stored_entry input_limit (S.rest source.old) (D.state disk.old) (D.state disk.new)) }
     ensures idle { IsRefusal result → (source.new ≡ source.old) × (out.new ≡ out.old) }
 {
     flow_lines_limited(alloc, INPUT_LIMIT, source, disk, out, notes)

@@ -1,13 +1,14 @@
 //! The call that the program makes when asked to `keep FILE`.
-ghost use Rattle.std.specs.Prelude.{◌≡◌, ◌≤◌, ◌^◌, IfSome};
+ghost use Rattle.std.specs.Prelude.{◌≡◌, ◌≤◌, IfSome};
 ghost use Rattle.flow_io.specs.Changes.{change};
 ghost use Rattle.journal_disk.specs.Looking.{OnlyLooks};
 ghost use Rattle.journal_keeping.specs.Starts.{source_starts};
 ghost use Rattle.journal_keeping.specs.Outputs.{output};
 ghost use Rattle.journal_keeping.specs.Openings.{KeepNone};
 ghost use Rattle.journal_keeping.specs.Making.{IsMadeAfterStart};
-ghost use Rattle.journal_keeping.specs.Lengths.{most_input, longest_stored_entry, GrowsAtMost};
+ghost use Rattle.journal_keeping.specs.Lengths.{longest_stored_entry, GrowsAtMost};
 ghost use Rattle.journal_keeping.specs.Pacing.{RunsOut};
+ghost use Rattle.exit_status.specs.Limits.{input_limit};
 ghost use Rattle.kept_exchange.specs.Keeping.{IsRefusal, ServesKeep, IsPaced};
 
 use crate::ending::status_of;
@@ -26,7 +27,7 @@ pub fn flow_disk_limited<S: Source, D: Disk, K: Sink, N: Sink>(
     out: &mut K,
     notes: &mut N,
 ) -> Status
-    requires few { limit ≤ most_input }
+    requires few { limit ≤ input_limit }
     ensures serves { ServesKeep limit result (D.state disk.old) (D.state disk.new) (change S.rest S.faults source.old source.new)
         (output K.held K.calls K.faults out.old) (output K.held K.calls K.faults out.new) (change N.held N.faults notes.old notes.new) }
     ensures untouched { IfSome (D.state disk.old).content
@@ -81,7 +82,7 @@ pub fn flow_disk<S: Source, D: Disk, K: Sink, N: Sink>(
     out: &mut K,
     notes: &mut N,
 ) -> Status
-    ensures serves { ServesKeep most_input result (D.state disk.old) (D.state disk.new) (change S.rest S.faults source.old source.new)
+    ensures serves { ServesKeep input_limit result (D.state disk.old) (D.state disk.new) (change S.rest S.faults source.old source.new)
         (output K.held K.calls K.faults out.old) (output K.held K.calls K.faults out.new) (change N.held N.faults notes.old notes.new) }
     // A disk that keeps no valid journal, since it is no kept file, is damaged, or has an entry that isn't valid, is never changed, whatever
     // the status, and nothing is read or written then.
@@ -90,16 +91,16 @@ pub fn flow_disk<S: Source, D: Disk, K: Sink, N: Sink>(
     // A new disk is never changed, whatever the status, unless the whole beginning of a source was taken: the magic of a command file, or a
     // checkpoint and the magic after it.
     ensures made { IfSome (D.state disk.old).content
-        (λ held. IsMadeAfterStart source_starts most_input held (D.state disk.old) (D.state disk.new) (S.rest source.old) (S.rest source.new)) }
+        (λ held. IsMadeAfterStart source_starts input_limit held (D.state disk.old) (D.state disk.new) (S.rest source.old) (S.rest source.new)) }
     // At each moment a crash leaves at most 263,183 bytes for each byte of the source more than it might have left at the start, or than the
     // 9 of a new disk. So if that was at most 2^59, and the source has at most 2^32 bytes, what it leaves has at most 2^60.
-    ensures lengths { IfSome (D.state disk.old).content (λ _. GrowsAtMost longest_stored_entry most_input (S.rest source.old) (D.state disk.old) (D.state disk.new)) }
+    ensures lengths { IfSome (D.state disk.old).content (λ _. GrowsAtMost longest_stored_entry input_limit (S.rest source.old) (D.state disk.old) (D.state disk.new)) }
     // How far was read, if something failed or memory ran out.
-    ensures paced { IsPaced most_input result (change S.rest S.faults source.old source.new)
+    ensures paced { IsPaced input_limit result (change S.rest S.faults source.old source.new)
         (output K.held K.calls K.faults out.old) (output K.held K.calls K.faults out.new) }
     // Memory runs out before anything is read or written, for a checkpoint of the source, or at a record that may allocate.
     ensures allocates { result ≡ Status.NoMemory → IfSome (D.state disk.old).content
-        (λ held. RunsOut most_input held (S.rest source.old) (S.rest source.new) (D.state disk.new)
+        (λ held. RunsOut input_limit held (S.rest source.old) (S.rest source.new) (D.state disk.new)
         (output K.held K.calls K.faults out.old) (output K.held K.calls K.faults out.new)) }
     ensures idle { IsRefusal result → (source.new ≡ source.old) × (out.new ≡ out.old) }
 {

@@ -9,6 +9,7 @@ use Rattle.market_rules.specs.Market.{Market}
 use Rattle.curve_ladder.specs.Segments.{segments_of, request_of}
 use Rattle.curve_ladder.proofs.SegmentLemmas.{segments_count}
 use Rattle.order_text.specs.Lines.{IsBlank, Asked, OfLadder, commands_of, LineAsks, SaysNothing}
+use Rattle.order_text.proofs.Sizes.{no_more_than_bytes}
 use Rattle.disk_edge.specs.Disks.{DiskState, IsDisk}
 use Rattle.journal_keeping.specs.declared.fault.ServeFault.{ServeFault}
 use Rattle.journal_keeping.specs.declared.fault.ServeFault.TheVariants.{Write, Memory}
@@ -47,6 +48,10 @@ ladder_few version tickers line commands asks =
     let l = asks.asks in
     omega (arith, ap length l.commands_are, length-map (map (request_of l.account l.row) (segments_of l.ladder)) (Place None), length-map (segments_of l.ladder) (request_of l.account l.row), (segments_count l.ladder l.lawful).1)
 
+-- a ladder has no more orders than its line has bytes
+pub ladder_short : (version : Version) (tickers : Texts) (line : List ℕ) (commands : List Command) → LineAsks version tickers line (OfLadder commands) → length commands ≤ length line
+ladder_short version tickers line commands = no_more_than_bytes version tickers line (OfLadder commands)
+
 module _ (number : ℕ) (line : List ℕ) (old : Market) (count from : ℕ) (disk : DiskState) (out : Output) where
   pub line_none : IsDisk disk → HasNoAnswer line → AnswersLine number line old old count count from from disk disk out out
   line_none is_disk no_answer = record {
@@ -74,7 +79,7 @@ module _ (number : ℕ) (line : List ℕ) (old : Market) (count from : ℕ) (dis
     gained = gained;
   }
 
-  pub line_asked : (asked : Asked) (new : Market) (entries to : ℕ) (later : DiskState) (after : Output) → AsksIn old line asked → length (commands_of asked) ≤ most_entries * length line → AnswersCommands (commands_of asked) old new count entries from to disk later out after
+  pub line_asked : (asked : Asked) (new : Market) (entries to : ℕ) (later : DiskState) (after : Output) → AsksIn old line asked → length (commands_of asked) ≤ length line → AnswersCommands (commands_of asked) old new count entries from to disk later out after
       → AnswersLine number line old new count entries from to disk later out after
   line_asked asked new entries to later after asks few answers = record {
     pairs = answers.pairs;

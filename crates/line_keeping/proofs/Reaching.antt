@@ -13,8 +13,6 @@ use Rattle.journal_keeping.specs.Lengths.{longest_stored_entry, HasYetAtMost}
 use Rattle.input_lines.specs.Finding.{FindsNext}
 use Rattle.input_lines.specs.declared.lines.Next.TheVariants as next
 use Rattle.journal_keeping.specs.Outputs.{Output}
-use Rattle.line_keeping.specs.Answers.{most_entries}
-use Rattle.line_keeping.specs.Keeping.{longest_stored_line}
 use Rattle.line_keeping.specs.Private.{HasGone, Reaches}
 
 -- what was taken of known bytes is no longer than they are
@@ -43,31 +41,31 @@ module _ (first : WindowState) (rest : Option (List ℕ)) (old : Market) (count 
   Takes-nothing (Some bytes) = refl
 
   module _ (reaches : Reaches first now from place start disk) where
-    pub reach_end : (most : ℕ) → HasYetAtMost most first rest → ReachesAtMost (from + (longest_stored_line * most + 1)) start disk
+    pub reach_end : (most : ℕ) → HasYetAtMost most first rest → ReachesAtMost (from + (longest_stored_entry * most + 1)) start disk
     reach_end most yet =
         let few = covers most 0 left [] (Takes-nothing left) (omega arith) (omega (arith, gone.is_open.within)) yet in
-        reach_wider (from + (longest_stored_line * (now.place - first.place) + 1)) (from + (longest_stored_line * most + 1)) start disk (omega (arith, few)) reaches.1
+        reach_wider (from + (longest_stored_entry * (now.place - first.place) + 1)) (from + (longest_stored_entry * most + 1)) start disk (omega (arith, few)) reaches.1
 
     pub reach_line : (most size : ℕ) (after : Option (List ℕ)) (joined past : List ℕ) (disk2 : DiskState) → past ≡ [] → Takes left after (joined ++ past) → size ≤ length (now.held ++ joined) → now.place + length (now.held ++ joined) ≤ now.limit → IsDisk disk
-        → ReachesAtMost (place + (longest_stored_entry * (most_entries * size) + 1)) disk disk2 → HasYetAtMost most first rest → ReachesAtMost (from + (longest_stored_line * most + 1)) start disk2
+        → ReachesAtMost (place + (longest_stored_entry * size + 1)) disk disk2 → HasYetAtMost most first rest → ReachesAtMost (from + (longest_stored_entry * most + 1)) start disk2
     reach_line most size after joined past disk2 none takes inside within is_disk reach yet =
         let few = covers most size after joined (subst (Takes left after) (ap (λ (l : List ℕ). joined ++ l) none ∙ append-nil joined) takes) inside (omega (arith, within, inside)) yet in
-        reach_more (from + (longest_stored_line * most + 1)) start disk disk2 is_disk
-        (reach_wider (from + (longest_stored_line * (now.place - first.place) + 1)) (from + (longest_stored_line * most + 1)) start disk (omega (arith, few)) reaches.1)
-        (reach_wider (place + (longest_stored_entry * (most_entries * size) + 1)) (from + (longest_stored_line * most + 1)) disk disk2 (omega (arith, few, reaches.0)) reach)
+        reach_more (from + (longest_stored_entry * most + 1)) start disk disk2 is_disk
+        (reach_wider (from + (longest_stored_entry * (now.place - first.place) + 1)) (from + (longest_stored_entry * most + 1)) start disk (omega (arith, few)) reaches.1)
+        (reach_wider (place + (longest_stored_entry * size + 1)) (from + (longest_stored_entry * most + 1)) disk disk2 (omega (arith, few, reaches.0)) reach)
 
     -- one line more
-    pub reaches_more : (next : WindowState) (size place2 pairs : ℕ) (disk2 : DiskState) → IsDisk disk → next.place ≡ now.place + (size + 1) → place2 ≤ place + longest_stored_entry * pairs → pairs ≤ most_entries * size → ReachesAtMost (place + (longest_stored_entry * (most_entries * size) + 1)) disk disk2
+    pub reaches_more : (next : WindowState) (size place2 pairs : ℕ) (disk2 : DiskState) → IsDisk disk → next.place ≡ now.place + (size + 1) → place2 ≤ place + longest_stored_entry * pairs → pairs ≤ size → ReachesAtMost (place + (longest_stored_entry * size + 1)) disk disk2
         → Reaches first next from place2 start disk2
     reaches_more next size place2 pairs disk2 is_disk moved few short reach = (
       omega (arith, reaches.0, few, short, moved, gone.place_is),
-      reach_more (from + (longest_stored_line * (next.place - first.place) + 1)) start disk disk2 is_disk
-          (reach_wider (from + (longest_stored_line * (now.place - first.place) + 1)) (from + (longest_stored_line * (next.place - first.place) + 1)) start disk (omega (arith, moved, gone.place_is)) reaches.1)
-          (reach_wider (place + (longest_stored_entry * (most_entries * size) + 1)) (from + (longest_stored_line * (next.place - first.place) + 1)) disk disk2 (omega (arith, reaches.0, moved, gone.place_is)) reach),
+      reach_more (from + (longest_stored_entry * (next.place - first.place) + 1)) start disk disk2 is_disk
+          (reach_wider (from + (longest_stored_entry * (now.place - first.place) + 1)) (from + (longest_stored_entry * (next.place - first.place) + 1)) start disk (omega (arith, moved, gone.place_is)) reaches.1)
+          (reach_wider (place + (longest_stored_entry * size + 1)) (from + (longest_stored_entry * (next.place - first.place) + 1)) disk disk2 (omega (arith, reaches.0, moved, gone.place_is)) reach),
     )
 
     pub reaches_on : (next : WindowState) (size : ℕ) → next.place ≡ now.place + size → Reaches first next from place start disk
     reaches_on next size moved = (
       omega (arith, reaches.0, moved, gone.place_is),
-      reach_wider (from + (longest_stored_line * (now.place - first.place) + 1)) (from + (longest_stored_line * (next.place - first.place) + 1)) start disk (omega (arith, moved, gone.place_is)) reaches.1,
+      reach_wider (from + (longest_stored_entry * (now.place - first.place) + 1)) (from + (longest_stored_entry * (next.place - first.place) + 1)) start disk (omega (arith, moved, gone.place_is)) reaches.1,
     )

@@ -33,9 +33,8 @@ use Rattle.journal_keeping.specs.Taking.{InputFormat}
 use Rattle.journal_keeping.specs.Lengths.{longest_stored_entry}
 use Rattle.journal_keeping.specs.Outputs.{Output, Gains}
 use Rattle.journal_keeping.specs.Private.{KeepsOneMore, HasAdded, HasStopped}
-use Rattle.line_keeping.specs.Answers.{most_entries, no_command_text, AreAnswered, IsLineAnswered, IsLineBegun, AreLinesAnswered, AreAnsweredInto, MayRunOut}
+use Rattle.line_keeping.specs.Answers.{no_command_text, AreAnswered, IsLineAnswered, IsLineBegun, AreLinesAnswered, AreAnsweredInto, MayRunOut}
 use Rattle.line_keeping.specs.Inputs.{bytes_before, line_starts, IsUnopened}
-use Rattle.line_keeping.specs.Keeping.{longest_stored_line}
 
 -- ---- what is before the lines
 
@@ -180,7 +179,7 @@ pub record AnswersLine (number : ℕ) (line : List ℕ) (old new : Market) (coun
   pub answered : IsLineAnswered old count number line pairs texts new
   pub added : HasAdded disk later old new from to pairs
   pub counted : entries ≡ count + length pairs
-  pub size : length pairs ≤ most_entries * length line
+  pub size : length pairs ≤ length line
   pub place : (from + length pairs ≤ to) × (to ≤ from + longest_stored_entry * length pairs)
   pub orders : new.next_order ≤ old.next_order + length pairs
   pub gained : Gains ⊥ out after texts
@@ -211,7 +210,7 @@ pub record HasGone (first now : WindowState) (rest left : Option (List ℕ)) (ol
   pub gained : Gains ⊥ out later texts
   pub orders : market.next_order ≤ place + 2 ^ 63
   pub few : entries ≤ place
-  pub room : place + longest_stored_entry * (most_entries * (now.limit - now.place)) ≤ 2 ^ 61
+  pub room : place + longest_stored_entry * (now.limit - now.place) ≤ 2 ^ 61
 
 -- what the lines of the bytes after those that a window held are, by the result: `all` are these bytes, `seen` those that were taken of them
 module _ (limit : ℕ) (all seen : List ℕ) (after : Option (List ℕ)) (read : List (List ℕ)) (line : List ℕ) where
@@ -257,4 +256,4 @@ pub record AnswersOn (window : WindowState) (rest left : Option (List ℕ)) (res
 -- how far a crash may leave a disk by now, from the bytes that the window gave up since
 abbrev pub Reaches : WindowState → WindowState → ℕ → ℕ → DiskState → DiskState → Type 0
 Reaches first now from place start disk =
-    (place ≤ from + longest_stored_line * (now.place - first.place)) × ReachesAtMost (from + (longest_stored_line * (now.place - first.place) + 1)) start disk
+    (place ≤ from + longest_stored_entry * (now.place - first.place)) × ReachesAtMost (from + (longest_stored_entry * (now.place - first.place) + 1)) start disk

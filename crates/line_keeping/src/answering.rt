@@ -38,7 +38,6 @@ impl Desk {
     ghost use Rattle.journal_disk.specs.Lengths.{ReachesAtMost};
     ghost use Rattle.journal_keeping.specs.Lengths.{longest_stored_entry};
     ghost use Rattle.input_lines.specs.Long.{most_line};
-    ghost use Rattle.line_keeping.specs.Answers.{most_entries};
     ghost use Rattle.line_keeping.specs.Private.{IsReadyFor, IsServed, AnswersCommand, BreaksCommand, AnswersCommands, BreaksCommands, AnswersLine, BreaksLine, Refuses, refusal_room};
 
     // Serves a command, and gets its entry and the entry's text ready. If memory runs out, the market may be past what is kept.
@@ -184,7 +183,7 @@ impl Desk {
         requires short { length line.now ≤ most_line }
         requires few { self.old.lines + 1 < 2 ^ 64 }
         requires room { refusal_room ≤ vec_capacity self.old.text }
-        requires ready { IsReadyFor self.old.writer.session self.old.entries self.old.writer.appender (most_entries * length line.now) }
+        requires ready { IsReadyFor self.old.writer.session self.old.entries self.old.writer.appender (length line.now) }
         requires kept { IfSome (D.state disk.old).content
             (λ _. (head : Head) × (pairs : List RecordPair) × Keeps head pairs self.old.writer.appender (D.state disk.old)) }
         ensures answers { OnOk result (AnswersLine (self.old.lines + 1) line.now self.old.writer.session self.new.writer.session self.old.entries self.new.entries
@@ -192,7 +191,7 @@ impl Desk {
             (output K.held K.calls K.faults out.old) (output K.held K.calls K.faults out.new)) }
         ensures counted { OnOk result (self.new.lines ≡ self.old.lines + 1) }
         ensures room { refusal_room ≤ vec_capacity self.new.text }
-        ensures lengths { ReachesAtMost (self.old.writer.appender + (longest_stored_entry * (most_entries * length line.now) + 1)) (D.state disk.old) (D.state disk.new) }
+        ensures lengths { ReachesAtMost (self.old.writer.appender + (longest_stored_entry * length line.now + 1)) (D.state disk.old) (D.state disk.new) }
         ensures broken { IfErr result (BreaksLine (self.old.lines + 1) line.now self.old.writer.session self.old.entries self.old.writer.appender
             (D.state disk.old) (D.state disk.new) (output K.held K.calls K.faults out.old) (output K.held K.calls K.faults out.new)) }
         ensures disk_cause { Blames (result ≡ Err ServeFault.Disk) (D.state disk.old).faults (D.state disk.new).faults }

@@ -14,12 +14,12 @@ ghost use Rattle.journal_disk.specs.Lengths.{ReachesAtMost};
 ghost use Rattle.journal_keeping.specs.Starts.{head_of};
 ghost use Rattle.journal_keeping.specs.Keeping.{IsKeptJournal, HoldsLegal};
 ghost use Rattle.journal_keeping.specs.Openings.{KeepNone};
-ghost use Rattle.journal_keeping.specs.Lengths.{most_input, GrowsAtMost, HasYetAtMost};
+ghost use Rattle.journal_keeping.specs.Lengths.{longest_stored_entry, most_input, GrowsAtMost, HasYetAtMost};
 ghost use Rattle.journal_keeping.specs.Making.{IsMadeAfterStart};
 ghost use Rattle.journal_keeping.specs.Ended.{IsRefusal, MayBeginAgain};
 ghost use Rattle.journal_keeping.specs.Outputs.{output};
 ghost use Rattle.journal_keeping.specs.Dialogs.{ServesIn};
-ghost use Rattle.line_keeping.specs.Keeping.{line_dialog, longest_stored_line};
+ghost use Rattle.line_keeping.specs.Keeping.{line_dialog};
 ghost use Rattle.line_keeping.specs.Ended.{ComesTo, LeavesNone};
 ghost use Rattle.line_keeping.specs.Inputs.{line_starts};
 ghost use Rattle.input_lines.specs.Finding.{IsOpen};
@@ -51,7 +51,7 @@ fn serve_on<S: Source, D: Disk, K: Sink>(
     ensures goes { AnswersOn window.old (S.rest source.old) (S.rest source.new) result desk.old.writer.session desk.old.entries desk.old.writer.appender
         (D.state disk.old) (D.state disk.new) (output K.held K.calls K.faults out.old) (output K.held K.calls K.faults out.new) }
     ensures lengths { (count : ℕ) → HasYetAtMost count window.old (S.rest source.old) →
-        ReachesAtMost (desk.old.writer.appender + (longest_stored_line * count + 1)) (D.state disk.old) (D.state disk.new) }
+        ReachesAtMost (desk.old.writer.appender + (longest_stored_entry * count + 1)) (D.state disk.old) (D.state disk.new) }
     ensures disk_cause { Blames (result ≡ Err (TakeFault.Broken ServeFault.Disk)) (D.state disk.old).faults (D.state disk.new).faults }
     ensures source_cause { Blames (result ≡ Err TakeFault.Read) (S.faults source.old) (S.faults source.new) }
     ensures out_cause { Blames (result ≡ Err (TakeFault.Broken ServeFault.Write)) (K.faults out.old) (K.faults out.new) }
@@ -102,7 +102,7 @@ fn serve_on<S: Source, D: Disk, K: Sink>(
 /// isn't answered. Each answer is one write, before the source is asked for more.
 ///
 /// A crash at any moment leaves on the disk the entries that were kept before, each new one whose text was written to `out`, and at most one more; a later
-/// call continues with what it leaves. It leaves at most 8,421,856 bytes for each byte of the source more than it might have left before, or than the 9 of a
+/// call continues with what it leaves. It leaves at most 263,183 bytes for each byte of the source more than it might have left before, or than the 9 of a
 /// new disk.
 ///
 /// First the disk is opened and its entries are audited; then it is seen whether the input begins with the eight bytes of a checkpoint's magic, which is
@@ -115,7 +115,7 @@ fn serve_on<S: Source, D: Disk, K: Sink>(
 /// `Read` all lines are answered that were complete in what was taken. `Disk`, `Read` and `Write` come only if the count of faults of the disk, the source or `out`
 /// rose, which stays as it was in every other case; then the source was read no further than 65,538 bytes past the line at which it stopped. `Memory` comes before
 /// anything is read, for the checkpoint, or at a line that is neither blank nor too long; all entries that are kept are then answered. Never returns `Torn`. The limit is at most
-/// 2^32 bytes, of which at most one more is taken.
+/// 2^40 bytes, of which at most one more is taken.
 ///
 /// Costs the audit of the kept entries, the reading of each line, and for each command what serving its record costs, its text, two writes of the disk with a
 /// sync each, and one write of `out`. Holds a window of 65,537 bytes, the longest entry of a disk, an entry and a text.
@@ -132,7 +132,7 @@ pub fn serve_lines<S: Source, D: Disk, K: Sink>(
         (output K.held K.calls K.faults out.old) (output K.held K.calls K.faults out.new) }
     ensures again { (begin : Start) (old : List (Pair Record Outcome)) (market : Market) → HoldsLegal (D.state disk.old) begin old market →
         MayBeginAgain (D.state disk.old) (D.state disk.new) }
-    ensures lengths { IfSome (D.state disk.old).content (λ _. GrowsAtMost longest_stored_line limit (S.rest source.old) (D.state disk.old) (D.state disk.new)) }
+    ensures lengths { IfSome (D.state disk.old).content (λ _. GrowsAtMost longest_stored_entry limit (S.rest source.old) (D.state disk.old) (D.state disk.new)) }
     ensures comes { IfSome (D.state disk.old).content (λ held. ComesTo limit held (S.rest source.old) (S.rest source.new) (D.state disk.new)
         (output K.held K.calls K.faults out.old) (output K.held K.calls K.faults out.new) result) }
     ensures legal { (begin : Start) (old : List (Pair Record Outcome)) (market : Market) → HoldsLegal (D.state disk.old) begin old market →

@@ -19,12 +19,12 @@ returns-in-Err-open_first-clause-fails g c =
 pub make_disk-requires-clause-short : goal.make_disk-requires-clause-short
 make_disk-requires-clause-short g c =
     let takes = (subst (λ (l : List ℕ). TakesStart g.I.Input.format c.args.limit c.in-Ok-open_first.opened.market l (g.I.Input.window c.in-Ok-open_first.opened.input) (g.S.Source.rest c.args.source.now) (g.S.Source.rest c.open_first.new.source)) (sym c.deref.ensures.value) c.in-Ok-open_first.ensures.opens) in
-    stored_small g.I.Input.format c.args.limit c.in-Ok-open_first.opened.market c.deref.result.now (g.I.Input.window c.in-Ok-open_first.opened.input) (g.S.Source.rest c.args.source.now) (g.S.Source.rest c.open_first.new.source) takes c.requires.few
+    stored_small g.I.Input.format c.args.limit c.in-Ok-open_first.opened.market c.deref.result.now (g.I.Input.window c.in-Ok-open_first.opened.input) (g.S.Source.rest c.args.source.now) (g.S.Source.rest c.open_first.new.source) takes
 
 pub returns-in-Ok-make_disk-clause-begun : goal.returns-in-Ok-make_disk-clause-begun
 returns-in-Ok-make_disk-clause-begun g c =
     let takes = (subst (λ (l : List ℕ). TakesStart g.I.Input.format c.args.limit c.in-Ok-open_first.opened.market l (g.I.Input.window c.in-Ok-open_first.opened.input) (g.S.Source.rest c.args.source.now) (g.S.Source.rest c.open_first.new.source)) (sym c.deref.ensures.value) c.in-Ok-open_first.ensures.opens) in
-    let small = stored_small g.I.Input.format c.args.limit c.in-Ok-open_first.opened.market c.deref.result.now (g.I.Input.window c.in-Ok-open_first.opened.input) (g.S.Source.rest c.args.source.now) (g.S.Source.rest c.open_first.new.source) takes c.requires.few in
+    let small = stored_small g.I.Input.format c.args.limit c.in-Ok-open_first.opened.market c.deref.result.now (g.I.Input.window c.in-Ok-open_first.opened.input) (g.S.Source.rest c.args.source.now) (g.S.Source.rest c.open_first.new.source) takes in
     let place = c.in-Ok-make_disk.ensures.place in
     let numbers = c.in-Ok-open_first.ensures.numbers in
     let next = ap (λ (m : Market). m.next_order) c.over.ensures in

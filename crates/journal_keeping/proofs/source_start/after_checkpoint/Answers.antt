@@ -2,13 +2,13 @@ use Rattle.std.proofs.Common.{◌≡◌, inl, inr, ℕ, List, [], ◌∷◌, ◌
 use Rattle.wire_records.specs.Grammars.{BeginsWith}
 use Rattle.wire_records.specs.Formats.{commands}
 use Rattle.wire_records.specs.declared.version.Version.{Version}
-use Rattle.flow_io.specs.Windows.{WindowState}
-use Rattle.file_units.proofs.Gone.{went_well, within_limit}
+use Rattle.file_units.proofs.Gone.{went_well}
 use Rattle.journal_disk.specs.Entries.{framed}
 use Rattle.journal_keeping.specs.declared.fault.InputFault.{InputFault}
 use Rattle.journal_keeping.specs.Taking.{NotTaken, source_format}
 use Rattle.journal_keeping.proofs.Counts.{went_on}
 use Rattle.journal_keeping.proofs.PastCheckpoint.{few_after, unread_after, ended_after, limit_after, other_after, out_after, opened_after, not_read_then}
+use Rattle.journal_keeping.proofs.ShortCheckpoints.{checkpoint_short}
 use Rattle.journal_keeping.proofs.source_start.after_checkpoint.Goals as goal
 
 pub returns-in-Ok-Ended : goal.returns-in-Ok-Ended
@@ -58,10 +58,7 @@ returns-in-Err-clause-cause g c =
     record { later = first.later; rose = λ _. first.rose refl; quiet = λ not. absurd (not refl) }
 
 pub stored_first-requires : goal.stored_first-requires
-stored_first-requires g c =
-    let w = c.fill.new.self in
-    let filled = c.in-Ok-Enough.ensures in
-    omega (arith, ap length c.requires.checkpoint, c.requires.placed, c.requires.few, ap (λ (x : WindowState). x.place) filled.fills.holds, ap (λ (x : WindowState). x.limit) filled.fills.holds, filled.enough.0 c.in-Ok-Enough.field-0-is, within_limit w.place (length w.held) w.limit w.over filled.within)
+stored_first-requires g c = omega (arith, ap length c.requires.checkpoint, checkpoint_short c.args.market c.version.ensures.consistent)
 
 pub returns-in-Ok-stored_first-clause-opens : goal.returns-in-Ok-stored_first-clause-opens
 returns-in-Ok-stored_first-clause-opens g c = λ before one takes.

@@ -12,8 +12,9 @@ use Rattle.journal_keeping.proofs.Counts.{if_some, if_both, uncalled, later_call
 use Rattle.journal_keeping.proofs.Making.{each_some}
 use Rattle.journal_keeping.proofs.Dialogs.{serves_none, serves_wider, may_begin_again}
 use Rattle.journal_keeping.proofs.Growing.{grows_served, grows_unserved}
+use Rattle.journal_keeping.specs.Lengths.{longest_stored_entry}
 use Rattle.line_keeping.specs.Inputs.{line_starts}
-use Rattle.line_keeping.specs.Keeping.{line_dialog, longest_stored_line}
+use Rattle.line_keeping.specs.Keeping.{line_dialog}
 use Rattle.line_keeping.specs.Private.{lines_format}
 use Rattle.line_keeping.specs.Ended.{ComesTo, LeavesNone}
 use Rattle.journal_keeping.specs.Outputs.{output}
@@ -39,7 +40,7 @@ returns-in-Err-clause-again g c = λ begin old market legal.
 
 pub returns-in-Err-clause-lengths : goal.returns-in-Err-clause-lengths
 returns-in-Err-clause-lengths g c =
-    each_some (g.D.Disk.state c.args.disk.now).content _ (λ (held : List ℕ). grows_unserved (λ n. longest_stored_line * n) (λ count. omega arith) c.args.limit (g.S.Source.rest c.args.source.now) (g.D.Disk.state c.args.disk.now) (g.D.Disk.state c.begin.new.disk) c.in-Err.ensures.fails.lengths)
+    each_some (g.D.Disk.state c.args.disk.now).content _ (λ (held : List ℕ). grows_unserved (λ n. longest_stored_entry * n) (λ count. omega arith) c.args.limit (g.S.Source.rest c.args.source.now) (g.D.Disk.state c.args.disk.now) (g.D.Disk.state c.begin.new.disk) c.in-Err.ensures.fails.lengths)
 
 pub returns-in-Err-clause-comes : goal.returns-in-Err-clause-comes
 returns-in-Err-clause-comes g c =
@@ -135,7 +136,7 @@ returns-in-Ok-clause-lengths g c =
     let b = c.in-Ok.ensures.begun in
     let writer = c.in-Ok.field-0.writer in
     if_some start.content _ _
-    (λ (held : List ℕ) begun. grows_served lines_format c.args.limit b.input c.in-Ok.field-0.input.window (g.S.Source.rest c.args.source.now) (g.S.Source.rest c.begin.new.source) b.following (λ n. longest_stored_line * n) (λ size count few. omega (arith, few))
+    (λ (held : List ℕ) begun. grows_served lines_format c.args.limit b.input c.in-Ok.field-0.input.window (g.S.Source.rest c.args.source.now) (g.S.Source.rest c.begin.new.source) b.following (λ n. longest_stored_entry * n) (λ size count few. omega (arith, few))
     b.begin start mid end (g.met.D.Disk.is_disk c.begin.new.disk) b.lengths held writer.session writer.entries writer.appender begun c.serve_on.ensures.lengths)
     b.begun
 

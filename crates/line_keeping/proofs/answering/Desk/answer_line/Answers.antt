@@ -6,15 +6,14 @@ use Rattle.order_text.specs.Lines.{Alone, OfLadder}
 use Rattle.journal_disk.proofs.Lengths.{reach_wider}
 use Rattle.journal_keeping.specs.Outputs.{output}
 use Rattle.line_keeping.proofs.Keeping.{commands_none, commands_more, breaks_by}
-use Rattle.line_keeping.proofs.Lines.{on_both, if_err, line_some, at_market, nothing_at, ladder_few, line_none, line_refused, line_asked, line_broke, line_unread, line_unwritten}
+use Rattle.line_keeping.proofs.Lines.{on_both, if_err, line_some, at_market, nothing_at, ladder_short, line_none, line_refused, line_asked, line_broke, line_unread, line_unwritten}
 use Rattle.line_keeping.proofs.Served.{on_ok}
 use Rattle.line_keeping.proofs.answering.Desk.answer_line.Goals as goal
 use Rattle.journal_keeping.specs.Lengths.{longest_stored_entry}
-use Rattle.line_keeping.specs.Answers.{most_entries}
 
 pub answer_commands-requires-clause-ready : goal.answer_commands-requires-clause-ready
 answer_commands-requires-clause-ready g c =
-    let few = ladder_few c.version.result c.tickers.result.now c.args.line.now (map command_in c.in-Ok-Many.commands) (rw c.in-Ok-Many.field-0-is at c.in-Ok-Many.ensures.asked) in
+    let few = ladder_short c.version.result c.tickers.result.now c.args.line.now (map command_in c.in-Ok-Many.commands) (rw c.in-Ok-Many.field-0-is at c.in-Ok-Many.ensures.asked) in
     let some = line_some c.args.line.now (rw c.in-Ok-Many.field-0-is at c.in-Ok-Many.ensures.asked).written in
     record {
       orders = c.requires.ready.orders;
@@ -42,7 +41,7 @@ returns-in-Ok-Asks-clause-answers g c =
 
 pub returns-in-Ok-Asks-clause-lengths : goal.returns-in-Ok-Asks-clause-lengths
 returns-in-Ok-Asks-clause-lengths g c =
-    reach_wider (c.args.self.now.writer.appender + (longest_stored_entry + 1)) (c.args.self.now.writer.appender + (longest_stored_entry * (most_entries * length c.args.line.now) + 1)) (g.D.Disk.state c.args.disk.now) (g.D.Disk.state c.answer_command.new.disk)
+    reach_wider (c.args.self.now.writer.appender + (longest_stored_entry + 1)) (c.args.self.now.writer.appender + (longest_stored_entry * length c.args.line.now + 1)) (g.D.Disk.state c.args.disk.now) (g.D.Disk.state c.answer_command.new.disk)
     (omega (arith, line_some c.args.line.now (rw c.in-Ok-Asks.field-0-is at c.in-Ok-Asks.ensures.asked).written)) c.answer_command.ensures.lengths
 
 pub returns-in-Ok-Asks-clause-broken : goal.returns-in-Ok-Asks-clause-broken
@@ -62,7 +61,7 @@ pub returns-in-Ok-Many-clause-answers : goal.returns-in-Ok-Many-clause-answers
 returns-in-Ok-Many-clause-answers g c =
     let market = c.args.self.now.writer.session in
     let asks = at_market market c.version.result c.tickers.result.now c.args.line.now (OfLadder (map command_in c.in-Ok-Many.commands)) (c.version.ensures.value ∙ ap (λ (m : Market). m.version) c.market-market.ensures.value) (c.tickers.ensures.value ∙ ap (λ (m : Market). m.tickers) c.market-market.ensures.value) (rw c.in-Ok-Many.field-0-is at c.in-Ok-Many.ensures.asked) in
-    let few = ladder_few market.version market.tickers c.args.line.now (map command_in c.in-Ok-Many.commands) asks in
+    let few = ladder_short market.version market.tickers c.args.line.now (map command_in c.in-Ok-Many.commands) asks in
     on_ok c.answer_commands.result _ _
     (λ answers. line_asked (c.args.self.now.lines + 1) c.args.line.now market c.args.self.now.entries c.args.self.now.writer.appender (g.D.Disk.state c.args.disk.now) (output g.K.Sink.held g.K.Sink.calls g.K.Sink.faults c.args.out.now)
     (OfLadder (map command_in c.in-Ok-Many.commands)) c.answer_commands.new.self.writer.session c.answer_commands.new.self.entries c.answer_commands.new.self.writer.appender (g.D.Disk.state c.answer_commands.new.disk) (output g.K.Sink.held g.K.Sink.calls g.K.Sink.faults c.answer_commands.new.out)
@@ -71,8 +70,8 @@ returns-in-Ok-Many-clause-answers g c =
 
 pub returns-in-Ok-Many-clause-lengths : goal.returns-in-Ok-Many-clause-lengths
 returns-in-Ok-Many-clause-lengths g c =
-    let few = ladder_few c.version.result c.tickers.result.now c.args.line.now (map command_in c.in-Ok-Many.commands) (rw c.in-Ok-Many.field-0-is at c.in-Ok-Many.ensures.asked) in
-    reach_wider (c.args.self.now.writer.appender + (longest_stored_entry * length c.as_slice.result.now + 1)) (c.args.self.now.writer.appender + (longest_stored_entry * (most_entries * length c.args.line.now) + 1)) (g.D.Disk.state c.args.disk.now) (g.D.Disk.state c.answer_commands.new.disk)
+    let few = ladder_short c.version.result c.tickers.result.now c.args.line.now (map command_in c.in-Ok-Many.commands) (rw c.in-Ok-Many.field-0-is at c.in-Ok-Many.ensures.asked) in
+    reach_wider (c.args.self.now.writer.appender + (longest_stored_entry * length c.as_slice.result.now + 1)) (c.args.self.now.writer.appender + (longest_stored_entry * length c.args.line.now + 1)) (g.D.Disk.state c.args.disk.now) (g.D.Disk.state c.answer_commands.new.disk)
     (omega (arith, few, line_some c.args.line.now (rw c.in-Ok-Many.field-0-is at c.in-Ok-Many.ensures.asked).written, length-map c.in-Ok-Many.commands command_in, ap length c.as_slice.ensures)) c.answer_commands.ensures.lengths
 
 pub returns-in-Ok-Many-clause-broken : goal.returns-in-Ok-Many-clause-broken
