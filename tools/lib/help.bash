@@ -58,7 +58,7 @@ ends     0  Done
          4  ReadFault      flow: read failed
          5  WriteFault     flow: write failed
          6  NoMemory       flow: no memory
-         8  TooLong        flow: more than 4294967296 bytes
+         8  TooLong        flow: more than 1099511627776 bytes
          9  BadText        flow: line N is no command
         10  BadCheckpoint  flow: checkpoint is not sound
 
@@ -76,7 +76,7 @@ ends     0  Done
          4  ReadFault      flow: read failed
          5  WriteFault     flow: write failed
          6  NoMemory       flow: no memory
-         8  TooLong        flow: more than 4294967296 bytes
+         8  TooLong        flow: more than 1099511627776 bytes
 
 The manual says more: man docs/flow.1' ;;
     audit) printf '%s\n' './flow audit < HISTORY
@@ -93,7 +93,7 @@ ends     0  Done
          5  WriteFault     flow: write failed
          6  NoMemory       flow: no memory
          7  Rejected       flow: pair N is not legal
-         8  TooLong        flow: more than 4294967296 bytes
+         8  TooLong        flow: more than 1099511627776 bytes
         10  BadCheckpoint  flow: checkpoint is not sound
 
 The manual says more: man docs/flow.1' ;;
@@ -111,7 +111,7 @@ ends     0  Done
          5  WriteFault     flow: write failed
          6  NoMemory       flow: no memory
          7  Rejected       flow: pair N is not legal
-         8  TooLong        flow: more than 4294967296 bytes
+         8  TooLong        flow: more than 1099511627776 bytes
         10  BadCheckpoint  flow: checkpoint is not sound
 
 The manual says more: man docs/flow.1' ;;
@@ -129,7 +129,7 @@ ends     0  Done
          5  WriteFault     flow: write failed
          6  NoMemory       flow: no memory
          7  Rejected       flow: pair N is not legal
-         8  TooLong        flow: more than 4294967296 bytes
+         8  TooLong        flow: more than 1099511627776 bytes
         10  BadCheckpoint  flow: checkpoint is not sound
 
 The manual says more: man docs/flow.1' ;;
@@ -147,7 +147,7 @@ ends     0  Done
          5  WriteFault     flow: write failed
          6  NoMemory       flow: no memory
          7  Rejected       flow: pair N is not legal
-         8  TooLong        flow: more than 4294967296 bytes
+         8  TooLong        flow: more than 1099511627776 bytes
         10  BadCheckpoint  flow: checkpoint is not sound
         11  NoAccount      flow: no account N
 
@@ -166,7 +166,7 @@ ends     0  Done
          5  WriteFault     flow: write failed
          6  NoMemory       flow: no memory
          7  Rejected       flow: pair N is not legal
-         8  TooLong        flow: more than 4294967296 bytes
+         8  TooLong        flow: more than 1099511627776 bytes
         10  BadCheckpoint  flow: checkpoint is not sound
 
 The manual says more: man docs/flow.1' ;;
@@ -184,7 +184,7 @@ ends     0  Done
          5  WriteFault     flow: write failed
          6  NoMemory       flow: no memory
          7  Rejected       flow: pair N is not legal
-         8  TooLong        flow: more than 4294967296 bytes
+         8  TooLong        flow: more than 1099511627776 bytes
         10  BadCheckpoint  flow: checkpoint is not sound
 
 The manual says more: man docs/flow.1' ;;
@@ -203,7 +203,7 @@ ends     0  Done
          5  WriteFault     flow: write failed
          6  NoMemory       flow: no memory
          7  Rejected       flow: pair N is not legal
-         8  TooLong        flow: more than 4294967296 bytes
+         8  TooLong        flow: more than 1099511627776 bytes
         10  BadCheckpoint  flow: checkpoint is not sound
         12  DiskFault      flow: disk failed
         13  NotDisk        flow: not a flow disk
@@ -224,7 +224,7 @@ ends     0  Done
          5  WriteFault     flow: write failed
          6  NoMemory       flow: no memory
          7  Rejected       flow: pair N is not legal
-         8  TooLong        flow: more than 4294967296 bytes
+         8  TooLong        flow: more than 1099511627776 bytes
         10  BadCheckpoint  flow: checkpoint is not sound
         12  DiskFault      flow: disk failed
         13  NotDisk        flow: not a flow disk

@@ -11,7 +11,7 @@ STATUSES = ("Done Usage NotFlow Torn ReadFault WriteFault NoMemory Rejected TooL
             "Damaged").split()
 SAID = ["", *(f"flow: {line}" for line in (
     "usage", "not a flow file", "torn at byte N", "read failed", "write failed", "no memory", "pair N is not legal",
-    "more than 4294967296 bytes", "line N is no command", "checkpoint is not sound", "no account N", "disk failed", "not a flow disk",
+    "more than 1099511627776 bytes", "line N is no command", "checkpoint is not sound", "no account N", "disk failed", "not a flow disk",
     "disk damaged at byte N"))]
 
 # A subcommand: what may follow it on the command line, with the names of values in capitals; what it reads and writes, each the

@@ -3,4 +3,4 @@ use Rattle.std.specs.Prelude.{ℕ, ◌^◌}
 
 -- the most bytes of input that each subcommand considers
 abbrev pub input_limit : ℕ
-input_limit = 2 ^ 32
+input_limit = 2 ^ 40

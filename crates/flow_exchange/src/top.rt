@@ -86,7 +86,7 @@ pub fn flow_limited<S: Source, K: Sink, N: Sink>(
 
 /// The program: does what the arguments ask for with a source and two sinks, and returns the status.
 ///
-/// - `run` reads a command file from the source, at most 2^32 bytes, and writes its journal to `out`: one write for the magic, and
+/// - `run` reads a command file from the source, at most 2^40 bytes, and writes its journal to `out`: one write for the magic, and
 ///   one for each entry.
 /// - `audit` reads a history, whoever wrote it: the magic of a journal or the checkpoint of a consistent market, and entries that
 ///   continue it. It writes a line to `out` if each entry is valid and nothing follows them.

@@ -2,7 +2,7 @@
 use crate::asked::Asked;
 use crate::counting::Counts;
 use check_lines::Told;
-use exit_status::Status;
+use exit_status::{INPUT_LIMIT, Status};
 use kept_exchange::{flow_disk, flow_disk_limited, flow_lines, flow_lines_limited};
 use memory_io::{MemoryDisk, MemorySink, MemorySource};
 use std::alloc::Global;
@@ -72,10 +72,10 @@ fn call(
 ) -> Status {
     match (asked.limit, asked.lines) {
         (Some(limit), false) => {
-            flow_disk_limited(alloc, limit.min(1 << 32), source, disk, out, notes)
+            flow_disk_limited(alloc, limit.min(INPUT_LIMIT), source, disk, out, notes)
         }
         (Some(limit), true) => {
-            flow_lines_limited(alloc, limit.min(1 << 32), source, disk, out, notes)
+            flow_lines_limited(alloc, limit.min(INPUT_LIMIT), source, disk, out, notes)
         }
         (None, false) => flow_disk(alloc, source, disk, out, notes),
         (None, true) => flow_lines(alloc, source, disk, out, notes),

@@ -8,7 +8,7 @@
 //! |---|---|
 //! | `lines=1` | the source has lines of JSON, which `serve` answers; else records, for `keep` |
 //! | `disk=N` | so many of the bytes are the disk's; else none |
-//! | `limit=N` | the most bytes of the source that are considered; else 2^32 |
+//! | `limit=N` | the most bytes of the source that are considered; else 2^40 |
 //! | `read=N`, `out=N`, `notes=N` | the read, the write to the output or the write to standard error that fails, counted from 1 |
 //! | `fail=N` | the call of the disk that fails, counted from 1 |
 //! | `calls=N` | the disk's calls after the first N fail; without it N is 1,000 |

@@ -18,7 +18,7 @@ use flow_io::{Sink, Source};
 use line_keeping::serve_lines;
 use std::alloc::Global;
 
-/// Does what [`flow_lines`] does, with another limit of the input, which is at most 2^32 bytes.
+/// Does what [`flow_lines`] does, with another limit of the input, which is at most 2^40 bytes.
 pub fn flow_lines_limited<S: Source, D: Disk, K: Sink, N: Sink>(
     alloc: Global,
     limit: u64,
@@ -47,7 +47,7 @@ pub fn flow_lines_limited<S: Source, D: Disk, K: Sink, N: Sink>(
 /// Serves lines of JSON and keeps their journal on a disk, after the entries that the disk keeps already. Each command of a line, as `encode` reads it with
 /// the market's tickers, is served and kept as by `keep`, and answered with the text that `report` has of its entry.
 ///
-/// The disk is opened first, as by [`flow_disk`](crate::flow_disk). Then it is read from the source, at most 2^32 bytes, whether a checkpoint is before the
+/// The disk is opened first, as by [`flow_disk`](crate::flow_disk). Then it is read from the source, at most 2^40 bytes, whether a checkpoint is before the
 /// lines, which a new disk gets as its first entry, and which is `NotFlow` for any other; a new disk without one is of the highest version. The commands
 /// of each line are served by the market after all entries before them. The entry of each is put onto the disk by two writes, each with a sync, and only then
 /// its text is written to `out`, by one write. A line that is neither blank nor a command, or too long, is answered by `line N is no command`, and the next one
@@ -76,7 +76,7 @@ pub fn flow_lines<S: Source, D: Disk, K: Sink, N: Sink>(
     ensures made { IfSome (D.state disk.old).content
         (λ held. IsMadeAfterStart line_starts input_limit held (D.state disk.old) (D.state disk.new) (S.rest source.old) (S.rest source.new)) }
     // At each moment a crash leaves at most 263,183 bytes for each byte of the source more than it might have left at the start, or than the
-    // 9 of a new disk. So if that was at most 2^59, and the source has at most 2^32 bytes, what it leaves has at most 2^60.
+    // 9 of a new disk. So if that was at most 2^59, and the source has at most 2^40 bytes, what it leaves has at most 2^60.
     ensures lengths { IfSome (D.state disk.old).content (λ _. GrowsAtMost longest_stored_entry input_limit (S.rest source.old) (D.state disk.old) (D.state disk.new)) }
     ensures idle { IsRefusal result → (source.new ≡ source.old) × (out.new ≡ out.old) }
 {

@@ -18,7 +18,7 @@ use flow_io::{Sink, Source};
 use journal_keeping::keep;
 use std::alloc::Global;
 
-/// Does what [`flow_disk`] does, with another limit of the input, which is at most 2^32 bytes.
+/// Does what [`flow_disk`] does, with another limit of the input, which is at most 2^40 bytes.
 pub fn flow_disk_limited<S: Source, D: Disk, K: Sink, N: Sink>(
     alloc: Global,
     limit: u64,
@@ -52,7 +52,7 @@ pub fn flow_disk_limited<S: Source, D: Disk, K: Sink, N: Sink>(
 /// Serves a command file and keeps its journal on a disk, after the entries that the disk keeps already.
 ///
 /// The disk is opened first, its entries are read and audited, and what a crash left after them is cut off. Then the command file is read
-/// from the source, at most 2^32 bytes; it has to be of the version of the disk. A new disk begins as its source does, which is read up to
+/// from the source, at most 2^40 bytes; it has to be of the version of the disk. A new disk begins as its source does, which is read up to
 /// the first record before anything is written to the disk: with a checkpoint as its first entry, if one is before the command file.
 /// Each record is served by the market after all entries before it. Its entry is put onto the disk by two writes, each with a sync, and
 /// only then written to `out`, by one write, before the source is asked for more; no magic is written to `out`. So a crash at any moment
@@ -93,7 +93,7 @@ pub fn flow_disk<S: Source, D: Disk, K: Sink, N: Sink>(
     ensures made { IfSome (D.state disk.old).content
         (λ held. IsMadeAfterStart source_starts input_limit held (D.state disk.old) (D.state disk.new) (S.rest source.old) (S.rest source.new)) }
     // At each moment a crash leaves at most 263,183 bytes for each byte of the source more than it might have left at the start, or than the
-    // 9 of a new disk. So if that was at most 2^59, and the source has at most 2^32 bytes, what it leaves has at most 2^60.
+    // 9 of a new disk. So if that was at most 2^59, and the source has at most 2^40 bytes, what it leaves has at most 2^60.
     ensures lengths { IfSome (D.state disk.old).content (λ _. GrowsAtMost longest_stored_entry input_limit (S.rest source.old) (D.state disk.old) (D.state disk.new)) }
     // How far was read, if something failed or memory ran out.
     ensures paced { IsPaced input_limit result (change S.rest S.faults source.old source.new)
