@@ -73,15 +73,15 @@ module _ (begin : Start) (start mid : DiskState) (old new : Pairs) (before m : M
     pub during_both : (now : DiskState) → DuringCall begin mid now (old ++ new) more → DuringCall begin start now old (new ++ more)
     during_both now during = then_more start mid now _ (weaker start mid _ _ before_left kept.during) (weaker mid now _ _ after_left during)
 
-    returned_left : (acknowledged : ℕ) (image : List ℕ)
-        → (mid.images image × (acknowledged ≡ 0)) ⊎ (KeepsFirst begin (old ++ new) more acknowledged (acknowledged + 1) image ⊎ (IsStillNew mid image × (acknowledged ≡ 0)))
-        → KeepsFirst begin old (new ++ more) (length new + acknowledged) (length new + acknowledged + 1) image
-    returned_left acknowledged image (inl early) =
-        wider (length new) (length new) (length new + acknowledged) (length new + acknowledged + 1) image (omega (arith, early.1)) (omega arith) (first_of image (stands image early.0))
-    returned_left acknowledged image (inr (inl first)) =
-        wider (length new + acknowledged) (length new + (acknowledged + 1)) (length new + acknowledged) (length new + acknowledged + 1) image (omega arith) (omega arith) (later_first acknowledged (acknowledged + 1) image first)
-    returned_left acknowledged image (inr (inr still)) =
-        wider (length new) (length new) (length new + acknowledged) (length new + acknowledged + 1) image (omega (arith, still.1)) (omega arith) (first_of image (still_stands image still.0))
+    returned_left : (most acknowledged : ℕ) (image : List ℕ)
+        → (mid.images image × (acknowledged ≡ 0)) ⊎ (KeepsFirst begin (old ++ new) more acknowledged (acknowledged + most) image ⊎ (IsStillNew mid image × (acknowledged ≡ 0)))
+        → KeepsFirst begin old (new ++ more) (length new + acknowledged) (length new + acknowledged + most) image
+    returned_left most acknowledged image (inl early) =
+        wider (length new) (length new) (length new + acknowledged) (length new + acknowledged + most) image (omega (arith, early.1)) (omega arith) (first_of image (stands image early.0))
+    returned_left most acknowledged image (inr (inl first)) =
+        wider (length new + acknowledged) (length new + (acknowledged + most)) (length new + acknowledged) (length new + acknowledged + most) image (omega arith) (omega arith) (later_first acknowledged (acknowledged + most) image first)
+    returned_left most acknowledged image (inr (inr still)) =
+        wider (length new) (length new) (length new + acknowledged) (length new + acknowledged + most) image (omega (arith, still.1)) (omega arith) (first_of image (still_stands image still.0))
 
     pub goes_both : (after : Market) → GoesOn begin (old ++ new) m more after → GoesOn begin old before (new ++ more) after
     goes_both after goes = record {
@@ -90,14 +90,14 @@ module _ (begin : Start) (start mid : DiskState) (old new : Pairs) (before m : M
     }
 
     -- a run after entries that were kept
-    pub runs_after : (now : DiskState) (acknowledged : ℕ) → Runs begin mid now (old ++ new) m more acknowledged → Runs begin start now old before (new ++ more) (length new + acknowledged)
-    runs_after now acknowledged runs = record {
+    pub runs_after : (most : ℕ) (now : DiskState) (acknowledged : ℕ) → Runs most begin mid now (old ++ new) m more acknowledged → Runs most begin start now old before (new ++ more) (length new + acknowledged)
+    runs_after most now acknowledged runs = record {
       now = runs.now;
       within = omega (arith, runs.within, length-append new more);
-      all_but_one = omega (arith, runs.all_but_one, length-append new more);
+      all_but = omega (arith, runs.all_but, length-append new more);
       goes_on = goes_both runs.now runs.goes_on;
       during = during_both now runs.during;
-      returns = λ image left. inr (inl (returned_left acknowledged image (runs.returns image left)));
+      returns = λ image left. inr (inl (returned_left most acknowledged image (runs.returns image left)));
     }
 
     pub kept_both : (now : DiskState) (after : Market) (later : ℕ) → HasKept begin mid now (old ++ new) m later more after → HasKept begin start now old before later (new ++ more) after

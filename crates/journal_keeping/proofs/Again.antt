@@ -21,8 +21,8 @@ pub can_begin_again : (start end : DiskState) → CanBeginAgain start end
 can_begin_again start end = record {
   during = λ begin of old new market before after holds on run image left.
       ⊎_elim (λ early. holds.each image early) (λ later. ⊎_elim (λ keeps. firsts_are_legal of old new before after 0 (length new) image on keeps) (λ still. new_is_legal image still.1) later) (run.each image left);
-  returned = λ begin of old new market before after acknowledged holds on returns image left.
-      ⊎_elim (λ early. holds.each image early.0) (λ later. ⊎_elim (λ keeps. firsts_are_legal of old new before after acknowledged (acknowledged + 1) image on keeps) (λ still. new_is_legal image still.0.1) later) (returns image left);
+  returned = λ begin of old new market before after most acknowledged holds on returns image left.
+      ⊎_elim (λ early. holds.each image early.0) (λ later. ⊎_elim (λ keeps. firsts_are_legal of old new before after acknowledged (acknowledged + most) image on keeps) (λ still. new_is_legal image still.0.1) later) (returns image left);
   opened = λ limit count content few brings short grows again image left opens is.
       let legal = again.stopped image left in
       let size = (grows (2 ^ 59) count (omega arith) short brings).each image left in
@@ -38,9 +38,9 @@ legal_again end (Some bytes) is left each =
     (here.0, here.1, here.2, record { bytes = bytes; told = is; journal = here.3; stands = here.4; each = each })
 
 -- after a run
-pub after_run : (begin of : Start) (start end : DiskState) (old new : Pairs) (market from : Market) (acknowledged : ℕ) → HoldsLegal start begin old market → IsDisk end → Runs of start end old from new acknowledged → MayBeginAgain start end
-after_run begin of start end old new market from acknowledged legal is_disk runs =
-    let returned = (can_begin_again start end).returned begin of old new market from runs.now acknowledged legal runs.goes_on runs.returns in
+pub after_run : (most : ℕ) (begin of : Start) (start end : DiskState) (old new : Pairs) (market from : Market) (acknowledged : ℕ) → HoldsLegal start begin old market → IsDisk end → Runs most of start end old from new acknowledged → MayBeginAgain start end
+after_run most begin of start end old new market from acknowledged legal is_disk runs =
+    let returned = (can_begin_again start end).returned begin of old new market from runs.now most acknowledged legal runs.goes_on runs.returns in
     record {
       stopped = (can_begin_again start end).during begin of old new market from runs.now legal runs.goes_on runs.during;
       returned = returned;

@@ -32,7 +32,7 @@ module _ (dialog : Dialog) (limit : ℕ) (content : Option (List ℕ)) where
     continues = safe.goes;
     new = [];
     acknowledged = 0;
-    runs = unbegun safe.of start next old safe.from safe.journal is_disk safe.moments;
+    runs = unbegun safe.of dialog.together start next old safe.from safe.journal is_disk safe.moments;
     texts = [];
     added = none safe.input safe.from (length old);
     told = [];
@@ -43,7 +43,7 @@ module _ (dialog : Dialog) (limit : ℕ) (content : Option (List ℕ)) where
   -- entries of the first units were added
   pub serves_added : (Failed Cut : Type 0) (of input : Start) (begin : Start) (start begun end : DiskState) (old : Pairs) (market session now : Market) (count place : ℕ) (out later : Output) (new more : Pairs) (words texts : List (List ℕ))
       → GoesOnIn dialog.starts limit content start begin market of session input × IsKeptJournal of old session × (count ≡ length old) × Keeps (head_of of) (map records_of old) place begun → Opens of start begun old
-      → HasStopped Failed Cut session now place begun end out later new more texts
+      → HasStopped dialog.together Failed Cut session now place begun end out later new more texts
       → dialog.Adds limit content input session count (new ++ more) words → dialog.Adds limit content input session count new texts
       → ServesIn dialog limit content Cut begin start end old market out later
   serves_added Failed Cut of input begin start begun end old market session now count place out later new more words texts is opens stops added answered = record {
@@ -53,7 +53,7 @@ module _ (dialog : Dialog) (limit : ℕ) (content : Option (List ℕ)) where
     continues = is.0;
     new = new ++ more;
     acknowledged = length new;
-    runs = opened_first of start begun end old session place (new ++ more) (length new) opens is.3 (stops.runs of old is.1 is.3);
+    runs = opened_first of dialog.together start begun end old session place (new ++ more) (length new) opens is.3 (stops.runs of old is.1 is.3);
     texts = words;
     added = subst (λ (n : ℕ). dialog.Adds limit content input session n (new ++ more) words) is.2 added;
     told = texts;
@@ -84,11 +84,11 @@ module _ (dialog : Dialog) (limit : ℕ) (content : Option (List ℕ)) where
   pub may_begin_again : (Cut : Type 0) (begin : Start) (start end : DiskState) (old : Pairs) (market : Market) (out later : Output) → HoldsLegal start begin old market → IsDisk end
       → ServesIn dialog limit content Cut begin start end old market out later → MayBeginAgain start end
   may_begin_again Cut begin start end old market out later legal is_disk serves =
-      after_run begin serves.of start end old serves.new market serves.from serves.acknowledged legal is_disk serves.runs
+      after_run dialog.together begin serves.of start end old serves.new market serves.from serves.acknowledged legal is_disk serves.runs
 
 -- what was served, if the disk is known to have held these bytes
-module _ (starts : InputStarts) (held : List ℕ) (begin input : Start) (market : Market) (count place : ℕ) (begun : DiskState) (is : IsBegun starts held begin input market count place begun) (can : CanStart input)
-    (Failed Cut : Type 0) (now : Market) (end : DiskState) (out later : Output) (new more : Pairs) (texts : List (List ℕ)) (stops : HasStopped Failed Cut market now place begun end out later new more texts) where
+module _ {together : ℕ} (starts : InputStarts) (held : List ℕ) (begin input : Start) (market : Market) (count place : ℕ) (begun : DiskState) (is : IsBegun starts held begin input market count place begun) (can : CanStart input)
+    (Failed Cut : Type 0) (now : Market) (end : DiskState) (out later : Output) (new more : Pairs) (texts : List (List ℕ)) (stops : HasStopped together Failed Cut market now place begun end out later new more texts) where
   journal : IsKeptJournal begin is.0 market
   journal = opens_journal starts held begin input is.0 market can is.1
 

@@ -63,10 +63,10 @@ module _ (begin : Start) where
   opened_during start now old new opens = weaker start now _ _ (opened_left start old new) opens
 
   -- what it leaves after one
-  returned_left : (start : DiskState) (old : Pairs) (image : List ℕ) → WhileOpening begin start old image → (start.images image × (◌≡◌ {A = ℕ} 0 0)) ⊎ (KeepsFirst begin old [] 0 1 image ⊎ (IsStillNew start image × (◌≡◌ {A = ℕ} 0 0)))
-  returned_left start old image (inl early) = inl (early, refl)
-  returned_left start old image (inr (inl stands)) = inr (inl (0, omega arith, omega arith, subst (λ (l : Pairs). StandsForJournal begin l image) (sym (append-nil old)) stands))
-  returned_left start old image (inr (inr still)) = inr (inr (still, refl))
+  returned_left : (most : ℕ) (start : DiskState) (old : Pairs) (image : List ℕ) → WhileOpening begin start old image → (start.images image × (◌≡◌ {A = ℕ} 0 0)) ⊎ (KeepsFirst begin old [] 0 (0 + most) image ⊎ (IsStillNew start image × (◌≡◌ {A = ℕ} 0 0)))
+  returned_left most start old image (inl early) = inl (early, refl)
+  returned_left most start old image (inr (inl stands)) = inr (inl (0, omega arith, omega arith, subst (λ (l : Pairs). StandsForJournal begin l image) (sym (append-nil old)) stands))
+  returned_left most start old image (inr (inr still)) = inr (inr (still, refl))
 
   -- no record yet
   pub goes_none : (old : Pairs) (before : Market) → IsKeptJournal begin old before → GoesOn begin old before [] before
@@ -107,13 +107,13 @@ module _ (begin : Start) where
   }
 
   -- a run that ends before an entry is kept leaves the start's images, or the old entries
-  pub opened_returns : (start next : DiskState) (old : Pairs) → IsDisk next → AtEachMoment start next (WhileOpening begin start old) → AtReturn begin start next old [] 0
-  opened_returns start next old is_disk opens image left = returned_left start old image (at_the_end start next _ is_disk opens image left)
+  pub opened_returns : (most : ℕ) (start next : DiskState) (old : Pairs) → IsDisk next → AtEachMoment start next (WhileOpening begin start old) → AtReturn most begin start next old [] 0
+  opened_returns most start next old is_disk opens image left = returned_left most start old image (at_the_end start next _ is_disk opens image left)
 
   module _ (start now : DiskState) (old : Pairs) (before : Market) (place : ℕ) (new : Pairs) (market : Market) (kept : HasKept begin start now old before place new market) where
     -- a run that ends here leaves each entry that was acknowledged
-    pub kept_returns : AtReturn begin start now old new (length new)
-    kept_returns image left =
+    pub kept_returns : (most : ℕ) → AtReturn most begin start now old new (length new)
+    kept_returns most image left =
         inr (inl (length new, omega arith, omega arith, subst (λ (l : Pairs). StandsForJournal begin (old ++ l) image) (sym (take_all (length new) new (omega arith))) (kept_stands (map records_of (old ++ new)) place now image kept.keeps left)))
 
     -- what a crash leaves during a call that keeps one more entry
@@ -132,7 +132,7 @@ module _ (begin : Start) where
           (weaker now next _ _ (λ image was. let first = with_or_without old new pair image was in inr (inl (first.0, omega arith, first.2, first.3))) moments)
 
       -- an append that failed: what was acknowledged is left, and at most one entry more
-      pub failed_returns : IsDisk next → AtReturn begin start next old (new ++ pair ∷ []) (length new)
+      pub failed_returns : IsDisk next → AtReturn 1 begin start next old (new ++ pair ∷ []) (length new)
       failed_returns is_disk image left =
           let first = with_or_without old new pair image (at_the_end now next _ is_disk moments image left) in
           inr (inl (first.0, first.1, omega (arith, first.2, length-append new (pair ∷ [])), first.3))
@@ -147,41 +147,41 @@ module _ (begin : Start) where
       }
 
   -- What a run did, if it ended after its last entry.
-  pub ended : (start now : DiskState) (old : Pairs) (before : Market) (place : ℕ) (new : Pairs) (market : Market)
-      → HasKept begin start now old before place new market → Runs begin start now old before new (length new)
-  ended start now old before place new market kept = record {
+  pub ended : (most : ℕ) (start now : DiskState) (old : Pairs) (before : Market) (place : ℕ) (new : Pairs) (market : Market)
+      → HasKept begin start now old before place new market → Runs most begin start now old before new (length new)
+  ended most start now old before place new market kept = record {
     now = market;
     within = omega arith;
-    all_but_one = omega arith;
+    all_but = omega arith;
     goes_on = kept.goes_on;
     during = kept.during;
-    returns = kept_returns start now old before place new market kept;
+    returns = kept_returns start now old before place new market kept most;
   }
 
   -- What a run did, if it ended at an append that failed.
   pub failed : (start now next : DiskState) (old : Pairs) (before : Market) (place : ℕ) (new : Pairs) (market after : Market) (pair : Pair Record Outcome)
       → HasKept begin start now old before place new market → IsDisk next → IsPair pair → IsNext market pair after → Step IsReadAs IsAdmissibleOutcome market pair.asked pair.answer after
       → AtEachMoment now next (WithOrWithout (head_of begin) (map records_of (old ++ new)) (records_of pair))
-      → Runs begin start next old before (new ++ pair ∷ []) (length new)
+      → Runs 1 begin start next old before (new ++ pair ∷ []) (length new)
   failed start now next old before place new market after pair kept is_disk fits own right moments = record {
     now = after;
     within = omega (arith, length-append new (pair ∷ []));
-    all_but_one = omega (arith, length-append new (pair ∷ []));
+    all_but = omega (arith, length-append new (pair ∷ []));
     goes_on = goes_more old before new market pair after kept.goes_on fits own right;
     during = more_during start now old before place new market kept next pair moments;
     returns = failed_returns start now old before place new market kept next pair moments is_disk;
   }
 
   -- What a run did, if it ended before the first entry.
-  pub unbegun : (start next : DiskState) (old : Pairs) (before : Market) → IsKeptJournal begin old before → IsDisk next
-      → AtEachMoment start next (WhileOpening begin start old) → Runs begin start next old before [] 0
-  unbegun start next old before is is_disk opens = record {
+  pub unbegun : (most : ℕ) (start next : DiskState) (old : Pairs) (before : Market) → IsKeptJournal begin old before → IsDisk next
+      → AtEachMoment start next (WhileOpening begin start old) → Runs most begin start next old before [] 0
+  unbegun most start next old before is is_disk opens = record {
     now = before;
     within = omega arith;
-    all_but_one = omega arith;
+    all_but = omega arith;
     goes_on = goes_none old before is;
     during = opened_during start next old [] opens;
-    returns = opened_returns start next old is_disk opens;
+    returns = opened_returns most start next old is_disk opens;
   }
 
   -- what a crash leaves during a call that goes on with the old entries, after another
@@ -192,25 +192,25 @@ module _ (begin : Start) where
   later_left first start old new place image keeps (inr (inr still)) = inr (inl (first_of old new image (new_stands old place start image keeps still)))
 
   -- and after it
-  returned_later : (first start : DiskState) (old new : Pairs) (place acknowledged : ℕ) (image : List ℕ) → Keeps (head_of begin) (map records_of old) place start
-      → (start.images image × (acknowledged ≡ 0)) ⊎ (KeepsFirst begin old new acknowledged (acknowledged + 1) image ⊎ (IsStillNew start image × (acknowledged ≡ 0)))
-      → (first.images image × (acknowledged ≡ 0)) ⊎ (KeepsFirst begin old new acknowledged (acknowledged + 1) image ⊎ (IsStillNew first image × (acknowledged ≡ 0)))
-  returned_later first start old new place acknowledged image keeps (inl early) =
+  returned_later : (most : ℕ) (first start : DiskState) (old new : Pairs) (place acknowledged : ℕ) (image : List ℕ) → Keeps (head_of begin) (map records_of old) place start
+      → (start.images image × (acknowledged ≡ 0)) ⊎ (KeepsFirst begin old new acknowledged (acknowledged + most) image ⊎ (IsStillNew start image × (acknowledged ≡ 0)))
+      → (first.images image × (acknowledged ≡ 0)) ⊎ (KeepsFirst begin old new acknowledged (acknowledged + most) image ⊎ (IsStillNew first image × (acknowledged ≡ 0)))
+  returned_later most first start old new place acknowledged image keeps (inl early) =
       inr (inl (0, omega (arith, early.1), omega arith, subst (λ (l : Pairs). StandsForJournal begin l image) (sym (append-nil old)) (kept_stands (map records_of old) place start image keeps early.0)))
-  returned_later first start old new place acknowledged image keeps (inr (inl later)) = inr (inl later)
-  returned_later first start old new place acknowledged image keeps (inr (inr still)) =
+  returned_later most first start old new place acknowledged image keeps (inr (inl later)) = inr (inl later)
+  returned_later most first start old new place acknowledged image keeps (inr (inr still)) =
       inr (inl (0, omega (arith, still.1), omega arith, subst (λ (l : Pairs). StandsForJournal begin l image) (sym (append-nil old)) (new_stands old place start image keeps still.0)))
 
   -- a run whose disk was opened first
-  pub opened_first : (first start end : DiskState) (old : Pairs) (before : Market) (place : ℕ) (new : Pairs) (acknowledged : ℕ)
+  pub opened_first : (most : ℕ) (first start end : DiskState) (old : Pairs) (before : Market) (place : ℕ) (new : Pairs) (acknowledged : ℕ)
       → AtEachMoment first start (WhileOpening begin first old) → Keeps (head_of begin) (map records_of old) place start
-      → Runs begin start end old before new acknowledged → Runs begin first end old before new acknowledged
-  opened_first first start end old before place new acknowledged opens keeps runs =
+      → Runs most begin start end old before new acknowledged → Runs most begin first end old before new acknowledged
+  opened_first most first start end old before place new acknowledged opens keeps runs =
       record {
         now = runs.now;
         within = runs.within;
-        all_but_one = runs.all_but_one;
+        all_but = runs.all_but;
         goes_on = runs.goes_on;
         during = then_more first start end _ (opened_during first start old new opens) (weaker start end _ _ (λ image was. later_left first start old new place image keeps was) runs.during);
-        returns = λ image left. returned_later first start old new place acknowledged image keeps (runs.returns image left);
+        returns = λ image left. returned_later most first start old new place acknowledged image keeps (runs.returns image left);
       }

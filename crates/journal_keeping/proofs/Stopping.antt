@@ -24,10 +24,10 @@ use Rattle.journal_keeping.proofs.Adding.{goes_both, runs_after}
 
 module _ (Failed Cut : Type 0) (start now : DiskState) (before market : Market) (from place : ℕ) (new : Pairs) (so : HasAdded start now before market from place new) (out later : Output) (texts : List (List ℕ)) (gained : Gains Cut out later texts) where
   -- after the last entry
-  pub stops_after : HasStopped Failed Cut before market from start now out later new [] texts
-  stops_after = record {
+  pub stops_after : {together : ℕ} → HasStopped together Failed Cut before market from start now out later new [] texts
+  stops_after {together} = record {
     goes_on = λ begin old is at. (so.kept begin old is at).goes_on;
-    runs = λ begin old is at. subst (λ (l : Pairs). Runs begin start now old before l (length new)) (sym (append-nil new)) (ended begin start now old before place new market (so.kept begin old is at));
+    runs = λ begin old is at. subst (λ (l : Pairs). Runs together begin start now old before l (length new)) (sym (append-nil new)) (ended begin together start now old before place new market (so.kept begin old is at));
     gained = gained;
     whole = λ not. (refl, λ begin old is at. (place, (so.kept begin old is at).keeps));
   }
@@ -35,7 +35,7 @@ module _ (Failed Cut : Type 0) (start now : DiskState) (before market : Market) 
   -- at an entry that wasn't kept
   pub stops_failed : Failed → (next : DiskState) (after : Market) (pair : Pair Record Outcome) → IsDisk next → IsPair pair → Step IsReadAs IsCanonicalOutcome market pair.asked pair.answer after
       → ((head : Head) (pairs : List RecordPair) → Keeps head pairs place now → AtEachMoment now next (WithOrWithout head pairs (records_of pair)))
-      → HasStopped Failed Cut before market from start next out later new (pair ∷ []) texts
+      → HasStopped 1 Failed Cut before market from start next out later new (pair ∷ []) texts
   stops_failed fails next after pair is_disk fits step moments = record {
     goes_on = λ begin old is at. (so.kept begin old is at).goes_on;
     runs = λ begin old is at.
@@ -47,8 +47,8 @@ module _ (Failed Cut : Type 0) (start now : DiskState) (before market : Market) 
   }
 
 -- what may have failed in more cases
-pub stops_wider : (Failed Other Cut Wider : Type 0) (before now : Market) (from : ℕ) (start end : DiskState) (out later : Output) (new more : Pairs) (texts : List (List ℕ)) → (Failed → Other) → (Cut → Wider)
-    → HasStopped Failed Cut before now from start end out later new more texts → HasStopped Other Wider before now from start end out later new more texts
+pub stops_wider : {together : ℕ} (Failed Other Cut Wider : Type 0) (before now : Market) (from : ℕ) (start end : DiskState) (out later : Output) (new more : Pairs) (texts : List (List ℕ)) → (Failed → Other) → (Cut → Wider)
+    → HasStopped together Failed Cut before now from start end out later new more texts → HasStopped together Other Wider before now from start end out later new more texts
 stops_wider Failed Other Cut Wider before now from start end out later new more texts fails cut stops = record {
   goes_on = stops.goes_on;
   runs = stops.runs;
@@ -57,18 +57,18 @@ stops_wider Failed Other Cut Wider before now from start end out later new more 
 }
 
 -- entries were added, and answered, before
-pub stops_later : (Failed Cut : Type 0) (start mid end : DiskState) (before m now : Market) (from place : ℕ) (first new more : Pairs) (out middle later : Output) (texts others : List (List ℕ))
-    → HasAdded start mid before m from place first → Gains ⊥ out middle texts → HasStopped Failed Cut m now place mid end middle later new more others
-    → HasStopped Failed Cut before now from start end out later (first ++ new) more (texts ++ others)
-stops_later Failed Cut start mid end before m now from place first new more out middle later texts others added gained stops = record {
+pub stops_later : {together : ℕ} (Failed Cut : Type 0) (start mid end : DiskState) (before m now : Market) (from place : ℕ) (first new more : Pairs) (out middle later : Output) (texts others : List (List ℕ))
+    → HasAdded start mid before m from place first → Gains ⊥ out middle texts → HasStopped together Failed Cut m now place mid end middle later new more others
+    → HasStopped together Failed Cut before now from start end out later (first ++ new) more (texts ++ others)
+stops_later {together} Failed Cut start mid end before m now from place first new more out middle later texts others added gained stops = record {
   goes_on = λ begin old is at.
       let k = added.kept begin old is at in
       goes_both begin start mid old first before m place k new now (stops.goes_on begin (old ++ first) k.goes_on.journal k.keeps);
   runs = λ begin old is at.
       let k = added.kept begin old is at in
-      let runs = runs_after begin start mid old first before m place k (new ++ more) end (length new) (stops.runs begin (old ++ first) k.goes_on.journal k.keeps) in
-      subst (λ (n : ℕ). Runs begin start end old before ((first ++ new) ++ more) n) (sym (length-append first new))
-      (subst (λ (l : Pairs). Runs begin start end old before l (length first + length new)) (sym (append_assoc first new more)) runs);
+      let runs = runs_after begin start mid old first before m place k (new ++ more) together end (length new) (stops.runs begin (old ++ first) k.goes_on.journal k.keeps) in
+      subst (λ (n : ℕ). Runs together begin start end old before ((first ++ new) ++ more) n) (sym (length-append first new))
+      (subst (λ (l : Pairs). Runs together begin start end old before l (length first + length new)) (sym (append_assoc first new more)) runs);
   gained = gains_more Cut out middle later texts others gained stops.gained;
   whole = λ not.
       let w = stops.whole not in (

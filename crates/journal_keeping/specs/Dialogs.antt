@@ -19,13 +19,15 @@ use Rattle.journal_keeping.specs.Outputs.{Output, Gains}
 -- A kind of input whose commands are served, kept and answered: how it begins, and which entries and texts its first units add.
 pub record Dialog : Type 1 where
   pub starts : InputStarts
+  -- So many entries at most are kept before they are acknowledged together.
+  pub together : ℕ
   -- The first units of an input that begins so, within the limit, add these entries and are answered with these texts, if its content is known: in a
   -- journal that is at this market, and has `count` entries before.
   pub Adds : (limit : ℕ) → Option (List ℕ) → Start → Market → (count : ℕ) → List (Pair Record Outcome) → List (List ℕ) → Type 0
 
 -- What a call does to the disk and to the output, from the beginning with which it continues. The new entries are those that the first units of its
 -- input add, and a crash leaves the old ones and the first of the new ones. The output gained the texts up to the last entry that is acknowledged:
--- all that were added, or all but the last.
+-- all that were added, or all but those that are kept together last.
 pub record ServesIn (dialog : Dialog) (limit : ℕ) (content : Option (List ℕ)) (Cut : Type 0) (begin : Start) (start end : DiskState) (old : List (Pair Record Outcome)) (market : Market) (out later : Output) : Type 0 where
   pub of : Start
   pub from : Market
@@ -33,7 +35,7 @@ pub record ServesIn (dialog : Dialog) (limit : ℕ) (content : Option (List ℕ)
   pub continues : GoesOnIn dialog.starts limit content start begin market of from input
   pub new : List (Pair Record Outcome)
   pub acknowledged : ℕ
-  pub runs : Runs of start end old from new acknowledged
+  pub runs : Runs dialog.together of start end old from new acknowledged
   pub texts : List (List ℕ)
   pub added : dialog.Adds limit content input from (length old) new texts
   pub told : List (List ℕ)
@@ -68,6 +70,7 @@ asked_of pairs = map (λ (pair : Pair Record Outcome). pair.asked) pairs
 abbrev pub record_dialog : Dialog
 record_dialog = record {
   starts = source_starts;
+  together = 1;
   Adds = λ limit content input market count new texts.
       ((new ≡ []) ⊎ IfSome content (λ bytes. StartsWith sources limit bytes input (asked_of new))) × (texts ≡ map pair_encoding new);
 }

@@ -65,18 +65,18 @@ abbrev pub DuringCall : Start → DiskState → DiskState → List (Pair Record 
 DuringCall begin start end old new =
     AtEachMoment start end (λ image. start.images image ⊎ (KeepsFirst begin old new 0 (length new) image ⊎ IsStillNew start image))
 
--- After the call a crash leaves the old entries, each acknowledged one, and at most one more; or, if no entry was acknowledged, an image that
+-- After the call a crash leaves the old entries, each acknowledged one, and at most so many more; or, if no entry was acknowledged, an image that
 -- was there at its start, or a new disk if the call began on one.
-abbrev pub AtReturn : Start → DiskState → DiskState → List (Pair Record Outcome) → List (Pair Record Outcome) → ℕ → Type 0
-AtReturn begin start end old new acknowledged =
+abbrev pub AtReturn : (most : ℕ) → Start → DiskState → DiskState → List (Pair Record Outcome) → List (Pair Record Outcome) → ℕ → Type 0
+AtReturn most begin start end old new acknowledged =
     (image : List ℕ) → end.images image
-    → (start.images image × (acknowledged ≡ 0)) ⊎ (KeepsFirst begin old new acknowledged (acknowledged + 1) image ⊎ (IsStillNew start image × (acknowledged ≡ 0)))
+    → (start.images image × (acknowledged ≡ 0)) ⊎ (KeepsFirst begin old new acknowledged (acknowledged + most) image ⊎ (IsStillNew start image × (acknowledged ≡ 0)))
 
--- What a run does to the disk: these entries were added, and acknowledged, all of them or all but the last.
-pub record Runs (begin : Start) (start end : DiskState) (old : List (Pair Record Outcome)) (market : Market) (new : List (Pair Record Outcome)) (acknowledged : ℕ) : Type 0 where
+-- What a run does to the disk: these entries were added, and acknowledged, all of them or all but the last `most`.
+pub record Runs (most : ℕ) (begin : Start) (start end : DiskState) (old : List (Pair Record Outcome)) (market : Market) (new : List (Pair Record Outcome)) (acknowledged : ℕ) : Type 0 where
   pub now : Market
   pub within : acknowledged ≤ length new
-  pub all_but_one : length new ≤ acknowledged + 1
+  pub all_but : length new ≤ acknowledged + most
   pub goes_on : GoesOn begin old market new now
   pub during : DuringCall begin start end old new
-  pub returns : AtReturn begin start end old new acknowledged
+  pub returns : AtReturn most begin start end old new acknowledged

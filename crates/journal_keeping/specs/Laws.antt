@@ -35,8 +35,8 @@ pub record CanBeginAgain (start end : DiskState) : Type 0 where
   pub during : (begin of : Start) (old new : List (Pair Record Outcome)) (market before after : Market)
       → HoldsLegal start begin old market → GoesOn of old before new after → DuringCall of start end old new
       → (image : List ℕ) → end.since start.clock image → IsLegalImage image
-  pub returned : (begin of : Start) (old new : List (Pair Record Outcome)) (market before after : Market) (acknowledged : ℕ)
-      → HoldsLegal start begin old market → GoesOn of old before new after → AtReturn of start end old new acknowledged
+  pub returned : (begin of : Start) (old new : List (Pair Record Outcome)) (market before after : Market) (most acknowledged : ℕ)
+      → HoldsLegal start begin old market → GoesOn of old before new after → AtReturn most of start end old new acknowledged
       → (image : List ℕ) → end.images image → IsLegalImage image
   -- What a crash leaves can be opened, as a new disk or as a valid journal, if a crash left at most 2^59 bytes at the start, and the source
   -- has at most `most_input` bytes within the limit.

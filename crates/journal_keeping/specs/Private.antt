@@ -51,11 +51,11 @@ pub record HasAdded (start now : DiskState) (before market : Market) (from place
   pub kept : IfKept before from start (λ begin old. HasKept begin start now old before place new market)
   pub told : IsSome now.content → IsSome start.content
 
--- Adding entries stopped: these are acknowledged and were answered with these texts, and `more` is the one that was being kept, if one was. Unless the disk
--- failed, there is none, and the disk keeps just them.
-pub record HasStopped (Failed Cut : Type 0) (before now : Market) (from : ℕ) (start end : DiskState) (out later : Output) (new more : List (Pair Record Outcome)) (texts : List (List ℕ)) : Type 0 where
+-- Adding entries stopped: these are acknowledged and were answered with these texts, and `more` are those that were being kept together, if any were.
+-- Unless the disk failed, there are none, and the disk keeps just them.
+pub record HasStopped (together : ℕ) (Failed Cut : Type 0) (before now : Market) (from : ℕ) (start end : DiskState) (out later : Output) (new more : List (Pair Record Outcome)) (texts : List (List ℕ)) : Type 0 where
   pub goes_on : IfKept before from start (λ begin old. GoesOn begin old before new now)
-  pub runs : IfKept before from start (λ begin old. Runs begin start end old before (new ++ more) (length new))
+  pub runs : IfKept before from start (λ begin old. Runs together begin start end old before (new ++ more) (length new))
   pub gained : Gains Cut out later texts
   pub whole : ¬ Failed → (more ≡ []) × IfKept before from start (λ begin old. KeepsJust end begin (old ++ new))
 
@@ -141,6 +141,6 @@ pub record ServesOn (window : WindowState) (rest left : Option (List ℕ)) (resu
   pub all : new ++ more ≡ read ++ last
   pub market : Market
   pub goes : GoesFrom commands Adds (Names market read last) window rest left result [] read tt tt
-  pub stops : HasStopped (result ≡ Err (Broken Disk)) (result ≡ Err (Broken Write)) before market from start end out later new more (map pair_encoding new)
+  pub stops : HasStopped 1 (result ≡ Err (Broken Disk)) (result ≡ Err (Broken Write)) before market from start end out later new more (map pair_encoding new)
   pub written : (text : List ℕ) × Grows out.held later.held (flat_map pair_encoding read ++ text)
   pub ended : IfEnded result ((last ≡ []) × (new ≡ read) × (more ≡ []))

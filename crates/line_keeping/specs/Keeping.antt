@@ -9,6 +9,7 @@ use Rattle.line_keeping.specs.Inputs.{line_starts, HasLinesWithin}
 abbrev pub line_dialog : Dialog
 line_dialog = record {
   starts = line_starts;
+  together = 1;
   Adds = λ limit content before from count pairs texts.
       ((pairs ≡ []) × (texts ≡ []))
       ⊎ IfSome content (λ bytes. (lines : List (List ℕ)) × HasLinesWithin limit bytes before lines × (now : Market) × AreFirstAnswered from count lines pairs texts now);

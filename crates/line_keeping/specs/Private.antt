@@ -155,7 +155,7 @@ pub record Breaks (Begun : List (Pair Record Outcome) → List (List ℕ) → Ma
   pub words : List (List ℕ)
   pub last : Market
   pub further : Begun (pairs ++ more) words last
-  pub stops : HasStopped (fault ≡ Disk) (fault ≡ Write) old market from disk later out after pairs more texts
+  pub stops : HasStopped 1 (fault ≡ Disk) (fault ≡ Write) old market from disk later out after pairs more texts
 
 -- the entries and texts of the first of these commands
 abbrev pub AreBegun : Market → ℕ → List Command → List (Pair Record Outcome) → List (List ℕ) → Market → Type 0
@@ -250,7 +250,7 @@ pub record AnswersOn (window : WindowState) (rest left : Option (List ℕ)) (res
   pub words : List (List ℕ)
   pub last : Market
   pub further : AreDone old count read line (pairs ++ more) words last result
-  pub stops : HasStopped (result ≡ Err (Broken Disk)) (result ≡ Err (Broken Write)) old market from start end out later pairs more texts
+  pub stops : HasStopped 1 (result ≡ Err (Broken Disk)) (result ≡ Err (Broken Write)) old market from start end out later pairs more texts
   pub lacks : result ≡ Err (Broken Memory) → MayRunOut line
 
 -- how far a crash may leave a disk by now, from the bytes that the window gave up since

@@ -56,7 +56,7 @@ returns-in-Err-clause-legal g c = λ begin old market legal small.
 pub returns-in-Err-clause-untouched : goal.returns-in-Err-clause-untouched
 returns-in-Err-clause-untouched g c =
     if_both (g.D.Disk.state c.args.disk.now).content _ _ _
-    (λ (held : List ℕ) looks not none. let of = none_open source_format c.args.limit held (g.S.Source.rest c.args.source.now) (g.S.Source.rest c.begin.new.source) (g.D.Disk.state c.begin.new.disk) c.in-Err.fault none not in (looks none, c.in-Err.ensures.unasked of.0 (ap Err of.1), refl))
+    (λ (held : List ℕ) looks not none. let of = none_open source_format c.args.limit held (g.S.Source.rest c.args.source.now) (g.S.Source.rest c.begin.new.source) (g.D.Disk.state c.begin.new.disk) c.in-Err.fault none not in (looks none, c.in-Err.ensures.unasked of.0 (ap Err of.1), refl {a = c.args.out.now}))
     c.in-Err.ensures.fails.looks c.in-Err.ensures.fails.refused
 
 pub returns-in-Err-clause-taken : goal.returns-in-Err-clause-taken
@@ -79,7 +79,7 @@ returns-in-Err-clause-allocates g c = λ lacks.
 pub returns-in-Err-clause-unasked : goal.returns-in-Err-clause-unasked
 returns-in-Err-clause-unasked g c = λ refusal.
     let of = begin_refusal c.in-Err.fault (subst (λ (f : KeepFault). IsRefusal (Err f)) c.from.ensures refusal) in
-    (c.in-Err.ensures.unasked of.0 (ap Err of.1), refl)
+    (c.in-Err.ensures.unasked of.0 (ap Err of.1), refl {a = c.args.out.now})
 
 pub returns-in-Err-clause-disk_cause : goal.returns-in-Err-clause-disk_cause
 returns-in-Err-clause-disk_cause g c =
