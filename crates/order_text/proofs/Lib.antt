@@ -7,5 +7,6 @@ pub mod ShortRows
 pub mod ReadNumbers
 pub mod Fitting
 pub mod Sizes
+mod Questions
 mod ByWord
 pub mod OneAnswers

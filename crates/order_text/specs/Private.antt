@@ -21,6 +21,9 @@ use Rattle.order_text.specs.declared.line.LineFault.{LineFault}
 use Rattle.order_text.specs.declared.word.Word.{Word}
 use Rattle.order_text.specs.declared.word.Word.TheVariants as words
 use Rattle.order_text.specs.declared.line.LineFault.TheVariants.{NoCommand, Memory}
+use Rattle.order_text.specs.declared.question.Question.{Question}
+use Rattle.order_text.specs.declared.question.Question.TheVariants.{Market, Own, Account, Exchange}
+use Rattle.order_text.specs.Questions.{question_members}
 use Rattle.order_text.specs.Lines.{HasKeys, whole_of, signed_of, asset_named, Value, Asset, Small, Number, Signed, HasAt, order_members, members_of, ladder_members, AsksLadder, Asked, ObjectAsks, Leaves, Alone}
 
 -- the text at a key
@@ -217,3 +220,21 @@ abbrev pub put_members : List (List ℕ) → Members → List Entry → Option (
 put_members tickers no_members row = Some row
 put_members tickers (member key value members) row =
     option_and_then (λ more. put_members tickers members more) (option_and_then (λ e. put_entry e row) (entry_of tickers key value))
+
+-- ---- questions
+
+-- the text at `ask` of the object that asks a question
+abbrev pub asked_in : Question → List ℕ
+asked_in Market = codes "market"
+asked_in Own = codes "account"
+asked_in (Account number) = codes "account"
+asked_in Exchange = codes "exchange"
+
+-- an object has the members of a question, besides `ask`, and no further keys
+abbrev pub FitsQuestion : Data → Question → Type 0
+FitsQuestion d question = Has [] d (drop 1 (question_members question)) × HasKeys (length (question_members question)) d
+
+-- the question that an object with this text at `ask` asks, or `None` if it asks none
+abbrev pub FindsQuestion : List ℕ → Data → Option Question → Type 0
+FindsQuestion text d (Some question) = (asked_in question ≡ text) × FitsQuestion d question
+FindsQuestion text d None = (question : Question) → asked_in question ≡ text → ¬ FitsQuestion d question

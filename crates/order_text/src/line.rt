@@ -46,7 +46,7 @@ fn is_blank(line: &[u8]) -> bool
 }
 
 // Parses a line as a JSON value.
-fn value_of(alloc: Global, line: &[u8]) -> Result<Value, LineFault>
+pub(crate) fn value_of(alloc: Global, line: &[u8]) -> Result<Value, LineFault>
     ensures value { IfOk result (λ v. IsUtf8 line.now × (read line.now ≡ Some (view v))) }
     ensures none { IsErrOf result LineFault.NoCommand → IsUtf8 line.now → read line.now ≡ None }
 {
