@@ -7,10 +7,10 @@ use Rattle.envelope_text.proofs.Members.{values, one_whole_at, one_text_at, one_
 -- records of the same parts are the same
 same_parts : (a b : Sent) → a.from ≡ b.from → a.id ≡ b.id → a.text ≡ b.text → a ≡ b
 same_parts a b from id text = by a.from b.from a.id b.id a.text b.text from id text
-
   where
     sent : ℕ → Option ℕ → List ℕ → Sent
     sent from id text = record { from = from; id = id; text = text }
+
     by : (f g : ℕ) (i j : Option ℕ) (t u : List ℕ) → f ≡ g → i ≡ j → t ≡ u → sent f i t ≡ sent g j u
     by f g i j t u from id text = ap (λ n. sent n i t) from ∙ ap (λ k. sent g k t) id ∙ ap (λ s. sent g j s) text
 
