@@ -12,9 +12,10 @@ use order_book::{Book, Memory};
 use std::alloc::Global;
 
 // How many orders there may be.
-const MOST_ORDERS: usize = 16_384;
+const MOST_ORDERS: usize = flow_orders::MOST_ORDERS as usize;
 
 // Adds the order, if the book can take it.
+#[tactic(auto, using(flow_orders::proofs::Limits::orders_are))]
 fn add(book: &mut Book, order: Order) -> Option<()> {
     let number = order.number();
     if book.len() >= MOST_ORDERS || !book.orders().iter().all(|other| other.number() < number) {

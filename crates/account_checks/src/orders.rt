@@ -15,7 +15,7 @@ const MOST_CAP: u64 = 1 << 40;
 const MOST_WEIGHT: u32 = 4096;
 
 // How many orders there may be.
-const MOST_ORDERS: usize = 16_384;
+const MOST_ORDERS: usize = flow_orders::MOST_ORDERS as usize;
 
 // Returns the fault of `LOW HIGH RATE CAP`.
 fn fault_of(words: &str) -> Option<Option<OrderFault>> {
@@ -137,6 +137,7 @@ fn put_added(alloc: Global, orders: &mut Vec<Order>, placed: &str, told: &mut To
 }
 
 // Prints the rounding bound and the slope bound that result from the orders' weights of an asset.
+#[tactic(auto, using(flow_orders::proofs::Limits::orders_are))]
 fn put_bounds(orders: &[Order], asset: u16, told: &mut Told) {
     if orders.len() > MOST_ORDERS {
         return told.give_up();

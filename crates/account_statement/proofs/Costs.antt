@@ -16,6 +16,7 @@ use Rattle.flow_orders.specs.Orders.{Order, IsOrder, most_orders, terms_of}
 use Rattle.flow_orders.specs.Trades.{Trade, trades, paid, received, residual}
 use Rattle.flow_orders.specs.Outcomes.{residuals_of}
 use Rattle.flow_orders.specs.Residuals.{AreNear, HasEach, AreZeros, IsTradeAdded}
+use Rattle.flow_orders.proofs.Limits.{orders_fit}
 use Rattle.batch_certificate.proofs.Sums.{IsTurn, length-trades, trade_at, each_is}
 use Rattle.pair_text.proofs.Joining.{one_more}
 use Rattle.statement_rules.specs.Statements.{cost_line}
@@ -42,7 +43,7 @@ one_more_cost prices orders rates i o x old one two sum part turn few before lin
     let here : get_or ts i t ≡ t = trade_at orders rates i o x turn in
     let bound : unsigned_abs (sum +ℤ part) ≤ (i + 1) * 2 ^ 110 = omega (arith, unsigned_abs-add sum part, before.small, small) in
     let part_fits : FitsSigned w128 part = fits_signed_from_abs w128 part (omega (arith, small)) in
-    let sum_fits : FitsSigned w128 (sum +ℤ part) = fits_signed_from_abs w128 (sum +ℤ part) (omega (arith, bound, few, turn.inside)) in
+    let sum_fits : FitsSigned w128 (sum +ℤ part) = fits_signed_from_abs w128 (sum +ℤ part) (omega (arith, bound, few, orders_fit, turn.inside)) in
     let kept : to_z w128 (of_z w128 (sum +ℤ to_z w128 (of_z w128 part))) ≡ sum +ℤ part = rw (to_z-of_z w128 part part_fits) (to_z-of_z w128 (sum +ℤ part) sum_fits) in
     record {
       fits = rw (to_z-of_z w128 part part_fits) sum_fits;

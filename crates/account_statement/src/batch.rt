@@ -69,6 +69,7 @@ fn cost_of(order: &Order, rate: u32, prices: &[i64]) -> i128
 }
 
 // Appends the line of each order with its rate. Returns what all orders pay together, in grains.
+#[tactic(auto, using(flow_orders::proofs::Limits::orders_fit))]
 fn put_costs(
     orders: &[Order],
     rates: &[u32],

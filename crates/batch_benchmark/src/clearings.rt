@@ -4,7 +4,7 @@ use crate::published::Published;
 use batch_certificate::{Verdict, check_cleared};
 use batch_engine::clear;
 use batch_outcome::Outcome;
-use flow_orders::{Order, Search};
+use flow_orders::{MOST_ORDERS, Order, Search};
 use std::alloc::{AllocError, Global};
 
 const ASSETS: usize = 64;
@@ -31,11 +31,12 @@ fn fills(alloc: Global) -> Result<Vec<(u64, u32)>, AllocError> {
 }
 
 // Returns how often a clearing with these rates is found admissible.
+#[tactic(auto, using(flow_orders::proofs::Limits::orders_are))]
 fn rights(orders: &[Order], fills: &[(u64, u32)], passes: u32) -> u32 {
     let start = [0; ASSETS];
     let assets = [(0, 0); ASSETS];
-    if orders.len() > 16_384
-        || fills.len() > 16_384
+    if orders.len() > MOST_ORDERS as usize
+        || fills.len() > MOST_ORDERS as usize
         || !orders.iter().all(|order| is_priced(order, &start))
     {
         return 0;
@@ -61,9 +62,10 @@ pub fn checks(alloc: Global, orders: &[Order], passes: u32) -> Option<u32> {
 }
 
 /// Returns how often a batch of the book from prices of 0 clears, or `None` if there is no memory for it.
+#[tactic(auto, using(flow_orders::proofs::Limits::orders_are))]
 pub fn clearings(alloc: Global, orders: &[Order], passes: u32) -> Option<u32> {
     let start = [0; ASSETS];
-    if orders.len() > 16_384 || !orders.iter().all(|order| is_priced(order, &start)) {
+    if orders.len() > MOST_ORDERS as usize || !orders.iter().all(|order| is_priced(order, &start)) {
         return None;
     }
     let mut clearings = 0u32;

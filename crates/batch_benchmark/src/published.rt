@@ -1,5 +1,5 @@
 //! A published clearing in memory.
-ghost use Rattle.std.specs.Prelude.{◌≤◌, length};
+ghost use Rattle.std.specs.Prelude.{◌<◌, ◌≤◌, ◌^◌, length};
 
 use batch_outcome::ClearedParts;
 
@@ -8,12 +8,12 @@ use batch_outcome::ClearedParts;
 pub struct Published<'a> {
     /// At most 64.
     pub assets: &'a [(i64, i64)],
-    /// At most 16,384.
+    /// Fewer than 2^32.
     pub fills: &'a [(u64, u32)],
     /// The gap, in grains.
     pub gap: i128,
     ghost few: { length assets.now ≤ 64 },
-    ghost few_fills: { length fills.now ≤ 16384 },
+    ghost few_fills: { length fills.now < 2 ^ 32 },
 }
 
 impl<'a> ClearedParts for Published<'a> {

@@ -4,7 +4,7 @@ ghost use Rattle.weight_rows.specs.Rows.{IsPrice, IsPricedBy};
 ghost use Rattle.flow_orders.specs.Orders.{most_orders};
 
 use crate::book::is_priced;
-use flow_orders::Order;
+use flow_orders::{MOST_ORDERS, Order};
 use rate_rounding::{chosen_rates, floor_rates};
 use std::alloc::Global;
 
@@ -34,12 +34,13 @@ fn prices() -> [i64; 64] {
 }
 
 // Returns whether these are prices of these orders.
+#[tactic(auto, using(flow_orders::proofs::Limits::orders_are))]
 fn are_priced(orders: &[Order], prices: &[i64]) -> bool
     ensures few { IsTrue result → length orders.now ≤ most_orders }
     ensures range { IsTrue result → All IsPrice prices.now }
     ensures priced { IsTrue result → All (λ o. IsPricedBy o.row prices.now) orders.now }
 {
-    orders.len() <= 16_384
+    orders.len() <= MOST_ORDERS as usize
         && prices.iter().all(|price| price.unsigned_abs() <= 1 << 62)
         && orders.iter().all(|order| is_priced(order, prices))
 }

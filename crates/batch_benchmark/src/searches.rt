@@ -2,10 +2,11 @@
 use crate::book::is_priced;
 use coordinate_search::{Found, search};
 use excess_bounds::Workspace;
-use flow_orders::Order;
+use flow_orders::{MOST_ORDERS, Order};
 use std::alloc::{AllocError, Global};
 
 /// Returns what a search from prices of 0 finds: the moves made, whether all assets are settled, and the sum of the prices.
+#[tactic(auto, using(flow_orders::proofs::Limits::orders_are))]
 pub fn found(
     alloc: Global,
     orders: &[Order],
@@ -14,7 +15,7 @@ pub fn found(
 ) -> Result<(usize, bool, i64), AllocError> {
     let zeros = [0; 64];
     let prices: &[i64] = &zeros;
-    if orders.len() > 16_384
+    if orders.len() > MOST_ORDERS as usize
         || moves > 65_536
         || parts == 0
         || parts > 256

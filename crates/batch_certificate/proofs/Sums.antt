@@ -21,6 +21,7 @@ use Rattle.flow_orders.specs.Trades.{Trade, trades, received, residual, residual
 use Rattle.flow_orders.specs.Outcomes.{residuals_of, gap_of}
 use Rattle.flow_orders.specs.Residuals.{most_prices, AreNear, HasEach, AreZeros, IsTradeAdded}
 use Rattle.flow_orders.proofs.TradeFacts.{All-trades}
+use Rattle.flow_orders.proofs.Limits.{orders_fit}
 use Rattle.batch_certificate.specs.Residuals.{cost_at}
 use Rattle.batch_certificate.proofs.Rates.{rate_is_small}
 use Rattle.excess_bounds.specs.Quotes.{Quote, quote_at, quotes_at}
@@ -139,7 +140,7 @@ one_lost prices orders rates i o x sum lost turn before is small few =
     let there : i < length ts = omega (arith, turn.inside, length-trades orders rates turn.count) in
     let here : get_or ts i t ≡ t = trade_at orders rates i o x turn in
     let bound : unsigned_abs (sum +ℤ lost) ≤ (i + 1) * 2 ^ 60 = omega (arith, unsigned_abs-add sum lost, before.small, small) in
-    let kept = sum_kept sum lost (omega (arith, small)) (omega (arith, bound, few, turn.inside)) in
+    let kept = sum_kept sum lost (omega (arith, small)) (omega (arith, bound, few, orders_fit, turn.inside)) in
     record {
       lost_is =
           let more : sum_by (loss_at prices) (take (i + 1) ts) ≡ sum_by (loss_at prices) (take i ts) + loss_at prices t = sum_by_more (loss_at prices) ts i t there ∙ ap (λ u. sum_by (loss_at prices) (take i ts) + loss_at prices u) here in
@@ -192,9 +193,9 @@ pub all_summed : (n : ℕ) (prices : List ℤ) (orders : List Order) (rates : Li
     → AreSummed n prices (trades orders rates) i residuals lost → AllSummed n prices (trades orders rates) residuals lost
 all_summed n prices orders rates i residuals lost few count all before = record {
   residuals_are = all_added n orders rates i residuals count all before.added;
-  near = λ a. omega (arith, before.added.near a, few, all);
+  near = λ a. omega (arith, before.added.near a, few, orders_fit, all);
   lost_is = all_lost prices orders rates i lost count all before.losses;
-  small = omega (arith, before.losses.small, few, all);
+  small = omega (arith, before.losses.small, few, orders_fit, all);
 }
 
 -- an imbalance is small, at whatever rates
@@ -215,7 +216,7 @@ residuals_near n orders rates residuals few count lawful slow are a =
     let length_is : length (residuals_of n ts) ≡ n = length-map-range_with_len (residual ts) 0 n in
     rw are
     (⊎_elim
-    (λ inside. rw (get_or-map-range_with_len (residual ts) 0 n a a (pos 0) inside (omega arith)) (omega (arith, residual_small ts a lawful slow, length-trades orders rates count, few)))
+    (λ inside. rw (get_or-map-range_with_len (residual ts) 0 n a a (pos 0) inside (omega arith)) (omega (arith, residual_small ts a lawful slow, length-trades orders rates count, few, orders_fit)))
     (λ past. rw (get_or_past (residuals_of n ts) a (pos 0) (omega (arith, past, length_is))) (omega arith))
     (cases_lt a n))
 

@@ -118,6 +118,7 @@ pub fn certify_quoted(
 }
 
 // Returns the gap: what all rates lose, less what the imbalances cost.
+#[tactic(auto, using(flow_orders::proofs::Limits::orders_fit))]
 fn measure(
     orders: &[Order],
     quotes: &[Quote],
@@ -150,6 +151,7 @@ fn loss_of(quote: &Quote, rate: u32) -> i128
 }
 
 // Turns `residuals`, all zero on entry, into the imbalances of all trades.
+#[tactic(auto, using(flow_orders::proofs::Limits::orders_fit))]
 fn add_trades(orders: &[Order], rates: &[u32], residuals: &mut [i64])
     requires few { length orders.now ≤ most_orders }
     requires priced { All (λ o. IsPricedBy o.row residuals.old) orders.now }

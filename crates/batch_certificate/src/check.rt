@@ -22,10 +22,10 @@ use crate::trade::try_trade;
 use crate::verdict::Verdict;
 use crate::weights::add_weights;
 use batch_outcome::ClearedParts;
-use flow_orders::Order;
+use flow_orders::{MOST_PRICES, Order};
 
 // How many assets may have a price.
-const PLACES: usize = 64;
+const PLACES: usize = MOST_PRICES as usize;
 
 // The highest price, and minus the lowest, in grains.
 const MOST_PRICE: u64 = 1 << 62;
@@ -76,14 +76,14 @@ pub fn check_cleared<P: ClearedParts>(orders: &[Order], start: &[i64], parts: &P
 
 // Returns a count of 0 for each asset that there may be.
 fn no_counts() -> [u64; PLACES]
-    ensures { HasCounts 64 (λ asset. 0) result }
+    ensures { HasCounts most_prices (λ asset. 0) result }
 {
     [0; PLACES]
 }
 
 // Returns no units of each asset that there may be.
 fn no_units() -> [i64; PLACES]
-    ensures { AreZeros 64 result }
+    ensures { AreZeros most_prices result }
 {
     [0; PLACES]
 }
@@ -99,6 +99,7 @@ fn are_counted<P: ClearedParts>(orders: &[Order], start: &[i64], parts: &P) -> b
 }
 
 // Returns whether the clearing's numbers are those of the orders.
+#[tactic(auto, using(flow_orders::proofs::Limits::orders_fit))]
 fn are_numbered<P: ClearedParts>(orders: &[Order], parts: &P) -> bool
     requires few { length orders.now ≤ most_orders }
     requires one_each { length (P.clearing parts.now).fills ≡ length orders.now }
@@ -225,6 +226,7 @@ fn is_gap<P: ClearedParts>(parts: &P, lost: i128, cost: i128) -> bool
 
 // Turns `residuals`, all zero on entry, into the imbalances of the rates, and returns what the rates lose, in grains, or the
 // first place whose rate is wrong.
+#[tactic(auto, using(flow_orders::proofs::Limits::orders_fit))]
 fn add_rates<P: ClearedParts>(
     orders: &[Order],
     parts: &P,

@@ -9,6 +9,7 @@ use weight_rows::{Entry, WeightRow};
 
 /// Turns `spreads` and `squares`, all zero on entry, into the rounding bound of each asset and the sum of its squared weights
 /// in all orders. It costs one pass over the legs of all orders.
+#[tactic(auto, using(flow_orders::proofs::Limits::orders_fit))]
 pub(crate) fn add_weights(orders: &[Order], spreads: &mut [u64], squares: &mut [u64])
     requires few { length orders.now ≤ most_orders }
     requires places { All (λ o. IsWithinPlaces (length spreads.old) o.row) orders.now }

@@ -27,6 +27,7 @@ use Rattle.flow_orders.specs.Trades.{Trade, residual}
 use Rattle.flow_orders.specs.Outcomes.{Clearing, Skipping, Cleared, Skipped, trades_of, dual_of, step_of, IsUnnamed, IsAdmissibleClearing, IsAdmissibleOutcome}
 use Rattle.flow_orders.proofs.Book.{IsConsistent as IsConsistentOrder}
 use Rattle.flow_orders.proofs.Exactly.{rises_to, falls_to}
+use Rattle.flow_orders.proofs.Limits.{some_orders}
 use Rattle.fill_caps.specs.Settlement.{settled_account}
 use Rattle.order_book.specs.Book.{HasOrder}
 use Rattle.market_rules.specs.Market.{Market, usable_balance}
@@ -87,11 +88,11 @@ place : (m : Market) (r : Request) (first : Option Refusal) → IsAccount m.bala
     → RefusesRow m (placed m None r) first → FirstRefusal m (Place None r) first
 place m r first account limits rate cap row = inr (account, inr (limits, inr (rate, inr (cap, inr (tt, row)))))
 
-row_accepts : (m : Market) (o : Order) → IsWeightVector o.row → All (λ e. IsAsset m.balances e.asset) o.row → length m.orders < 16384 → IsAffordable m o → RefusesRow m o None
-row_accepts m o row assets few affordable = inr (row, inr (assets, inr ((λ full. omega (arith, full, few)), inr (affordable, refl))))
+row_accepts : (m : Market) (o : Order) → IsWeightVector o.row → All (λ e. IsAsset m.balances e.asset) o.row → length m.orders < 4 → IsAffordable m o → RefusesRow m o None
+row_accepts m o row assets few affordable = inr (row, inr (assets, inr ((λ full. omega (arith, full, few, some_orders)), inr (affordable, refl))))
 
-row_is_too_dear : (m : Market) (o : Order) → IsWeightVector o.row → All (λ e. IsAsset m.balances e.asset) o.row → length m.orders < 16384 → (IsAffordable m o → ⊥) → RefusesRow m o (Some NotFree)
-row_is_too_dear m o row assets few dear = inr (row, inr (assets, inr ((λ full. omega (arith, full, few)), inl (dear, refl))))
+row_is_too_dear : (m : Market) (o : Order) → IsWeightVector o.row → All (λ e. IsAsset m.balances e.asset) o.row → length m.orders < 4 → (IsAffordable m o → ⊥) → RefusesRow m o (Some NotFree)
+row_is_too_dear m o row assets few dear = inr (row, inr (assets, inr ((λ full. omega (arith, full, few, some_orders)), inl (dear, refl))))
 
 row_of_one : (asset : ℕ) (weight : ℤ) → IsLawfulWeight weight → IsWeightVector (entry asset weight ∷ [])
 row_of_one asset weight lawful = record {

@@ -14,9 +14,10 @@ use Rattle.wire_records.specs.declared.reply.Refusal.{Refusal}
 use Rattle.wire_records.specs.declared.reply.Refusal.TheVariants.{NoAccount, NoAsset, ZeroAmount, TotalLimit, NotFree, BadLimits, BadRate, BadCap, BadRow, NoOrder, BadBudget, BatchLimit, TickerTaken, AssetLimit, BadTicker, AccountLimit, OrderLimit}
 use Rattle.wire_records.specs.declared.reply.Reply.TheVariants as reply
 use Rattle.flow_accounts.specs.Balances.{Account, Credit, Balances, IsAsset, account_count}
-use Rattle.flow_orders.specs.Orders.{Order, AreLimits, money_need, unit_need}
+use Rattle.flow_orders.specs.Orders.{Order, AreLimits, most_orders, money_need, unit_need}
 use Rattle.flow_orders.specs.Outcomes.{Outcome, Cleared}
 use Rattle.flow_orders.specs.Trades.{trades}
+use Rattle.flow_orders.proofs.Limits.{some_orders}
 use Rattle.canonical_rule.specs.Canonical.{IsCanonicalOutcome}
 use Rattle.canonical_rule.proofs.WorkedRows as batches
 use Rattle.market_rules.specs.Market.{Market, empty_market, start_prices, usable_balance, free_balance, held_balance}
@@ -108,7 +109,7 @@ buyer_is_accepted =
                 inr (
                   first_asset enough.balances (pos 1) (omega arith),
                   inr (
-                    (λ full. omega (arith, full)),
+                    (λ full. omega (arith, full, some_orders)),
                     inr (buyer_affords, refl),
                   ),
                 ),
@@ -136,7 +137,7 @@ buyer_is_refused =
                 inr (
                   first_asset a_tick_less.balances (pos 1) (omega arith),
                   inr (
-                    (λ full. omega (arith, full)),
+                    (λ full. omega (arith, full, some_orders)),
                     inl ((λ affordable. let money = affordable None tt in omega (arith, ints, money)), refl),
                   ),
                 ),
@@ -273,7 +274,7 @@ serves_seller = record {
                   inr (
                     first_asset with_buyer.balances (neg_ℤ (pos 1)) (omega arith),
                     inr (
-                      (λ full. omega (arith, full)),
+                      (λ full. omega (arith, full, some_orders)),
                       inr (seller_affords, refl),
                     ),
                   ),
@@ -412,7 +413,7 @@ seller_alone = record {
                   inr (
                     first_asset a_tick_less.balances (neg_ℤ (pos 1)) (omega arith),
                     inr (
-                      (λ full. omega (arith, full)),
+                      (λ full. omega (arith, full, some_orders)),
                       inr (affords a_tick_less (placed a_tick_less None sells) (omega (arith, ints)) units, refl),
                     ),
                   ),
@@ -600,9 +601,9 @@ asset_65 tickers count absent = inr (aapl_is_valid, inr (absent, inl (omega (ari
 account_65537 : (m : Market) → account_count m.balances ≡ 65536 → FirstRefusal m OpenAccount (Some AccountLimit)
 account_65537 m count = inl (omega (arith, count), refl)
 
--- with 16,384 live orders an order that is otherwise accepted is refused, even if it isn't covered
-order_16385 : (orders : List Order) → length orders ≡ 16384 → FirstRefusal (record a_tick_less { orders = orders }) (Place None buys) (Some OrderLimit)
-order_16385 orders count =
+-- with as many live orders as there may be an order that is otherwise accepted is refused, even if it isn't covered
+one_order_too_many : (orders : List Order) → length orders ≡ most_orders → FirstRefusal (record a_tick_less { orders = orders }) (Place None buys) (Some OrderLimit)
+one_order_too_many orders count =
     inr (
       (omega arith, omega arith),
       inr (

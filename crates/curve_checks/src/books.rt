@@ -7,7 +7,7 @@ ghost use Rattle.flow_orders.specs.Residuals.{most_prices};
 
 use crate::telling::pair_of;
 use check_lines::Told;
-use flow_orders::{Order, order_fault};
+use flow_orders::{MOST_ORDERS, Order, order_fault};
 use std::alloc::Global;
 use weight_rows::{Entry, EntryList, WeightRow, row_fault};
 
@@ -114,8 +114,9 @@ pub(crate) fn are_starts(prices: &[i64]) -> bool
 }
 
 // Returns the book of these orders and prices, or `None` if some order can't be priced.
+#[tactic(auto, using(flow_orders::proofs::Limits::orders_are))]
 pub(crate) fn book_of<'a>(orders: &'a [Order], prices: &'a [i64]) -> Option<Book<'a>> {
-    if orders.len() > 16_384
+    if orders.len() > MOST_ORDERS as usize
         || prices.len() > 64
         || !are_prices(prices)
         || !are_priced(orders, prices)

@@ -1,11 +1,12 @@
 //! Verdicts on published clearings.
-ghost use Rattle.std.specs.Prelude.{◌≤◌, length};
+ghost use Rattle.std.specs.Prelude.{◌<◌, ◌≤◌, ◌^◌, length};
 
 use crate::books::Book;
 use crate::telling::{add_pairs, put, put_word};
 use batch_certificate::{Verdict, check_cleared};
 use batch_outcome::ClearedParts;
 use check_lines::Told;
+use flow_orders::MOST_ORDERS;
 use std::alloc::Global;
 
 // A published clearing in memory: price and imbalance of each asset, number and rate of each order, and the gap.
@@ -15,7 +16,7 @@ struct Published<'a> {
     fills: &'a [(u64, u32)],
     gap: i128,
     ghost few: { length assets.now ≤ 64 },
-    ghost few_fills: { length fills.now ≤ 16384 },
+    ghost few_fills: { length fills.now < 2 ^ 32 },
 }
 
 impl<'a> ClearedParts for Published<'a> {
@@ -80,7 +81,7 @@ fn put_of(
     book: &Book<'_>,
     told: &mut Told,
 ) {
-    if assets.len() > 64 || fills.len() > 16_384 {
+    if assets.len() > 64 || fills.len() > MOST_ORDERS as usize {
         return told.give_up();
     }
     let published = Published { assets, fills, gap };

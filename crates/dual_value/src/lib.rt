@@ -27,6 +27,7 @@ use flow_orders::Order;
 ///
 /// There are at most 16,384 orders, and `prices` has one price for each asset that they name, within 2^62 grains of 0.
 /// The sum without rounding is at least as high, by at most one grain for each order.
+#[tactic(auto, using(flow_orders::proofs::Limits::orders_fit))]
 pub fn dual_floor(orders: &[Order], prices: &[i64]) -> i128
     requires few { length orders.now ≤ most_orders }
     requires range { All IsPrice prices.now }

@@ -1,6 +1,7 @@
 -- The tickers of a market after it served a command are those that the command leaves.
 use Rattle.std.proofs.Common.{◌≡◌, ℕ, List, length, Option, Some, None, Result, inl, inr, refl, sym, ap, subst, ◌∙◌, arith}
 use Rattle.ticker_table.specs.Adding.{IsAddable}
+use Rattle.ticker_table.specs.Tickers.{ticker_limit}
 use Rattle.wire_records.specs.Records.{Record}
 use Rattle.wire_records.specs.Commands.{Command, AddAsset, RunBatch, Answer}
 use Rattle.wire_records.specs.CommandRecords.{Encodes}
@@ -29,7 +30,7 @@ addable m ticker none =
     let valid = past_unless none in
     let absent = past_when valid.1 in
     let place = past_when absent.1 in
-    record { valid = valid.0; absent = absent.0; place = not_least 64 (length m.tickers) place.0 }
+    record { valid = valid.0; absent = absent.0; place = not_least ticker_limit (length m.tickers) place.0 }
 
 -- a batch leaves the tickers
 batch_tickers : (m : Market) (outcome : Outcome) → (after_batch m outcome).tickers ≡ m.tickers

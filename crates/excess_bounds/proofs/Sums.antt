@@ -8,6 +8,7 @@ use Rattle.list_sums.specs.Sums.{int_sum_by}
 use Rattle.list_sums.proofs.Products.{unsigned_abs-add}
 use Rattle.list_sums.proofs.SumLemmas.{int_sum_by_more}
 use Rattle.flow_orders.specs.Orders.{most_orders}
+use Rattle.flow_orders.proofs.Limits.{orders_fit}
 
 module _ {X : Type 0} where
   -- the sum of the first i parts, each of which is at most `most`
@@ -25,7 +26,7 @@ module _ {X : Type 0} where
       → IsSumBefore most f xs (i + 1) (to_z w64 (of_z w64 (total +ℤ to_z w64 (of_z w64 part))))
   one_more_summed most f xs i total part d little few within before is small =
       let bound : unsigned_abs (total +ℤ part) ≤ (i + 1) * most = omega (arith, unsigned_abs-add total part, small, before.bound) in
-      let far : (i + 1) * most ≤ 16384 * 2 ^ 44 = mul-le (i + 1) most 16384 (2 ^ 44) (omega (arith, few, within)) little in
+      let far : (i + 1) * most ≤ 2 ^ 14 * 2 ^ 44 = mul-le (i + 1) most (2 ^ 14) (2 ^ 44) (omega (arith, few, within, orders_fit)) little in
       let fits : FitsSigned w64 (total +ℤ part) = fits_signed_from_abs w64 _ (omega (arith, bound, far)) in
       let value : total +ℤ part ≡ int_sum_by f (take (i + 1) xs) = rw (is, before.value) (sym (int_sum_by_more f xs i d within)) in
       let same : to_z w64 (of_z w64 part) ≡ part = to_z-of_z w64 part (fits_signed_from_abs w64 _ (omega (arith, small, little))) in

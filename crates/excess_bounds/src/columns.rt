@@ -109,6 +109,7 @@ impl Column {
 }
 
 // Returns the column of each asset. It costs one pass over the legs of all orders, and may run out of memory.
+#[tactic(auto, using(flow_orders::proofs::Limits::orders_fit))]
 pub(crate) fn columns_of(
     alloc: Global,
     orders: &[Order],
@@ -137,6 +138,7 @@ fn no_cells(alloc: Global, count: usize) -> Result<Vec<Column>, AllocError>
 }
 
 // Appends an order at a place to the column of each asset that it names.
+#[tactic(auto, using(flow_orders::proofs::Limits::orders_fit))]
 fn list(columns: &mut [Column], order: &Order, place: u32) -> Result<(), AllocError>
     requires place { place < most_orders }
     requires there { All (λ e. e.asset < length columns.old) order.now.row }

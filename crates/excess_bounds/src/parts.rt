@@ -21,6 +21,7 @@ pub struct Excess {
 }
 
 // Returns the excess of a column's asset, in units.
+#[tactic(auto, using(flow_orders::proofs::Limits::orders_fit))]
 pub(crate) fn excess_of(quotes: &[Quote], cells: &[Cell]) -> Excess
     requires column { IsColumn cells.now }
     requires there { All (λ c. c.place < length quotes.now) cells.now }
@@ -40,6 +41,7 @@ pub(crate) fn excess_of(quotes: &[Quote], cells: &[Cell]) -> Excess
 }
 
 // Returns the excess of a column's asset in parts of a unit, after its price has moved by an amount.
+#[tactic(auto, using(flow_orders::proofs::Limits::orders_fit))]
 pub(crate) fn excess_after(parts: u16, quotes: &[Quote], cells: &[Cell], amount: i128) -> Excess
     requires some { 1 ≤ parts }
     requires few { parts ≤ 256 }

@@ -5,6 +5,7 @@ use Rattle.wire_records.specs.Commands.{RunBatch, Plain}
 use Rattle.wire_records.specs.Versions.{IsReadAs}
 use Rattle.flow_orders.specs.Orders.{Order}
 use Rattle.flow_orders.specs.Outcomes.{most_budget, Outcome as batch_value}
+use Rattle.flow_orders.specs.Residuals.{most_prices}
 use Rattle.batch_outcome.specs.declared.outcome.Outcome.{Outcome}
 use Rattle.batch_outcome.specs.declared.outcome.Outcome.TheVariants as parts
 use Rattle.canonical_rule.specs.Canonical.{IsCanonicalOutcome}
@@ -33,5 +34,5 @@ pub record IsBatchHeld (old : Market) (budget : ℕ) (outcome : batch_value) (ne
 -- an outcome of a batch of these orders that can be written: a clearing with one rate for each order and one imbalance
 -- for each of at most 64 prices, or a skip of at most as many moves as a budget may have
 abbrev pub IsWritable : List Order → Outcome → Type 0
-IsWritable orders (parts.Cleared c) = (length c.rates ≡ length orders) × (length c.residuals ≡ length c.prices) × (length c.prices ≤ 64)
+IsWritable orders (parts.Cleared c) = (length c.rates ≡ length orders) × (length c.residuals ≡ length c.prices) × (length c.prices ≤ most_prices)
 IsWritable orders (parts.Skipped s) = length s.trace ≤ most_budget

@@ -16,12 +16,13 @@ use Rattle.weight_rows.proofs.RowLawProofs.{weights_are_small}
 use Rattle.flow_accounts.specs.Balances.{Account, Balances, IsAccount, IsAsset, account_count, money_of, units_of, money_credit_of, unit_credit_of, units_in}
 use Rattle.flow_accounts.specs.Lawful.{most_credit, IsMoneyBalance, IsUnitBalance}
 use Rattle.flow_accounts.specs.Sums.{money_of_all, units_of_all}
-use Rattle.flow_orders.specs.Orders.{Order, own_sum, money_need, unit_need}
+use Rattle.flow_orders.specs.Orders.{Order, most_orders, own_sum, money_need, unit_need}
 use Rattle.flow_orders.specs.Trades.{Trade, trades, paid, received, trader, residual, residual_cost}
 use Rattle.fill_caps.specs.Settles.{Settles}
 use Rattle.fill_caps.specs.Covers.{CoversNeeds}
 use Rattle.flow_orders.proofs.Duality.{costs_by_asset}
 use Rattle.flow_orders.proofs.OwnSums.{own_sum-append}
+use Rattle.flow_orders.proofs.Limits.{orders_fit}
 use Rattle.fill_caps.proofs.Needs.{own_not_negative}
 use Rattle.fill_caps.proofs.Totals.{money_by_account, units_by_account}
 
@@ -116,14 +117,14 @@ settles_more prices ts us old now new exchange_old exchange_now exchange_new fir
       omega (arith, ints, first.exchange_units asset is_asset, second.exchange_units asset asset_now, residual-append ts us asset);
 }
 
-module _ (prices : List ℤ) (ts : List Trade) (few : length ts ≤ 16384) (lawful : All (λ t. IsWeightVector t.order.row) ts) (slow : All (λ t. t.traded ≤ 2 ^ 24) ts) where
+module _ (prices : List ℤ) (ts : List Trade) (few : length ts ≤ most_orders) (lawful : All (λ t. IsWeightVector t.order.row) ts) (slow : All (λ t. t.traded ≤ 2 ^ 24) ts) where
   -- any part of a batch moves at most 2^116 grains in all
   pub part_money_is_small : All IsPrice prices → unsigned_abs (int_sum_by (paid prices) ts) ≤ 2 ^ 116
   part_money_is_small bounded =
       let each : All (λ t. unsigned_abs (paid prices t) ≤ 2 ^ 24 * 2 ^ 78) ts = λ k d inside.
       unsigned_abs-mul_le (pos (slice_index_or ts k d).traded) (portfolio_price (slice_index_or ts k d).order.row prices) (2 ^ 24) (2 ^ 78) (slow k d inside) (price_is_bounded (slice_index_or ts k d).order.row prices (lawful k d inside) bounded) in
       let all = unsigned_abs-int_sum_by (paid prices) (2 ^ 24 * 2 ^ 78) ts each in
-      omega (arith, all, few)
+      omega (arith, all, few, orders_fit)
 
   -- any part of a batch moves at most 2^50 units of an asset
   pub part_units_are_small : (asset : ℕ) → unsigned_abs (residual ts asset) ≤ 2 ^ 50
@@ -131,7 +132,7 @@ module _ (prices : List ℤ) (ts : List Trade) (few : length ts ≤ 16384) (lawf
       let each : All (λ t. unsigned_abs (received asset t) ≤ 4096 * 2 ^ 24) ts = λ k d inside.
       unsigned_abs-mul_le (weight_in (slice_index_or ts k d).order.row asset) (pos (slice_index_or ts k d).traded) 4096 (2 ^ 24) (weights_are_small (slice_index_or ts k d).order.row asset (lawful k d inside)) (slow k d inside) in
       let all = unsigned_abs-int_sum_by (received asset) (4096 * 2 ^ 24) ts each in
-      omega (arith, all, few)
+      omega (arith, all, few, orders_fit)
 
 -- terms that aren't below minus c
 module _ (g : ℕ → ℤ) (c : ℕ) where

@@ -12,7 +12,7 @@ use Rattle.flow_accounts.specs.Balances.{Account, Balances, IsAccount, IsAsset, 
 use Rattle.flow_accounts.specs.Lawful.{AreLawful}
 use Rattle.flow_accounts.specs.Sums.{money_of_all, units_of_all}
 use Rattle.flow_accounts.proofs.Balance.{unit_total, money_balance, unit_balance}
-use Rattle.flow_orders.specs.Orders.{Order, IsOrder, terms_of, money_need, unit_need, own_sum}
+use Rattle.flow_orders.specs.Orders.{Order, IsOrder, most_orders, terms_of, money_need, unit_need, own_sum}
 use Rattle.flow_orders.specs.Excess.{price_for}
 use Rattle.flow_orders.specs.Trades.{Trade, trades, trader, staying}
 use Rattle.flow_orders.proofs.OwnSums.{own_sum-append}
@@ -29,7 +29,7 @@ use Rattle.fill_caps.proofs.Totals.{money_kept, units_kept}
 
 -- what a batch must satisfy before it is settled
 pub record IsReady (prices : List ℤ) (orders : List Order) (rates : List ℕ) (b : Balances) (exchange : Account) : Type 0 where
-  pub few : length orders ≤ 16384
+  pub few : length orders ≤ most_orders
   pub one_rate_each : length rates ≡ length orders
   pub roundings : All (λ t. IsRounding (terms_of t.order) t.traded (price_for prices t.order)) (trades orders rates)
   pub one_price_each : length prices ≡ asset_count b
@@ -121,7 +121,7 @@ module _ (prices : List ℤ) (orders : List Order) (rates : List ℕ) (old : Bal
         let room = rounding_is_within_room (terms_of t.order) is.terms (price_for prices t.order) t.traded (part_roundings k d inside) in
         omega (arith, room, is.terms.room_most, is.terms.rate_most)
 
-    part_few : length part ≤ 16384
+    part_few : length part ≤ most_orders
     part_few = omega (arith, length-take i ts, count, ready.few)
 
     part_there : All (λ t. IsAccount old (trader t)) part

@@ -1,7 +1,7 @@
 //! `flow sample NUMBER ORDERS`: makes a sample of a large market, and writes a line on it.
 ghost use Rattle.std.specs.Prelude.{◌≡◌, ◌≢◌, ◌≤◌, ℕ, List, Option};
 ghost use Rattle.flow_io.specs.Changes.{change};
-ghost use Rattle.flow_orders.specs.Orders.{most_orders};
+ghost use Rattle.sample_summary.specs.Summary.{most_sampled};
 ghost use Rattle.flow_exchange.specs.Private.{FormServes};
 ghost use Rattle.flow_exchange.specs.declared.form.Form.TheVariants.{Sample};
 
@@ -14,7 +14,7 @@ use std::alloc::Global;
 /// nothing. Holds the file, the markets of session and audit, and one entry.
 pub(crate) fn sample<K: Sink>(alloc: Global, number: u64, orders: u32, out: &mut K) -> Status
     requires some { 1 ≤ orders }
-    requires few { orders ≤ most_orders }
+    requires few { orders ≤ most_sampled }
     ensures asked { result ≢ Status.Usage }
     // Whatever a source has left, and whatever its count of faults is, both are unchanged.
     ensures does { (limit : ℕ) (rest : Option (List ℕ)) (faults : ℕ) → FormServes (Sample number orders) limit result

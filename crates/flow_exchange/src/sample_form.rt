@@ -1,6 +1,6 @@
 //! The arguments `sample NUMBER ORDERS`.
 ghost use Rattle.std.specs.Prelude.{◌≡◌, ◌≢◌, ◌<◌, ◌≤◌, ◌^◌, ◌↔◌, ◌∷◌, [], ℕ, IsTrue, IfSome, IfNone, decimal, map, string_bytes};
-ghost use Rattle.flow_orders.specs.Orders.{most_orders};
+ghost use Rattle.sample_summary.specs.Summary.{most_sampled};
 ghost use Rattle.flow_exchange.specs.Sampling.{AskSample};
 ghost use Rattle.flow_exchange.specs.Private.{AreThree};
 
@@ -31,8 +31,8 @@ pub(crate) fn number_of(word: &str) -> Option<u64>
 
 // Returns how many orders an argument asks for, if they are 1 to 16,384.
 fn orders_of(word: &str) -> Option<u32>
-    ensures orders { IfSome result (λ orders. (word.now ≡ decimal orders) × (1 ≤ orders) × (orders ≤ most_orders)) }
-    ensures none { IfNone result ((orders : ℕ) → 1 ≤ orders → orders ≤ most_orders → word.now ≢ decimal orders) }
+    ensures orders { IfSome result (λ orders. (word.now ≡ decimal orders) × (1 ≤ orders) × (orders ≤ most_sampled)) }
+    ensures none { IfNone result ((orders : ℕ) → 1 ≤ orders → orders ≤ most_sampled → word.now ≢ decimal orders) }
 {
     match number_of(word) {
         Some(orders) if 1 <= orders && orders <= MOST_ORDERS => Some(orders as u32),

@@ -16,6 +16,7 @@ pub mod Optimal
 pub mod OwnSums
 pub mod Progress
 pub mod GapBound
+pub mod Limits
 pub mod Ranges
 pub mod Residuals
 pub mod SettleSingle

@@ -7,7 +7,8 @@ use Rattle.std.proofs.Math.Nat.{mul-le-mul}
 use Rattle.std.proofs.lemmas.Bool.{cases_lt}
 use Rattle.std.proofs.lemmas.List.{get_or_past, length-map}
 use Rattle.std.proofs.lemmas.List.Elements.{All-map}
-use Rattle.flow_orders.specs.Orders.{Order}
+use Rattle.flow_orders.specs.Orders.{Order, most_orders}
+use Rattle.flow_orders.proofs.Limits.{orders_fit}
 use Rattle.flow_orders.proofs.TradeFacts.{before_fills}
 use Rattle.std.proofs.lemmas.List.FromFn.{length-range_with_len, get_or-range_with_len}
 use Rattle.std.proofs.lemmas.List.Sums.{sum_by-le}
@@ -17,16 +18,17 @@ use Rattle.list_sums.proofs.Products.{unsigned_abs-mul_le}
 use Rattle.list_sums.proofs.SumLemmas.{unsigned_abs-int_sum_by}
 use Rattle.flow_orders.specs.Trades.{Trade, residual, residual_cost}
 use Rattle.flow_orders.specs.Excess.{spread, steepness, residual_bound}
+use Rattle.flow_orders.specs.Residuals.{most_prices}
 
 div_ceil_at_most : (s m : ℕ) → s ≤ 256 * m → div_ceil s 256 ≤ m
 div_ceil_at_most s m small = omega (arith, small)
 
-module _ (xs : List Order) (few : length xs ≤ 16384) (lawful : All (λ (x : Order). IsWeightVector x.row) xs) (asset : ℕ) where
-  -- the rounding bound of an asset in a book of at most 16,384 orders is at most 2^26 units
+module _ (xs : List Order) (few : length xs ≤ most_orders) (lawful : All (λ (x : Order). IsWeightVector x.row) xs) (asset : ℕ) where
+  -- the rounding bound of an asset in a book of at most as many orders as may be live is at most 2^26 units
   pub spread_is_small : spread xs asset ≤ 2 ^ 26
   spread_is_small =
       let each = sum_by-le (λ (x : Order). unsigned_abs (weight_in x.row asset)) 4096 xs (λ k d inside. weights_are_small (slice_index_or xs k d).row asset (lawful k d inside)) in
-      omega (arith, each, few)
+      omega (arith, each, few, orders_fit)
 
   -- the slope bound of an asset in such a book is at most 2^30 units
   pub steepness_is_small : steepness xs asset ≤ 2 ^ 30
@@ -34,7 +36,7 @@ module _ (xs : List Order) (few : length xs ≤ 16384) (lawful : All (λ (x : Or
   steepness_is_small =
       let each = sum_by-le (λ (x : Order). unsigned_abs (weight_in x.row asset) * unsigned_abs (weight_in x.row asset)) (4096 * 4096) xs
       (λ k d inside. let small = weights_are_small (slice_index_or xs k d).row asset (lawful k d inside) in mul-le-mul small small) in
-      div_ceil_at_most _ (2 ^ 30) (omega (arith, each, few))
+      div_ceil_at_most _ (2 ^ 30) (omega (arith, each, few, orders_fit))
 
   -- the tolerance of an asset in such a book is at most 2^26 + 2^30 units
   pub bound_is_small : residual_bound xs asset ≤ 2 ^ 26 + 2 ^ 30
@@ -48,19 +50,19 @@ price_is_bounded prices all asset =
     (λ past. rw (get_or_past prices asset (pos 0) past) (omega arith))
     (cases_lt asset (length prices))
 
-few_before : (ts : List Trade) → length ts ≤ 16384 → length (before_fills ts) ≤ 16384
+few_before : (ts : List Trade) → length ts ≤ most_orders → length (before_fills ts) ≤ most_orders
 few_before ts few = omega (arith, few, length-map ts (λ (t : Trade). t.order))
 
 lawful_before : (ts : List Trade) → All (λ (t : Trade). IsWeightVector t.order.row) ts → All (λ (o : Order). IsWeightVector o.row) (before_fills ts)
 lawful_before ts lawful = All-map (λ (o : Order). IsWeightVector o.row) (λ (t : Trade). t.order) ts lawful
 
-module _ (prices : List ℤ) (ts : List Trade) (few : length ts ≤ 16384) (lawful : All (λ t. IsWeightVector t.order.row) ts) where
+module _ (prices : List ℤ) (ts : List Trade) (few : length ts ≤ most_orders) (lawful : All (λ t. IsWeightVector t.order.row) ts) where
   -- an imbalance within its tolerance moves the exchange's units by less than 2^31
   pub exchange_units_move : (asset : ℕ) → unsigned_abs (residual ts asset) ≤ residual_bound (before_fills ts) asset → unsigned_abs (residual ts asset) < 2 ^ 31
   exchange_units_move asset within = omega (arith, within, bound_is_small (before_fills ts) (few_before ts few) (lawful_before ts lawful) asset)
 
   -- imbalances within their tolerances move the exchange's money by less than 2^99 grains
-  pub exchange_money_moves : length prices ≤ 64 → All IsPrice prices → ((asset : ℕ) → asset < length prices → unsigned_abs (residual ts asset) ≤ residual_bound (before_fills ts) asset) → unsigned_abs (residual_cost prices ts) < 2 ^ 99
+  pub exchange_money_moves : length prices ≤ most_prices → All IsPrice prices → ((asset : ℕ) → asset < length prices → unsigned_abs (residual ts asset) ≤ residual_bound (before_fills ts) asset) → unsigned_abs (residual_cost prices ts) < 2 ^ 99
   exchange_money_moves assets bounded within =
       let count = length-range_with_len 0 (length prices) in
       let each : All (λ asset. unsigned_abs (price_of prices asset *ℤ residual ts asset) ≤ 2 ^ 62 * (2 ^ 26 + 2 ^ 30)) (range_with_len 0 (length prices)) = λ k d inside.

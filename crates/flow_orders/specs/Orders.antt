@@ -31,8 +31,8 @@ most_cap = 2 ^ 40
 abbrev pub AreLimits : ℤ → ℤ → Type 0
 AreLimits low high = IsWithin most_ticks low × IsWithin most_ticks high × (low <ℤ high)
 
--- how many orders may be live at once
-abbrev pub most_orders : ℕ
+-- how many orders may be live at once; proofs cite its bounds, and never its value
+unfoldable pub most_orders : ℕ
 most_orders = 16384
 
 -- a number from 1 to `most`

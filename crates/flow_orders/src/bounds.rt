@@ -11,6 +11,7 @@ use crate::order::Order;
 ///
 /// If the asset is settled, rounding all demands leaves an imbalance of at most the rounding bound and the slope bound
 /// ([`steepness`]) together. It costs one pass over the legs of all orders.
+#[tactic(auto, using(crate::proofs::Limits::orders_fit))]
 pub fn spread(orders: &[Order], asset: u16) -> i64
     requires { length orders.now ≤ most_orders }
     ensures value { result ≡ pos (spread orders.now asset) }
@@ -28,7 +29,7 @@ pub fn spread(orders: &[Order], asset: u16) -> i64
 ///
 /// One grain of the asset's price moves its true excess, of demands that aren't rounded, by no more than that. It costs
 /// one pass over the legs of all orders.
-#[tactic(auto, unfolding(crate::specs::Excess::steepness))]
+#[tactic(auto, using(crate::proofs::Limits::orders_fit), unfolding(crate::specs::Excess::steepness))]
 pub fn steepness(orders: &[Order], asset: u16) -> i64
     requires { length orders.now ≤ most_orders }
     ensures value { result ≡ pos (steepness orders.now asset) }
@@ -38,6 +39,7 @@ pub fn steepness(orders: &[Order], asset: u16) -> i64
 }
 
 // Returns the sum of the squares of an asset's weights in all orders.
+#[tactic(auto, using(crate::proofs::Limits::orders_fit))]
 fn square_sum(orders: &[Order], asset: u16) -> u64
     requires { length orders.now ≤ most_orders }
     ensures value { result ≡ sum_by

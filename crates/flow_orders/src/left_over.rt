@@ -6,6 +6,9 @@ ghost use Rattle.flow_orders.specs.Residuals.{residual_in, AreNear, IsTradeAdded
 
 use weight_rows::{Entry, WeightRow};
 
+/// The most assets that may have a price.
+pub const MOST_PRICES: u16 = 64;
+
 /// Adds an order's trade to the imbalances: to that of each of its assets the weight times the rate, in units, which is
 /// negative if the order gives the asset away.
 ///

@@ -25,7 +25,7 @@ mod search;
 
 pub use bounds::{spread, steepness};
 pub use fault::{MOST_RATE, MOST_TICKS, OrderFault, order_fault};
-pub use left_over::add_residuals;
+pub use left_over::{MOST_PRICES, add_residuals};
 pub use needs::{money_need, unit_need};
-pub use order::{GRAINS_PER_TICK, Order};
+pub use order::{GRAINS_PER_TICK, MOST_ORDERS, Order};
 pub use search::Search;

@@ -12,6 +12,9 @@ use weight_rows::WeightRow;
 /// One tick in grains.
 pub const GRAINS_PER_TICK: i64 = 1 << 32;
 
+/// The most orders of a market that are live at once.
+pub const MOST_ORDERS: u32 = 16_384;
+
 /// An order that isn't filled to its cap: its number and account, its limit prices, its rate, its cap, how much of the
 /// cap is filled, its weight vector, and the number of the last batch in which it trades, which is 0 if it has none.
 ///

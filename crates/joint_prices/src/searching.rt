@@ -2,6 +2,7 @@
 ghost use Rattle.std.specs.Prelude.{◌≡◌, ℕ, ◌*◌, ◌/◌, ◌^◌, ◌<◌, ◌≤◌, length, map, All, IfOk, List, ℤ, Bool};
 ghost use Rattle.weight_rows.specs.Rows.{IsPrice, IsPricedBy};
 ghost use Rattle.flow_orders.specs.Orders.{Order, IsOrder, most_orders, terms_of};
+ghost use Rattle.flow_orders.specs.Residuals.{most_prices};
 ghost use Rattle.joint_prices.specs.OrderStates.{IsShare, IsNear, line as line_in};
 ghost use Rattle.joint_prices.specs.Steps.{order_states, moves, priced, shared, joint_prices};
 
@@ -85,7 +86,7 @@ pub fn joint_prices<T: Settles>(
     test: &mut T,
 ) -> Result<Vec<i64>, Memory>
     requires few { length orders.now ≤ most_orders }
-    requires assets { length start.now ≤ 64 }
+    requires assets { length start.now ≤ most_prices }
     requires range { All IsPrice start.now }
     requires priced { All (λ o. IsPricedBy o.row start.now) orders.now }
     requires count { length start.now ≡ T.assets test.old }

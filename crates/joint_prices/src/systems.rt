@@ -3,6 +3,7 @@ ghost use Rattle.std.specs.Prelude.{◌≡◌, ℕ, ◌+◌, ◌*◌, ◌^◌, �
 ghost use Rattle.std.specs.List.{range_with_len};
 ghost use Rattle.weight_rows.specs.Rows.{IsPrice, IsPricedBy, price_of};
 ghost use Rattle.flow_orders.specs.Orders.{IsOrder, most_orders};
+ghost use Rattle.flow_orders.specs.Residuals.{most_prices};
 ghost use Rattle.joint_prices.specs.OrderStates.{slope, aim};
 ghost use Rattle.joint_prices.specs.Steps.{diagonal, regularization, moves};
 ghost use Rattle.joint_prices.specs.Solving.{IsTriangle};
@@ -40,7 +41,7 @@ impl Model for System {
 impl System {
     // The memory for so many assets, which is all that steps need.
     pub(crate) fn new(alloc: Global, count: usize) -> Result<System, AllocError>
-        requires { count ≤ 64 }
+        requires { count ≤ most_prices }
         ensures { IfOk result (λ s. length s ≡ count) }
     {
         let grid = grid_of(alloc, count)?;
@@ -140,7 +141,7 @@ fn grid_of(alloc: Global, count: usize) -> Result<Vec<Sums>, AllocError>
 
 // An upper triangle of zeros for so many assets, with its right sides.
 fn rows_of(alloc: Global, count: usize) -> Result<Vec<Row>, AllocError>
-    requires { count ≤ 64 }
+    requires { count ≤ most_prices }
     ensures { IfOk result (λ rows. IsTriangle rows.items × (length rows.items ≡ count)) }
 {
     let mut rows = Vec::with_capacity(alloc, count)?;
@@ -232,6 +233,7 @@ fn regularization(start: i64, price: i64) -> i128
 }
 
 // Adds what each order contributes to the matrix and to the right side.
+#[tactic(auto, using(flow_orders::proofs::Limits::orders_fit))]
 fn gather(orders: &[Order], order_states: &[OrderState], grid: &mut [Sums], right: &mut [i128])
     requires count { length order_states.now ≡ length orders.now }
     requires few { length orders.now ≤ most_orders }

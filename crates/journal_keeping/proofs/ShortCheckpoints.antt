@@ -13,7 +13,9 @@ use Rattle.wire_records.specs.CommandRecords.{entry_fields}
 use Rattle.wire_records.specs.Fields.{Field, Unsigned, Signed, Bytes, field_bytes}
 use Rattle.wire_records.specs.Versions.{number_of}
 use Rattle.flow_accounts.specs.Balances.{Account, Credit, account_count}
+use Rattle.flow_accounts.specs.Lawful.{most_assets}
 use Rattle.flow_orders.specs.Orders.{Order}
+use Rattle.flow_orders.proofs.Limits.{orders_fit}
 use Rattle.market_rules.specs.Market.{Market, IsConsistent}
 use Rattle.market_history.specs.Histories.{Empty, Kept}
 use Rattle.market_snapshot.specs.Checkpoints.{checkpoint_magic, ticks_of, account_fields, order_fields, checkpoint_bytes}
@@ -57,7 +59,7 @@ entry_size e = omega (arith, more_unsigned 2 e.asset (Signed 4 e.weight ∷ []),
 unit_size : (u : ℤ × ℕ) → size (Signed 8 u.0 ∷ Unsigned 8 u.1 ∷ []) ≤ 16
 unit_size u = omega (arith, more_signed 8 u.0 (Unsigned 8 u.1 ∷ []), more_unsigned 8 u.1 [])
 
-account_size : (a : Account × Credit) → length a.0.units ≤ 64 → size (account_fields a) ≤ 1048
+account_size : (a : Account × Credit) → length a.0.units ≤ most_assets → size (account_fields a) ≤ 1048
 account_size a few =
     let units = zip a.0.units a.1.units in
     let fields : List Field = flat_map (λ (u : ℤ × ℕ). Signed 8 u.0 ∷ Unsigned 8 u.1 ∷ []) units in
@@ -70,15 +72,15 @@ account_size a few =
       length-zip a.0.units a.1.units,
     )
 
-accounts_size : (accounts : List Account) (credits : List Credit) → All (λ (a : Account). length a.units ≤ 64) accounts → size (flat_map account_fields (zip accounts credits)) ≤ 1048 * length accounts
+accounts_size : (accounts : List Account) (credits : List Credit) → All (λ (a : Account). length a.units ≤ most_assets) accounts → size (flat_map account_fields (zip accounts credits)) ≤ 1048 * length accounts
 accounts_size [] credits each = omega arith
 accounts_size (a ∷ accounts) [] each = omega arith
 accounts_size (a ∷ accounts) (c ∷ credits) each =
     omega (
       arith,
       both (account_fields (a, c)) (flat_map account_fields (zip accounts credits)),
-      account_size (a, c) (All-head (λ (b : Account). length b.units ≤ 64) a accounts each),
-      accounts_size accounts credits (All-tail (λ (b : Account). length b.units ≤ 64) a accounts each),
+      account_size (a, c) (All-head (λ (b : Account). length b.units ≤ most_assets) a accounts each),
+      accounts_size accounts credits (All-tail (λ (b : Account). length b.units ≤ most_assets) a accounts each),
     )
 
 order_size : (o : Order) → length o.row ≤ 16 → size (order_fields o) ≤ 149
@@ -125,6 +127,7 @@ checkpoint_short m is =
       arith,
       is.few_accounts,
       is.few_orders,
+      orders_fit,
       is.tickers.few,
       is.one_each.tickers,
       is.one_each.prices,

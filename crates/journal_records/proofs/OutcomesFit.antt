@@ -22,9 +22,11 @@ use Rattle.flow_orders.specs.Walks.{IsLegal}
 use Rattle.flow_orders.specs.Trades.{Trade, trades, residual, residual_cost}
 use Rattle.flow_orders.specs.Outcomes.{Fill, Clearing, Skipping, Cleared, Skipped, trades_of, dual_of, end_of, IsAdmissibleClearing, IsAdmissibleSkip, most_budget}
 use Rattle.flow_orders.specs.Duals.{movement_of}
+use Rattle.flow_orders.specs.Residuals.{most_prices}
 use Rattle.flow_orders.proofs.Book.{IsConsistent}
 use Rattle.flow_orders.proofs.Ranges.{sum_by-most, spread-most, steepness-most}
 use Rattle.flow_orders.proofs.WalkLaws.{admissible_skips_lower_the_dual}
+use Rattle.flow_orders.proofs.Limits.{orders_fit}
 use Rattle.journal_records.specs.Bodies.{IsFill, IsClearing, IsSkipping}
 use Rattle.journal_records.proofs.FieldForms.{clearing_fits, skipping_fits}
 use Rattle.journal_records.specs.Laws.{AdmissibleOutcomesFit}
@@ -40,7 +42,7 @@ module _ (orders : List Order) (each : All IsOrder orders) (few : length orders 
 
   -- an imbalance within its bound is within 2^31
   bound_most : (asset : ℕ) → residual_bound orders asset ≤ 2 ^ 31
-  bound_most asset = omega (arith, spread-most orders asset consistent, steepness-most orders asset consistent, few)
+  bound_most asset = omega (arith, spread-most orders asset consistent, steepness-most orders asset consistent, few, orders_fit)
 
 -- each rate is within the batch maximum of its order, and so within its width
 fills_fit : (prices : List ℤ) (orders : List Order) (fills : List Fill) → All IsOrder orders → All (λ (o : Order). o.number < 2 ^ 64) orders
@@ -80,7 +82,7 @@ gap_fits : (gap : ℤ) (lost : ℕ) (cost : ℤ) → gap ≡ pos lost -ℤ cost 
 gap_fits gap lost (pos n) is most small = rw is (omega (arith, ints, most, small), omega (arith, ints, most, small))
 gap_fits gap lost (negsuc n) is most small = rw is (omega (arith, ints, most, small), omega (arith, ints, most, small))
 
-module _ (orders : List Order) (start : List ℤ) (each : All IsOrder orders) (few : length orders ≤ most_orders) (numbered : All (λ (o : Order). o.number < 2 ^ 64) orders) (assets : length start ≤ 64) where
+module _ (orders : List Order) (start : List ℤ) (each : All IsOrder orders) (few : length orders ≤ most_orders) (numbered : All (λ (o : Order). o.number < 2 ^ 64) orders) (assets : length start ≤ most_prices) where
   residual_most : (c : Clearing) → IsAdmissibleClearing orders start c → (asset : ℕ) → asset < length start → unsigned_abs (residual (trades_of orders c.fills) asset) ≤ 2 ^ 31
   residual_most c right asset inside = omega (arith, right.bounded asset inside, bound_most orders each few asset)
 
@@ -107,7 +109,7 @@ module _ (orders : List Order) (start : List ℤ) (each : All IsOrder orders) (f
       record {
         count = omega (arith, right.one_price_each, assets);
         prices = λ k d inside. fits_in_8 (slice_index_or c.prices k d) (right.small k d inside);
-        fill_count = omega (arith, fills, few);
+        fill_count = omega (arith, fills, few, orders_fit);
         fills = fills_fit c.prices orders c.fills each numbered right.numbers right.roundings;
         residual_each = residuals ∙ sym right.one_price_each;
         residuals = λ k d inside.
@@ -116,12 +118,12 @@ module _ (orders : List Order) (start : List ℤ) (each : All IsOrder orders) (f
             in
             fits_in_8 (slice_index_or c.residuals k d) (rw at (omega (arith, residual_most c right k (omega (arith, inside, residuals)))));
         gap = gap_fits c.gap (sum_by lost ts) (residual_cost c.prices ts) right.gap_is
-            (omega (arith, sum_by-most lost (2 ^ 60) ts (losses_most c.prices orders (map (λ (f : Fill). f.rate) c.fills) each right.roundings), trades_few orders (map (λ (f : Fill). f.rate) c.fills), few))
+            (omega (arith, sum_by-most lost (2 ^ 60) ts (losses_most c.prices orders (map (λ (f : Fill). f.rate) c.fills) each right.roundings), trades_few orders (map (λ (f : Fill). f.rate) c.fills), few, orders_fit))
             (cost_most c right);
       }
 
 -- the assets of a valid walk are below their number
-walk_within : {P : Type 0} (n : ℕ) (unsettled : P → ℕ → Bool) (move : P → ℕ → P) (p : P) (walk : List ℕ) → n ≤ 64 → IsLegal n unsettled move p walk → AreBytes walk
+walk_within : {P : Type 0} (n : ℕ) (unsettled : P → ℕ → Bool) (move : P → ℕ → P) (p : P) (walk : List ℕ) → n ≤ most_prices → IsLegal n unsettled move p walk → AreBytes walk
 walk_within n unsettled move p [] few legal = All-nil (λ b. b < 256)
 walk_within n unsettled move p (a ∷ walk) few legal = All-cons (λ b. b < 256) a walk (omega (arith, few, legal.0)) (walk_within n unsettled move (move p a) walk few legal.2)
 
@@ -138,16 +140,16 @@ dual_most orders prices each few small =
     let o : Order = slice_index_or orders k d in
     let h = each k d inside in
     (dual_is_by_cases (terms_of o) h.terms (price_for prices o)).small (within_78 (price_for prices o) (price_is_bounded o.row prices h.row small))) in
-    omega (arith, all, few)
+    omega (arith, all, few, orders_fit)
 
 -- a dual value within its bound fits
 dual_fits : (z : ℤ) (n : ℕ) → z ≡ pos n → n ≤ 2 ^ 118 → IsSigned 16 z
 dual_fits z n is most = rw is (omega (arith, ints), omega (arith, ints, most))
 
 below : (e f m n : ℕ) → (pos e +ℤ pos m) <ℤ (pos f +ℤ pos n) → f ≤ 2 ^ 117 → n ≤ most_orders → e ≤ 2 ^ 118
-below e f m n less most few = omega (arith, ints, less, most, few)
+below e f m n less most few = omega (arith, ints, less, most, few, orders_fit)
 
-skipping_parts_fit : (parts : ℕ) → 1 ≤ parts → (orders : List Order) (start : List ℤ) (budget : ℕ) → All IsOrder orders → length orders ≤ most_orders → length start ≤ 64 → All IsPrice start → budget ≤ most_budget
+skipping_parts_fit : (parts : ℕ) → 1 ≤ parts → (orders : List Order) (start : List ℤ) (budget : ℕ) → All IsOrder orders → length orders ≤ most_orders → length start ≤ most_prices → All IsPrice start → budget ≤ most_budget
     → (s : Skipping) → IsAdmissibleSkip parts orders start budget s → IsSkipping s
 skipping_parts_fit parts some orders start budget each few assets small moves s right =
     let first : s.start_dual ≡ pos (dual_of orders start) = ap (λ (x : Skipping). x.start_dual) right.duals in

@@ -11,6 +11,7 @@ use Rattle.weight_rows.specs.Rows.{IsPrice}
 use Rattle.flow_orders.specs.Orders.{Order, IsOrder, most_orders}
 use Rattle.flow_orders.specs.declared.search.Search.{Search}
 use Rattle.flow_orders.specs.Outcomes.{Clearing, Skipping, Outcome, Cleared, Skipped, IsAdmissibleOutcome, most_budget}
+use Rattle.flow_orders.specs.Residuals.{most_prices}
 use Rattle.journal_records.specs.Replies.{answer_record, IsAnswer, most_reply_body, IsWithinLimits}
 use Rattle.journal_records.specs.Pairs.{IsPair, pair_encoding, journal, plain_room, cleared_room, skipped_room}
 use Rattle.journal_records.specs.Formats.{journals, journal_in, records_of}
@@ -52,7 +53,7 @@ BatchRepliesFit =
 abbrev pub AdmissibleOutcomesFit : Type 0
 AdmissibleOutcomesFit =
     (search : Search) → 1 ≤ search.parts → (orders : List Order) (start : List ℤ) (budget number : ℕ) (outcome : Outcome)
-    → All IsOrder orders → length orders ≤ most_orders → All (λ (o : Order). o.number < 2 ^ 64) orders → length start ≤ 64 → All IsPrice start
+    → All IsOrder orders → length orders ≤ most_orders → All (λ (o : Order). o.number < 2 ^ 64) orders → length start ≤ most_prices → All IsPrice start
     → budget ≤ most_budget → number < 2 ^ 32 → IsAdmissibleOutcome search orders start budget outcome → IsAnswer (Batch number outcome) × IsWithinLimits outcome
 
 -- each list of bytes has exactly one reading as a journal

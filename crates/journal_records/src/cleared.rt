@@ -7,6 +7,7 @@ ghost use Rattle.wire_records.specs.Commands.{Batch};
 ghost use Rattle.flow_orders.specs.Orders.{most_orders};
 ghost use Rattle.flow_orders.specs.Trades.{trades};
 ghost use Rattle.flow_orders.specs.Outcomes.{fill_of, Cleared as cleared_outcome};
+ghost use Rattle.flow_orders.specs.Residuals.{most_prices};
 ghost use Rattle.batch_outcome.specs.Published.{clearing_of};
 ghost use Rattle.journal_records.specs.Replies.{answer_record, IsAnswer};
 ghost use Rattle.journal_records.specs.Bodies.{fill_encoding, IsFill};
@@ -24,8 +25,9 @@ const HEAD: usize = 5;
 const NUMBERS: usize = 26;
 
 // Returns the length of the body, in bytes.
+#[tactic(auto, using(flow_orders::proofs::Limits::orders_fit))]
 fn body_len(assets: usize, orders: usize) -> usize
-    requires assets { assets ≤ 64 }
+    requires assets { assets ≤ most_prices }
     requires orders { orders ≤ most_orders }
     ensures { result ≡ 26 + 16 * assets + 12 * orders }
 {
@@ -62,10 +64,11 @@ fn put_fills(out: &mut Vec<u8>, orders: &[Order], rates: &[u32])
 }
 
 // Appends the record of the reply.
+#[tactic(auto, using(flow_orders::proofs::Limits::orders_fit))]
 fn put_cleared(batch: u32, orders: &[Order], cleared: &Cleared, out: &mut Vec<u8>)
     requires one_rate_each { length cleared.now.rates ≡ length orders.now }
     requires one_residual_each { length cleared.now.residuals ≡ length cleared.now.prices }
-    requires few_assets { length cleared.now.prices ≤ 64 }
+    requires few_assets { length cleared.now.prices ≤ most_prices }
     requires few_orders { length orders.now ≤ most_orders }
     requires room { vec_len out.old + (31 + 16 * length cleared.now.prices + 12 * length orders.now)
         ≤ vec_capacity out.old }
@@ -93,6 +96,7 @@ fn put_cleared(batch: u32, orders: &[Order], cleared: &Cleared, out: &mut Vec<u8
 /// at most 197,658. The space for the complete entry is reserved first, and nothing fails after that. Fails with `Memory`
 /// only if `out` lacked the capacity, and then `out` is as before. The cost is that of the bytes, each of which is written
 /// once, and of a move of `out` if it has to grow.
+#[tactic(auto, using(flow_orders::proofs::Limits::orders_fit))]
 pub fn write_cleared(
     asked: &RecordView<'_>,
     batch: u32,
@@ -102,7 +106,7 @@ pub fn write_cleared(
 ) -> Result<(), Memory>
     requires one_rate_each { length cleared.now.rates ≡ length orders.now }
     requires one_residual_each { length cleared.now.residuals ≡ length cleared.now.prices }
-    requires few_assets { length cleared.now.prices ≤ 64 }
+    requires few_assets { length cleared.now.prices ≤ most_prices }
     requires few_orders { length orders.now ≤ most_orders }
     ensures written { OnOk result (out.new.items ≡ out.old.items ++ pair_encoding (record {
       asked = asked.now;
@@ -129,6 +133,7 @@ pub fn write_cleared(
 /// bytes end with that, this completes the entry. The space is reserved first, and nothing fails after that. Fails with
 /// `Memory` only if `out` lacked the capacity, and then `out` is as before. The cost is that of the bytes, and of a move of
 /// `out` if it has to grow.
+#[tactic(auto, using(flow_orders::proofs::Limits::orders_fit))]
 pub fn write_cleared_reply(
     batch: u32,
     orders: &[Order],
@@ -137,7 +142,7 @@ pub fn write_cleared_reply(
 ) -> Result<(), Memory>
     requires one_rate_each { length cleared.now.rates ≡ length orders.now }
     requires one_residual_each { length cleared.now.residuals ≡ length cleared.now.prices }
-    requires few_assets { length cleared.now.prices ≤ 64 }
+    requires few_assets { length cleared.now.prices ≤ most_prices }
     requires few_orders { length orders.now ≤ most_orders }
     ensures written { OnOk result (out.new.items ≡ out.old.items
         ++ encoding (answer_record (Batch batch (cleared_outcome (clearing_of orders.now cleared.now))))) }

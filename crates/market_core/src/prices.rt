@@ -3,6 +3,7 @@ ghost use Rattle.std.specs.Prelude.{◌≡◌, ◌<◌, ◌≤◌, [], ◌∷◌
 ghost use Rattle.flow_accounts.specs.Balances.{asset_count};
 ghost use Rattle.flow_accounts.specs.Parts.{ArePlacesOf};
 ghost use Rattle.flow_accounts.specs.Places.{HasSpare};
+ghost use Rattle.flow_accounts.specs.Lawful.{most_assets};
 ghost use Rattle.market_parts.specs.Tests.{IsInShape};
 
 use flow_accounts::PLACES;
@@ -43,7 +44,7 @@ impl LastPrices {
     // Reads the last cleared prices of a market's parts.
     pub(crate) fn read<P: MarketParts>(parts: &P) -> LastPrices
         requires shape { IsInShape (P.balances parts.now) (P.parts parts.now) }
-        requires few { asset_count (P.balances parts.now) ≤ 64 }
+        requires few { asset_count (P.balances parts.now) ≤ most_assets }
         ensures { result ≡ (P.parts parts.now).last_prices }
     {
         LastPrices {
@@ -55,14 +56,14 @@ impl LastPrices {
     // Returns the prices, by the assets' numbers.
     pub(crate) fn as_slice(&self) -> &[i64]
         ensures value { result.now ≡ self.now }
-        ensures few { length self.now ≤ 64 }
+        ensures few { length self.now ≤ most_assets }
     {
         &self.prices[..usize::from(self.assets)]
     }
 
     // Appends the price 0, of a new asset, which was never priced.
     pub(crate) fn add_asset(&mut self)
-        requires { length self.old < 64 }
+        requires { length self.old < most_assets }
         ensures { self.new ≡ self.old ++ pos 0 ∷ [] }
     {
         self.assets += 1;
@@ -80,7 +81,7 @@ impl LastPrices {
 // Reads the last cleared prices of a market's parts into their places.
 fn prices_of<P: MarketParts>(parts: &P) -> [i64; PLACES]
     requires shape { IsInShape (P.balances parts.now) (P.parts parts.now) }
-    requires few { asset_count (P.balances parts.now) ≤ 64 }
+    requires few { asset_count (P.balances parts.now) ≤ most_assets }
     ensures { ArePlacesOf (asset_count (P.balances parts.now)) (P.parts parts.now).last_prices result }
 {
     let mut prices = no_prices();

@@ -28,6 +28,7 @@ pub(crate) fn are_consistent_numbers<P: MarketParts>(parts: &P, most: u64) -> bo
     has_consistent_sums(parts)
 }
 
+#[tactic(auto, using(flow_orders::proofs::Limits::orders_are))]
 fn has_consistent_counts<P: MarketParts>(parts: &P) -> bool
     ensures { IsTrue result ↔ HasConsistentCounts (P.parts parts.now) }
 {

@@ -9,7 +9,8 @@ use Rattle.std.proofs.lemmas.List.FromFn.{length-range_with_len, get_or-range_wi
 use Rattle.weight_rows.specs.Rows.{IsWeightVector, IsPricedBy}
 use Rattle.demand_curve.specs.Demand.{IsRounding}
 use Rattle.flow_accounts.specs.Balances.{Account, Balances, IsAccount, account_count, asset_count, units_in}
-use Rattle.flow_orders.specs.Orders.{Order, terms_of}
+use Rattle.flow_accounts.specs.Lawful.{most_assets}
+use Rattle.flow_orders.specs.Orders.{Order, most_orders, terms_of}
 use Rattle.flow_orders.specs.Excess.{price_for, residual_bound}
 use Rattle.flow_orders.specs.Outcomes.{Clearing, Fill, Outcome, Cleared, Skipped, trades_of, IsAdmissibleClearing, IsAdmissibleOutcome}
 use Rattle.flow_orders.specs.Trades.{Trade, trader, residual, residual_cost, after_fill, staying, going_on}
@@ -79,7 +80,7 @@ module _ (m : Market) (c : Clearing) (ts : List Trade) (is : trades_of m.orders 
   trades_count : length ts ≡ length m.orders
   trades_count = sym (length-map ts (λ (t : Trade). t.order)) ∙ ap length orders_before
 
-  few : length ts ≤ 16384
+  few : length ts ≤ most_orders
   few = omega (arith, trades_count, consistent.few_orders)
 
   prices_count : length c.prices ≡ asset_count m.balances
@@ -114,7 +115,7 @@ module _ (m : Market) (c : Clearing) (ts : List Trade) (is : trades_of m.orders 
       let bound = right.bounded asset (omega (arith, is_asset, prices_count, right.one_price_each)) in
       rw orders_before (subst (λ us. unsigned_abs (residual us asset) ≤ residual_bound m.orders asset) is bound)
 
-  few_assets : asset_count m.balances ≤ 64
+  few_assets : asset_count m.balances ≤ most_assets
   few_assets = omega (arith, consistent.tickers.few, consistent.one_each.tickers)
 
   money_moves : unsigned_abs (residual_cost c.prices ts) < 2 ^ 99

@@ -9,7 +9,7 @@ use Rattle.std.proofs.lemmas.List.Elements.{All-push, All-map, All-filter, Conta
 use Rattle.std.proofs.lemmas.List.Kept.{AllPairs-filter}
 use Rattle.std.proofs.lemmas.List.Quantifiers.{all_pairs_push}
 use Rattle.weight_rows.specs.Rows.{IsPrice, IsWeightVector}
-use Rattle.ticker_table.specs.Tickers.{IsTicker}
+use Rattle.ticker_table.specs.Tickers.{IsTicker, ticker_limit}
 use Rattle.demand_curve.specs.Demand.{IsWithin, most_rate}
 use Rattle.flow_accounts.specs.Balances.{Account, IsAccount, IsAsset, asset_count, units_of, units_in, total_of, with_asset, add_asset, with_credit_place, unit_credit_of}
 use Rattle.flow_accounts.specs.Lawful.{total_limit, IsLawfulCredit}
@@ -33,7 +33,7 @@ units_pushed : (n : ℕ) (a : Account) → length a.units ≡ n → length (with
 units_pushed n a count = length_push a.units (pos 0) ∙ ap (λ k. k + 1) count
 
 -- an asset is added
-pub consistent-ticker : (m : Market) (ticker : List ℕ) → IsConsistent m → IsTicker ticker → (Contains m.tickers ticker → ⊥) → length m.tickers < 64 → IsConsistent (with_ticker m ticker)
+pub consistent-ticker : (m : Market) (ticker : List ℕ) → IsConsistent m → IsTicker ticker → (Contains m.tickers ticker → ⊥) → length m.tickers < ticker_limit → IsConsistent (with_ticker m ticker)
 consistent-ticker m ticker consistent valid absent few =
     let b = m.balances in
     let new = add_asset b in

@@ -327,7 +327,7 @@ large_budgets_clear old budget number (Skipped s) new consistent large serves =
     absurd (omega (arith, large, lowers.1, bounded, right.whole, same_budget budget batch.budget batch.command_is))
 
 pub limits_agree : LimitsAgree
-limits_agree = record { assets = refl; ticks = refl }
+limits_agree = record { assets = refl; prices = refl; ticks = refl }
 
 module _ (Rule : BatchRule) where
   accepted_numbers_one : (m : Market) (c : Command) (a : Answer Outcome) (n : Market) → Accepts Rule m c a n → n.next_order ≤ m.next_order + 1

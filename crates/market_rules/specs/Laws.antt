@@ -17,6 +17,7 @@ use Rattle.flow_orders.specs.Outcomes.{Outcome, Fill, Clearing, Cleared, Skippin
 use Rattle.flow_orders.specs.Trades.{staying, going_on}
 use Rattle.flow_orders.specs.Duals.{movement_of}
 use Rattle.flow_orders.specs.Welfare.{IsOptimalWithin}
+use Rattle.flow_orders.specs.Residuals.{most_prices}
 use Rattle.market_rules.specs.Market.{Market, empty_market, IsConsistent, parts_of, start_prices, held_balance, free_balance, usable_balance}
 use Rattle.market_rules.specs.Step.{Serves, ServesPlain, after_batch}
 use Rattle.market_rules.specs.Journal.{Step, Follows, Places, fills_of}
@@ -155,9 +156,10 @@ pub record SequencesCompose : Type 0 where
   pub apart : (old new : Market) (pairs more : List (Pair Record Outcome)) → Leads old (pairs ++ more) new
       → (mid : Market) × Leads old pairs mid × Leads mid more new
 
--- limits that two crates define, each under its own name, agree: as many tickers as assets, and the range of limit prices
+-- limits that two crates define, each under its own name, agree: as many tickers and prices as assets, and the range of limit prices
 pub record LimitsAgree : Type 0 where
   pub assets : ticker_limit ≡ most_assets
+  pub prices : most_prices ≡ most_assets
   pub ticks : 2 ^ 32 * most_ticks ≡ 2 ^ 60
 
 -- a step gives out at most one order number, even if any admissible outcome of a batch is accepted

@@ -11,5 +11,6 @@ pub mod laws;
 mod limits;
 mod search;
 
-pub use limits::{MOST_BATCHES, MOST_ORDERS};
+pub use flow_orders::MOST_ORDERS;
+pub use limits::MOST_BATCHES;
 pub use search::{parts_of, search_of};

@@ -13,6 +13,7 @@ use Rattle.wire_records.proofs.CodeLaws.{counted_unique}
 use Rattle.wire_records.proofs.Requests.{same_entry}
 use Rattle.flow_accounts.specs.Balances.{Account, Credit, Balances, account_count}
 use Rattle.flow_orders.specs.Orders.{most_orders}
+use Rattle.flow_orders.proofs.Limits.{orders_fit}
 use Rattle.market_parts.specs.Parts.{ReadOrder, Parts}
 use Rattle.market_snapshot.specs.Checkpoints.{checkpoint_magic}
 use Rattle.market_snapshot.specs.Encodings.{units_encoding, account_encoding, order_encoding, tickers_encoding, accounts_encoding, totals_encoding, exchange_encoding, batches_encoding, orders_encoding, parts_encoding}
@@ -172,7 +173,7 @@ orders_unique : (o p : List ReadOrder) (x y : List ℕ) → length o ≤ most_or
 unfolding orders_encoding
 orders_unique o p x y h k in_o in_p e =
     let apart = sym (append_assoc (unsigned 4 (length o)) (flat_map order_encoding o) x) ∙ e ∙ append_assoc (unsigned 4 (length p)) (flat_map order_encoding p) y in
-    let count = unsigned_unique 4 (length o) (length p) _ _ (omega (arith, h)) (omega (arith, k)) apart in
+    let count = unsigned_unique 4 (length o) (length p) _ _ (omega (arith, h, orders_fit)) (omega (arith, k, orders_fit)) apart in
     counted_unique FitsOrder order_encoding order_unique o p x y in_o in_p count.0 count.1
 
 -- all parts are equal if each is

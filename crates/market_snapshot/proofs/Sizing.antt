@@ -7,6 +7,7 @@ use Rattle.std.proofs.lemmas.List.{drop-append-le, take-append-le}
 use Rattle.byte_places.specs.Places.{digits_on, unsigned_at}
 use Rattle.flow_accounts.specs.Balances.{account_count}
 use Rattle.flow_accounts.specs.Lawful.{most_accounts}
+use Rattle.ticker_table.specs.Tickers.{ticker_limit}
 use Rattle.flow_orders.specs.Orders.{most_orders}
 use Rattle.market_rules.specs.Market.{Market}
 use Rattle.market_parts.specs.Parts.{ReadOrder, Parts}
@@ -124,7 +125,7 @@ module _ (bytes : List ℕ) (m : Market) (checkpoint more rest : List ℕ) (is :
   pub orders_counted : first_of ≤ length bytes → unsigned_at 4 count_at bytes ≡ length p.orders
   orders_counted there = sym (unsigned_more 4 count_at bytes more (omega (arith, there))) ∙ found.count
 
-  pub few_assets : length m.tickers ≤ 64
+  pub few_assets : length m.tickers ≤ ticker_limit
   few_assets = omega (arith, is.consistent.tickers.few)
 
   pub few_accounts : account_count m.balances ≤ most_accounts

@@ -1,9 +1,10 @@
 -- What the view sees of all the bytes.
-use Rattle.std.proofs.Common.{◌≡◌, ◌+◌, ◌*◌, ◌≤◌, ℕ, List, ◌++◌, length, take, drop, sym, ap, ◌∙◌, arith}
+use Rattle.std.proofs.Common.{◌≡◌, ◌+◌, ◌*◌, ◌≤◌, ◌<◌, ℕ, List, ◌++◌, length, take, drop, sym, ap, ◌∙◌, arith}
 use Rattle.std.specs.List.{flat_map}
 use Rattle.std.proofs.lemmas.List.{take-append-drop, length-take-le}
 use Rattle.byte_places.specs.Places.{unsigned_at}
 use Rattle.flow_accounts.specs.Balances.{account_count}
+use Rattle.flow_orders.specs.Orders.{most_orders}
 use Rattle.market_parts.specs.Parts.{Parts}
 use Rattle.market_snapshot.specs.declared.layout.Layout.{Layout}
 use Rattle.market_snapshot.specs.declared.reading.SnapshotFault.{SnapshotFault}
@@ -31,7 +32,7 @@ stands_there p l bytes rest laid f =
     }
 
 -- more orders are stated than a consistent market may have
-pub too_many : (l : Layout) (bytes : List ℕ) (count : ℕ) → IsLayout bytes l → count ≡ unsigned_at 4 (count_place l) bytes → 16385 ≤ count → BeginsWithNoParts bytes
+pub too_many : (l : Layout) (bytes : List ℕ) (count : ℕ) → IsLayout bytes l → count ≡ unsigned_at 4 (count_place l) bytes → most_orders < count → BeginsWithNoParts bytes
 too_many l bytes count laid read many p rest fits is =
     let there = stands_there p l bytes rest laid (prefix p bytes rest fits is) in
     absurd (omega (arith, many, read, there.count, fits.few))

@@ -6,6 +6,7 @@ use Rattle.std.proofs.Math.Nat as nat
 use Rattle.std.proofs.lemmas.List.{map-append, drop-drop, drop_at, drop_more, take_at, append-nil}
 use Rattle.std.proofs.lemmas.List.Elements.{All-nil, All-push}
 use Rattle.std.proofs.lemmas.Grind.{flat_map-append}
+use Rattle.flow_orders.proofs.Limits.{orders_fit}
 use Rattle.wire_fields.specs.Numbers.{unsigned, signed}
 use Rattle.wire_fields.proofs.Encoding.{length-unsigned, length-signed}
 use Rattle.byte_places.specs.Places.{part, unsigned_at}
@@ -208,7 +209,7 @@ prefix p bytes rest fits is =
     let at_batches = skip bytes exchange (batches ++ (orders_encoding p.orders ++ rest)) (t + 16 + 8 * n) (16 + 8 * n) (t + 32 + 16 * n) at_exchange exchange_size (omega arith) in
     let at_tail : drop (t + 44 + 24 * n) bytes ≡ tail = skip bytes batches (orders_encoding p.orders ++ rest) (t + 32 + 16 * n) (12 + 8 * n) (t + 44 + 24 * n) at_batches batches_size (omega arith)
     ∙ append_assoc (unsigned 4 (length p.orders)) (flat_map order_encoding p.orders) rest in
-    let few : length p.orders < 2 ^ 32 = omega (arith, fits.few) in
+    let few : length p.orders < 2 ^ 32 = omega (arith, fits.few, orders_fit) in
     record {
       magic = ap (take 8) start ∙ take_at checkpoint_magic (unsigned 1 p.version ++ (unsigned 2 n ++ (tickers ++ after_tickers))) 8 refl;
       eleven = inside bytes (unsigned 2 n) _ 9 2 at_9 (length-unsigned 2 n) (omega arith);

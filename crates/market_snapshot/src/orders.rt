@@ -11,6 +11,7 @@ use weight_rows::Entry;
 use wire_fields::{put_i32, put_i64, put_u8, put_u16, put_u32, put_u64};
 
 // Returns how many bytes the orders take together.
+#[tactic(auto, using(flow_orders::proofs::Limits::orders_fit))]
 pub(crate) fn orders_size(orders: &[Order]) -> usize
     requires { length orders.now ≤ most_orders }
     ensures exact { result ≡ length (flat_map (λ o. order_encoding (read_order o)) orders.now) }
@@ -58,6 +59,7 @@ fn put_order(out: &mut Vec<u8>, order: &Order)
 }
 
 // Appends how many orders there are, and the orders.
+#[tactic(auto, using(flow_orders::proofs::Limits::orders_fit))]
 pub(crate) fn put_orders(out: &mut Vec<u8>, orders: &[Order])
     requires few { length orders.now ≤ most_orders }
     requires room { vec_len out.old + (4 + length (flat_map (λ o. order_encoding (read_order o)) orders.now)) ≤ vec_capacity out.old }

@@ -1,5 +1,6 @@
 //! How many bytes a checkpoint has, judged by its first bytes.
 ghost use Rattle.std.specs.Prelude.{◌≡◌, ◌+◌, ◌*◌, ◌≤◌, ℕ, List, ◌++◌, length, IfSome, IfNone};
+ghost use Rattle.flow_orders.specs.Orders.{most_orders};
 ghost use Rattle.market_snapshot.specs.Checkpoints.{BeginsWithNoCheckpoint};
 ghost use Rattle.market_snapshot.specs.Sizes.{HasSize, OrdersEndAt};
 
@@ -12,9 +13,10 @@ use market_rules::MOST_ORDERS;
 const FIRST: usize = 11;
 
 // Returns where `count` orders end that begin at a place, or the least place where they can end if some are incomplete.
+#[tactic(auto, using(flow_orders::proofs::Limits::orders_fit))]
 fn orders_end(bytes: &[u8], first: usize, count: usize) -> usize
     requires inside { first ≤ length bytes.now }
-    requires few { count ≤ 16384 }
+    requires few { count ≤ most_orders }
     ensures { OrdersEndAt bytes.now first count result }
 {
     let mut end = first;
@@ -39,6 +41,7 @@ fn orders_end(bytes: &[u8], first: usize, count: usize) -> usize
 ///
 /// To read a checkpoint from a source, read until as many bytes are there as this says: then the checkpoint has been read to its end, and
 /// nothing after it. Costs one pass over the orders in `bytes`.
+#[tactic(auto, using(flow_orders::proofs::Limits::orders_are))]
 pub fn checkpoint_size(bytes: &[u8]) -> Option<usize>
     ensures size { IfSome result (HasSize bytes.now) }
     ensures none { IfNone result ((more : List ℕ) → BeginsWithNoCheckpoint (bytes.now ++ more)) }

@@ -168,6 +168,7 @@ impl<'a> MarketParts for SnapshotView<'a> {
         )
     }
 
+    #[tactic(auto, using(flow_orders::proofs::Limits::orders_fit))]
     fn order_count(&self) -> u32 {
         self.orders.len() as u32
     }

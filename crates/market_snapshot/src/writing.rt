@@ -74,6 +74,7 @@ fn put_fields(out: &mut Vec<u8>, market: &Market)
 /// Appends the bytes of a market, which are its checkpoint if its next order gets a number below 2^63. The market is unchanged, but
 /// the gaps are closed that orders left which were cancelled since the orders were last asked for. Allocates once, for all of the
 /// bytes, before any is written; if that fails, nothing is appended.
+#[tactic(auto, using(flow_orders::proofs::Limits::orders_fit))]
 pub fn write_market(market: &mut Market, out: &mut Vec<u8>) -> Result<(), Memory>
     ensures written { OnOk result (out.new.items ≡ out.old.items ++ checkpoint_bytes market.old) }
     ensures checkpoint { OnOk result (market.old.next_order < 2 ^ 63 → IsCheckpoint market.old (checkpoint_bytes market.old)) }

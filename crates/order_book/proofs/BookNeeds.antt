@@ -9,6 +9,7 @@ use Rattle.weight_rows.specs.Rows.{weight_in}
 use Rattle.weight_rows.proofs.RowLawProofs.{weights_are_small}
 use Rattle.demand_curve.specs.Numbers.{or_zero}
 use Rattle.flow_orders.specs.Orders.{Order, IsOrder, most_cap, remaining_quantity, sold, money_need, unit_need, own_sum, needed_money, needed_units}
+use Rattle.flow_orders.proofs.Limits.{orders_fit}
 use Rattle.order_book.specs.declared.sums.Need.{Need}
 use Rattle.order_book.specs.declared.sums.Need.TheVariants.{Money, Units}
 use Rattle.order_book.specs.Book.{AreLive}
@@ -65,8 +66,11 @@ most_for_fits (Money account) = omega arith
 most_for_fits (Units account asset) = omega arith
 
 pub most_needed_fits : (need : Need) → most_needed need ≤ 2 ^ 114
-most_needed_fits (Money account) = omega arith
-most_needed_fits (Units account asset) = omega arith
+most_needed_fits (Money account) = omega (arith, orders_fit)
+most_needed_fits (Units account asset) = omega (arith, orders_fit)
+
+pub most_units_fit : (account asset : ℕ) → most_needed (Units account asset) ≤ 2 ^ 66
+most_units_fit account asset = omega (arith, orders_fit)
 
 -- ---- one more, or one less
 pub needed-push : (need : Need) (orders : List Order) (o : Order) → needed need (orders ++ o ∷ []) ≡ needed need orders + need_of need o

@@ -14,14 +14,14 @@ use Rattle.order_book.specs.Sums.{Table, sum_in}
 use Rattle.order_book.specs.Kept.{SumsAre}
 use Rattle.order_book.specs.Book.{AreLive, without}
 use Rattle.order_book.specs.Laws.{NeedsAreSmall, AddedOrdersNeedMore, CancelledOrdersNeedNothing, FilledOrdersNeedLess}
-use Rattle.order_book.proofs.BookNeeds.{counted, own_sum_is, needed_money_is, needed_units_is, needed_most, needed-push, needed-remove}
+use Rattle.order_book.proofs.BookNeeds.{counted, own_sum_is, needed_money_is, needed_units_is, needed_most, most_needed_fits, most_units_fit, needed-push, needed-remove}
 use Rattle.order_book.proofs.Places.{AreLive-remove, remove_is}
 use Rattle.order_book.proofs.Standing.{needs_of_staying}
 
 pub needs_are_small : NeedsAreSmall
 needs_are_small = record {
-  money = λ orders account live. (omega (arith, ints, needed_money_is orders account), omega (arith, ints, needed_money_is orders account, needed_most (Money account) orders live));
-  units = λ orders account asset live. (omega (arith, ints, needed_units_is orders account asset), omega (arith, ints, needed_units_is orders account asset, needed_most (Units account asset) orders live));
+  money = λ orders account live. (omega (arith, ints, needed_money_is orders account), omega (arith, ints, needed_money_is orders account, needed_most (Money account) orders live, most_needed_fits (Money account)));
+  units = λ orders account asset live. (omega (arith, ints, needed_units_is orders account asset), omega (arith, ints, needed_units_is orders account asset, needed_most (Units account asset) orders live, most_units_fit account asset));
 }
 
 pub added_orders_need_more : AddedOrdersNeedMore

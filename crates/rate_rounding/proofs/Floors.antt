@@ -13,6 +13,7 @@ use Rattle.demand_curve.proofs.RoundingLaws.{roundings_enclose_demand}
 use Rattle.flow_orders.specs.Orders.{Order, IsOrder, most_orders, terms_of}
 use Rattle.flow_orders.specs.Excess.{price_for}
 use Rattle.flow_orders.specs.Residuals.{AreNear, HasEach, AreZeros, IsTradeAdded}
+use Rattle.flow_orders.proofs.Limits.{orders_fit}
 use Rattle.canonical_rule.specs.Canonical.{floor_at}
 use Rattle.rate_rounding.specs.Private.{left_by_floors}
 
@@ -77,5 +78,5 @@ pub all_left : (n : ℕ) (prices : List ℤ) (orders : List Order) (i : ℕ) (re
 all_left n prices orders i residuals few all most before =
     let whole : take i orders ≡ orders = take_all i orders all in (
       record { count = before.left.count; each = λ a there. before.left.each a there ∙ rw whole (rw (left_is_sum prices a orders) refl) },
-      λ a. omega (arith, before.near a, few, most),
+      λ a. omega (arith, before.near a, few, most, orders_fit),
     )

@@ -90,6 +90,7 @@ pub fn choose_rates(alloc: Global, orders: &[Order], quoted: &Quoted) -> Result<
 }
 
 // Turns `residuals`, all zero on entry, into the imbalances with all demands rounded down.
+#[tactic(auto, using(flow_orders::proofs::Limits::orders_fit))]
 fn add_floors(orders: &[Order], quoted: &Quoted, residuals: &mut [i64])
     requires quoted { AreQuoted orders.now quoted.now.prices.items quoted.now.quotes.items }
     requires zeros { AreZeros (length quoted.now.prices.items) residuals.old }
@@ -104,6 +105,7 @@ fn add_floors(orders: &[Order], quoted: &Quoted, residuals: &mut [i64])
 }
 
 // Chooses the rates. `residuals` has the imbalances with all demands rounded down, and becomes those at the chosen rates.
+#[tactic(auto, using(flow_orders::proofs::Limits::orders_fit))]
 fn choose(orders: &[Order], quoted: &Quoted, rates: &mut Vec<u32>, residuals: &mut [i64])
     requires quoted { AreQuoted orders.now quoted.now.prices.items quoted.now.quotes.items }
     requires none { rates.old.items ≡ [] }

@@ -1,6 +1,6 @@
 //! Entries that are written.
 use batch_outcome::{Cleared, PriceList, RateList, ResidualList, Skipped, Trace};
-use flow_orders::{Order, order_fault};
+use flow_orders::{MOST_ORDERS, Order, order_fault};
 use journal_records::{reserve_plain, write_cleared, write_plain, write_skipped};
 use std::alloc::Global;
 use weight_rows::{Entry, EntryList, WeightRow, row_fault};
@@ -82,6 +82,7 @@ fn cleared_of(alloc: Global, gap: i128, list: &str, rates: Vec<u32>) -> Option<C
     })
 }
 
+#[tactic(auto, using(flow_orders::proofs::Limits::orders_are))]
 fn write_batch(
     asked: &RecordView<'_>,
     batch: u32,
@@ -93,7 +94,7 @@ fn write_batch(
     if cleared.rates.as_slice().len() != orders.len()
         || cleared.residuals.as_slice().len() != assets
         || assets > 64
-        || orders.len() > 16_384
+        || orders.len() > MOST_ORDERS as usize
     {
         return None;
     }

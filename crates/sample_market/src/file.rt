@@ -8,7 +8,7 @@ use crate::orders::order;
 use std::alloc::Global;
 use wire_records::{COMMAND_MAGIC, Command, Memory, write_command};
 
-/// The most orders of a sample, and of a market.
+/// The most orders of a sample.
 pub const MOST_ORDERS: u32 = 16_384;
 
 // How many assets a sample has.

@@ -12,6 +12,10 @@ use Rattle.journal_replay.specs.Audits.{cleared_in, skipped_in}
 use Rattle.exchange_session.specs.Journals.{Journals}
 use Rattle.sample_market.specs.Files.{sample}
 
+-- the most orders of a sample
+abbrev pub most_sampled : ℕ
+most_sampled = 16384
+
 -- how many units the orders of a batch that cleared trade together: the sum of their rates; 0 for any other answer
 abbrev pub units_by : Answer Outcome → ℕ
 units_by (Plain reply) = 0

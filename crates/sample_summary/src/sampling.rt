@@ -2,10 +2,9 @@
 ghost use Rattle.std.specs.Prelude.{◌≡◌, ◌≤◌, ◌<◌, ◌+◌, ◌^◌, OnOk, IfOk};
 ghost use Rattle.wire_records.specs.Records.{Record};
 ghost use Rattle.wire_records.specs.Formats.{commands};
-ghost use Rattle.flow_orders.specs.Orders.{most_orders};
 ghost use Rattle.market_rules.specs.Market.{Market};
 ghost use Rattle.batch_audit.specs.Legal.{IsLegalPair};
-ghost use Rattle.sample_summary.specs.Summary.{Summarizes};
+ghost use Rattle.sample_summary.specs.Summary.{Summarizes, most_sampled};
 ghost use Rattle.sample_summary.specs.Private.{State, IsWritten, AddsAnswer, CountsFit, SamplesOne, IsReadyToSample};
 
 use crate::counting::{Counts, counts_of};
@@ -139,7 +138,7 @@ impl TakesUnits<()> for Sampling {
 /// of the file and an audit of its journal cost, and holds the file, the market of either, and one entry.
 pub fn sample_line(alloc: Global, number: u64, orders: u32) -> Result<Vec<u8>, Memory>
     requires some { 1 ≤ orders }
-    requires few { orders ≤ most_orders }
+    requires few { orders ≤ most_sampled }
     ensures { IfOk result (λ line. Summarizes number orders line.items) }
 {
     let file = sample_commands(alloc, number, orders)?;

@@ -1,6 +1,7 @@
 use Rattle.std.proofs.Common.{◌≤◌, get_or, arith}
 use Rattle.std.proofs.lemmas.List.{get_or_default}
 use Rattle.flow_orders.specs.Orders.{terms_of}
+use Rattle.flow_orders.proofs.Limits.{orders_fit}
 use Rattle.batch_certificate.proofs.Sums.{IsTurn, at_turn}
 use Rattle.account_statement.proofs.Costs.{slow_enough, one_more_brought, all_brought}
 use Rattle.account_statement.proofs.batch.bring.Goals as goal
@@ -11,7 +12,7 @@ add_residuals-requires-clause-rate c =
     slow_enough c.index-orders-place.result _ c.row.ensures.order (at_turn (λ t. t.traded ≤ (terms_of t.order).room) _ _ _ _ _ turn c.requires.within)
 
 pub add_residuals-requires-clause-near : goal.add_residuals-requires-clause-near
-add_residuals-requires-clause-near c = λ asset. omega (arith, c.loop-place.invariant.near asset, c.loop-place-test.true, c.requires.few)
+add_residuals-requires-clause-near c = λ asset. omega (arith, c.loop-place.invariant.near asset, c.loop-place-test.true, c.requires.few, orders_fit)
 
 pub loop-place-preserved : goal.loop-place-preserved
 loop-place-preserved c =

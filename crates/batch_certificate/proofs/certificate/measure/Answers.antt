@@ -5,6 +5,7 @@ use Rattle.flow_orders.specs.Orders.{terms_of}
 use Rattle.flow_orders.specs.Excess.{price_for}
 use Rattle.flow_orders.proofs.TradeFacts.{All-trades}
 use Rattle.flow_orders.specs.Orders.{IsOrder}
+use Rattle.flow_orders.proofs.Limits.{orders_fit}
 use Rattle.batch_certificate.proofs.Sums.{at_turn, one_lost, all_lost, quoted_turn, are_slow, residuals_near, residuals_count, gap_is}
 use Rattle.batch_certificate.proofs.certificate.measure.Goals as goal
 
@@ -30,4 +31,4 @@ cost-requires-clause-near c =
 pub returns : goal.returns
 returns c =
     let all : c.loop-place.place ≡ length c.args.orders.now = omega (arith, c.loop-place-test.false, c.loop-place.auto.place-end) in
-    gap_is _ _ _ _ _ c.requires.left (all_lost _ _ _ _ _ c.requires.one_each all c.loop-place.invariant) (omega (arith, c.loop-place.invariant.small, all, c.requires.quoted.priced.few)) c.cost.ensures.value c.cost.ensures.small
+    gap_is _ _ _ _ _ c.requires.left (all_lost _ _ _ _ _ c.requires.one_each all c.loop-place.invariant) (omega (arith, c.loop-place.invariant.small, all, c.requires.quoted.priced.few, orders_fit)) c.cost.ensures.value c.cost.ensures.small

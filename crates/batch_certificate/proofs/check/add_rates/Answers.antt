@@ -31,3 +31,13 @@ pub returns-clause-lost : goal.returns-clause-lost
 returns-clause-lost g c =
     let all = all_summed _ _ _ _ c.loop-place.place _ _ c.requires.few (rates_count _ (g.P.ClearedParts.clearing c.args.parts.now) c.requires.one_each) (omega (arith, c.loop-place-test.false, c.loop-place.auto.place-end)) c.loop-place.invariant.summed in
     all.lost_is
+
+pub returns-clause-near : goal.returns-clause-near
+returns-clause-near g c =
+    let all = all_summed _ _ _ _ c.loop-place.place _ _ c.requires.few (rates_count _ (g.P.ClearedParts.clearing c.args.parts.now) c.requires.one_each) (omega (arith, c.loop-place-test.false, c.loop-place.auto.place-end)) c.loop-place.invariant.summed in
+    all.near
+
+pub returns-clause-small : goal.returns-clause-small
+returns-clause-small g c =
+    let all = all_summed _ _ _ _ c.loop-place.place _ _ c.requires.few (rates_count _ (g.P.ClearedParts.clearing c.args.parts.now) c.requires.one_each) (omega (arith, c.loop-place-test.false, c.loop-place.auto.place-end)) c.loop-place.invariant.summed in
+    all.small

@@ -4,6 +4,7 @@ use Rattle.std.proofs.lemmas.Int.{to_z-of_z, fits_signed_from_abs}
 use Rattle.std.proofs.lemmas.List.{take_all, drop_all}
 use Rattle.std.proofs.lemmas.List.Edits.{map_over_more}
 use Rattle.list_sums.proofs.Products.{unsigned_abs-add}
+use Rattle.flow_orders.proofs.Limits.{orders_fit}
 use Rattle.excess_bounds.specs.Steps.{part_after, looked}
 use Rattle.excess_bounds.proofs.Sums.{one_more_summed, all_summed}
 use Rattle.excess_bounds.proofs.StepFacts.{mixed_at}
@@ -19,7 +20,7 @@ pub overflow_add-sum : goal.overflow_add-sum
 overflow_add-sum c =
     let here : to_z w64 (of_z w64 c.looked-step.result.here) ≡ c.looked-step.result.here = to_z-of_z w64 c.looked-step.result.here (fits_signed_from_abs w64 _ (omega (arith, c.looked-step.ensures.small))) in
     let before = c.loop-at.invariant.1.bound in
-    rw here (fits_signed_from_abs w64 _ (omega (arith, before, c.looked-step.ensures.small, c.requires.few, c.loop-at-test.true, c.len-at-end.ensures, unsigned_abs-add (to_z w64 c.loop-at.sum-bits) c.looked-step.result.here)))
+    rw here (fits_signed_from_abs w64 _ (omega (arith, before, c.looked-step.ensures.small, c.requires.few, orders_fit, c.loop-at-test.true, c.len-at-end.ensures, unsigned_abs-add (to_z w64 c.loop-at.sum-bits) c.looked-step.result.here)))
 
 pub loop-at-preserved : goal.loop-at-preserved
 loop-at-preserved c =

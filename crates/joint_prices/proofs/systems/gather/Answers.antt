@@ -1,4 +1,5 @@
 use Rattle.std.proofs.Common.{arith}
+use Rattle.flow_orders.proofs.Limits.{orders_fit}
 use Rattle.joint_prices.proofs.Gathering.{none_gathered, one_gathered, all_gathered}
 use Rattle.joint_prices.proofs.systems.gather.Goals as goal
 
@@ -11,4 +12,4 @@ loop-i-preserved c =
     c.add_order.ensures.order c.add_order.ensures.aim c.add_order.ensures.slope c.loop-i.invariant c.add_order.ensures.pairs c.add_order.ensures.sides
 
 pub returns : goal.returns
-returns c = all_gathered _ _ _ _ c.loop-i.i _ _ c.loop-i-test.false (omega (arith, c.loop-i.auto.i-end, c.requires.few)) c.loop-i.invariant
+returns c = all_gathered _ _ _ _ c.loop-i.i _ _ c.loop-i-test.false (omega (arith, c.loop-i.auto.i-end, c.requires.few, orders_fit)) c.loop-i.invariant

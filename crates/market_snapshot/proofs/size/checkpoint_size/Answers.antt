@@ -1,4 +1,5 @@
 use Rattle.std.proofs.Common.{◌≡◌, ◌+◌, ◌*◌, ◌≤◌, ◌∙◌, length, sym, ap, subst, arith}
+use Rattle.flow_orders.proofs.Limits.{orders_are}
 use Rattle.byte_places.specs.Places.{unsigned_at}
 use Rattle.market_snapshot.specs.Layout.{account_size}
 use Rattle.market_snapshot.specs.Sizes.{OrdersEndAt}
@@ -50,7 +51,7 @@ returns-then-orders-gt-MOST_ORDERS-clause-none c = λ more m k rest is e.
     let product = sizes_are bytes m k more rest is e c.from.result eleven read c.u32_at-accounts.result (omega (arith, c.if-bytes-count.false)) c.u32_at-accounts.ensures c.account_size.result (c.account_size.ensures ∙ ap account_size (sym c.from.ensures)) in
     let place : 11 + 8 * c.from.result + 4 + c.account_size.result * c.u32_at-accounts.result + 44 + 24 * c.from-2.result ≡ count_at bytes m k more rest is e = omega (arith, product, assets, c.from.ensures, c.from-2.ensures) in
     let counted = c.u32_at-orders.ensures ∙ ap (λ n. unsigned_at 4 n bytes) place ∙ orders_counted bytes m k more rest is e (omega (arith, place, c.if-bytes-place.false)) in
-    absurd (omega (arith, counted, few_orders bytes m k more rest is e, c.if-orders-gt-MOST_ORDERS.true))
+    absurd (omega (arith, counted, few_orders bytes m k more rest is e, orders_are, c.if-orders-gt-MOST_ORDERS.true))
 
 pub returns-clause-size : goal.returns-clause-size
 returns-clause-size c = λ m k more rest is e.

@@ -1,5 +1,6 @@
 use Rattle.std.proofs.Common.{◌≡◌, ◌+◌, ◌*◌, ◌<◌, ◌∙◌, ap, sym, subst, arith}
 use Rattle.std.proofs.lemmas.List.Elements.{All-from_get_or}
+use Rattle.flow_orders.proofs.Limits.{orders_are}
 use Rattle.byte_places.specs.Places.{unsigned_at}
 use Rattle.market_snapshot.specs.Layout.{count_place, first_place, AreOrders, HasNoOrders}
 use Rattle.market_snapshot.specs.Answers.{WhereNotSound}
@@ -13,7 +14,7 @@ returns-then-count-gt-MOST_ORDERS-clause-none c =
     let l = c.in-Some.layout in
     let bytes = c.args.bytes.now in
     let read : c.u32_at-count.result ≡ unsigned_at 4 (count_place l) bytes = c.u32_at-count.ensures ∙ ap (λ n. unsigned_at 4 (l.totals + 44 + 24 * n) bytes) c.from.ensures in
-    too_many l bytes c.u32_at-count.result c.in-Some.ensures.found read (omega (arith, c.if-count-gt-MOST_ORDERS.true))
+    too_many l bytes c.u32_at-count.result c.in-Some.ensures.found read (omega (arith, orders_are, c.if-count-gt-MOST_ORDERS.true))
 
 pub returns-in-Err-clause-none : goal.returns-in-Err-clause-none
 returns-in-Err-clause-none c =
@@ -34,7 +35,7 @@ kept c =
       layout = c.in-Some.ensures.found;
       orders = subst (λ p. AreOrders bytes p c.in-Ok.places.end c.in-Ok.places.starts.items) first c.in-Ok.ensures.found;
       count = sym read ∙ sym c.in-Ok.ensures.count;
-      few = omega (arith, c.in-Ok.ensures.count, c.if-count-gt-MOST_ORDERS.false);
+      few = omega (arith, c.in-Ok.ensures.count, orders_are, c.if-count-gt-MOST_ORDERS.false);
       bytes = All-from_get_or (λ b. b < 256) bytes 0 (λ i there. omega (arith, c.type_inv.bytes i));
     }
 

@@ -11,3 +11,6 @@ loop-place-preserved c =
 
 pub returns-clause-left : goal.returns-clause-left
 returns-clause-left c = (all_left _ _ _ c.loop-place.place _ c.requires.quoted.priced.few c.loop-place-test.false (omega (arith, c.loop-place.auto.place-end)) c.loop-place.invariant).0
+
+pub returns-clause-near : goal.returns-clause-near
+returns-clause-near c = (all_left _ _ _ c.loop-place.place _ c.requires.quoted.priced.few c.loop-place-test.false (omega (arith, c.loop-place.auto.place-end)) c.loop-place.invariant).1

@@ -1,5 +1,6 @@
 use Rattle.std.proofs.Common.{◌≡◌, length, pos, w64, ap, ◌∙◌, arith}
 use Rattle.std.proofs.lemmas.Int.{ints, to_z-of_z}
+use Rattle.flow_orders.proofs.Limits.{orders_fit}
 use Rattle.excess_bounds.specs.Private.{spread_in}
 use Rattle.excess_bounds.proofs.ColumnSums.{spread_is}
 use Rattle.excess_bounds.proofs.Kept.{columns_count, column_at, is_column}
@@ -26,4 +27,4 @@ returns-clause-most c =
     let at = rw c.from.ensures at c.index.ensures in
     let few = rw (← column, ← at) at (is_column _ _ _ _ c.self.invariant.0 c.args.asset there).few in
     let same = to_z-of_z w64 c.spread.result (record { sfits = c.spread.type_inv }) in
-    rw same (omega (arith, ints, c.spread.ensures.most, few))
+    rw same (omega (arith, ints, c.spread.ensures.most, few, orders_fit))

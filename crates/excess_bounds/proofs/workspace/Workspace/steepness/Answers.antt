@@ -1,5 +1,6 @@
 use Rattle.std.proofs.Common.{◌≡◌, length, pos, w64, ap, ◌∙◌, arith}
 use Rattle.std.proofs.lemmas.Int.{ints, to_z-of_z}
+use Rattle.flow_orders.proofs.Limits.{orders_fit}
 use Rattle.excess_bounds.specs.Private.{steepness_in}
 use Rattle.excess_bounds.proofs.ColumnSums.{steepness_is}
 use Rattle.excess_bounds.proofs.Kept.{columns_count, column_at, is_column}
@@ -26,4 +27,4 @@ returns-clause-most c =
     let at = rw c.from.ensures at c.index.ensures in
     let few = rw (← column, ← at) at (is_column _ _ _ _ c.self.invariant.0 c.args.asset there).few in
     let same = to_z-of_z w64 c.steepness.result (record { sfits = c.steepness.type_inv }) in
-    rw same (omega (arith, ints, c.steepness.ensures.most, few))
+    rw same (omega (arith, ints, c.steepness.ensures.most, few, orders_fit))

@@ -1,6 +1,7 @@
 use Rattle.std.proofs.Common.{◌≤◌, ◌<◌, inl, inr, length, refl, sym, ◌∙◌, arith}
 use Rattle.std.proofs.lemmas.Bool.{false≢true}
 use Rattle.flow_orders.specs.Orders.{most_orders}
+use Rattle.flow_orders.proofs.Limits.{orders_are}
 use Rattle.market_core.proofs.market.Market.row_refusal.Goals as goal
 
 pub returns-then-is_some : goal.returns-then-is_some
@@ -19,7 +20,7 @@ pub returns-then-len-ge-MOST_ORDERS : goal.returns-then-len-ge-MOST_ORDERS
 returns-then-len-ge-MOST_ORDERS c =
     let lawful = rw c.row-row.ensures at c.fault.ensures.lawful.0 (sym c.is_some.ensures ∙ c.if-is_some.false) in
     let assets = rw c.row-row.ensures at c.has_assets.ensures.0 c.if-not-has_assets.false in
-    let many : most_orders ≤ length c.args.self.now.orders = rw (← c.self.view_is) (rw c.len.ensures.len at c.if-len-ge-MOST_ORDERS.true) in
+    let many : most_orders ≤ length c.args.self.now.orders = rw orders_are (rw (← c.self.view_is) (rw c.len.ensures.len at c.if-len-ge-MOST_ORDERS.true)) in
     inr (lawful, inr (assets, inl (many, refl)))
 
 pub is_affordable-requires-clause-row : goal.is_affordable-requires-clause-row
@@ -32,12 +33,12 @@ pub returns-then-not-is_affordable : goal.returns-then-not-is_affordable
 returns-then-not-is_affordable c =
     let lawful = rw c.row-row.ensures at c.fault.ensures.lawful.0 (sym c.is_some.ensures ∙ c.if-is_some.false) in
     let assets = rw c.row-row.ensures at c.has_assets.ensures.0 c.if-not-has_assets.false in
-    let few : length c.args.self.now.orders < most_orders = rw (← c.self.view_is) (rw c.len.ensures.len at c.if-len-ge-MOST_ORDERS.false) in
+    let few : length c.args.self.now.orders < most_orders = rw orders_are (rw (← c.self.view_is) (rw c.len.ensures.len at c.if-len-ge-MOST_ORDERS.false)) in
     inr (lawful, inr (assets, inr (λ many. omega (arith, few, many), inl (λ free. false≢true (sym c.if-not-is_affordable.true ∙ c.is_affordable.ensures.1 free), refl))))
 
 pub returns : goal.returns
 returns c =
     let lawful = rw c.row-row.ensures at c.fault.ensures.lawful.0 (sym c.is_some.ensures ∙ c.if-is_some.false) in
     let assets = rw c.row-row.ensures at c.has_assets.ensures.0 c.if-not-has_assets.false in
-    let few : length c.args.self.now.orders < most_orders = rw (← c.self.view_is) (rw c.len.ensures.len at c.if-len-ge-MOST_ORDERS.false) in
+    let few : length c.args.self.now.orders < most_orders = rw orders_are (rw (← c.self.view_is) (rw c.len.ensures.len at c.if-len-ge-MOST_ORDERS.false)) in
     inr (lawful, inr (assets, inr (λ many. omega (arith, few, many), inr (c.is_affordable.ensures.0 c.if-not-is_affordable.false, refl))))
