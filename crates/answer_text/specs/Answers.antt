@@ -8,9 +8,12 @@ use Rattle.wire_records.specs.Commands.{Request, Command, AddAsset, OpenAccount,
 use Rattle.wire_records.specs.declared.reply.Reply.TheVariants.{Done, Asset, Account, Order, Refused}
 use Rattle.wire_records.specs.declared.reply.Refusal.{Refusal}
 use Rattle.wire_records.specs.declared.reply.Refusal.TheVariants.{UnknownTag, BadBody, AssetLimit, TickerTaken, BadTicker, AccountLimit, NoAccount, NoAsset, ZeroAmount, TotalLimit, NotFree, BadLimits, BadRate, BadCap, BadRow, OrderLimit, NoOrder, BadBudget, BatchLimit, BadLast, CreditInUse, CreditLimit}
+use Rattle.wire_records.specs.Versions.{number_of}
+use Rattle.wire_records.specs.declared.version.Version.{Version}
 use Rattle.flow_orders.specs.Outcomes.{Clearing, Skipping, Outcome, Cleared, Skipped}
 use Rattle.flow_orders.specs.Residuals.{residual_in}
 use Rattle.pair_text.specs.Texts.{◌then◌}
+use Rattle.answer_text.specs.declared.fills.FillCost.{FillCost}
 use Rattle.answer_text.specs.declared.header.Recipient.{Recipient}
 use Rattle.answer_text.specs.declared.header.Recipient.TheVariants.{Operator, Desk, All}
 use Rattle.answer_text.specs.declared.header.Heading.{Heading}
@@ -114,6 +117,37 @@ abbrev pub batch_members : List (List ℕ) → ℕ → Outcome → List ℕ
 batch_members tickers batch (Cleared c) =
     codes "\"do\":\"batch\",\"batch\":" then decimal batch then codes ",\"cleared\":true,\"prices\":{" then listed (price_member tickers c.prices) (length c.prices) then codes "}"
 batch_members tickers batch (Skipped s) = codes "\"do\":\"batch\",\"batch\":" then decimal batch then codes ",\"cleared\":false"
+
+-- an order's rate in a batch that cleared, and what it costs at the prices, in grains: nothing at a place that has none
+abbrev pub fill_at : List FillCost → ℕ → FillCost
+fill_at fills place = slice_index_or fills place (record { order = 0; rate = 0; cost = pos 0 })
+
+-- the item of an order's rate
+abbrev pub fill_item : List FillCost → ℕ → List ℕ
+fill_item fills place =
+    codes "{\"order\":" then decimal (fill_at fills place).order then codes ",\"rate\":" then decimal (fill_at fills place).rate
+    then codes ",\"cost\":\"" then signed_decimal (fill_at fills place).cost then codes "\"}"
+
+-- the members of a batch that an account is told whose orders were live in it
+abbrev pub fills_members : ℕ → List FillCost → List ℕ
+fills_members batch fills = codes "\"do\":\"batch\",\"batch\":" then decimal batch then codes ",\"fills\":[" then listed (fill_item fills) (length fills) then codes "]"
+
+-- ---- questions
+
+-- the members that answer what the market is: its version, its number of batches and its prices
+abbrev pub market_members : List (List ℕ) → Version → ℕ → List ℤ → List ℕ
+market_members tickers version batches prices =
+    codes "\"ask\":\"market\",\"version\":" then decimal (number_of version) then codes ",\"batches\":" then decimal batches
+    then codes ",\"prices\":{" then listed (price_member tickers prices) (length prices) then codes "}"
+
+-- the member of the exchange's units of an asset
+abbrev pub units_member : List (List ℕ) → List ℤ → ℕ → List ℕ
+units_member tickers units asset = ticker_text tickers asset then codes ":" then signed_decimal (slice_index_or units asset (pos 0))
+
+-- the members that answer what the exchange holds: its money in grains, and its units of each asset
+abbrev pub exchange_members : List (List ℕ) → ℤ → List ℤ → List ℕ
+exchange_members tickers money units =
+    codes "\"ask\":\"exchange\",\"money\":\"" then signed_decimal money then codes "\",\"units\":{" then listed (units_member tickers units) (length units) then codes "}"
 
 -- ---- the line of an answer
 

@@ -35,7 +35,7 @@ fn add_name(tickers: &mut TickerTable, name: &str) -> Option<()> {
 }
 
 // The table of these names.
-fn table_of(alloc: Global, names: &str, told: &mut Told) -> TickerTable {
+pub(crate) fn table_of(alloc: Global, names: &str, told: &mut Told) -> TickerTable {
     let mut tickers = TickerTable::new(alloc);
     for name in names.split_whitespace() {
         told.keep(add_name(&mut tickers, name));
@@ -52,7 +52,7 @@ fn record_in(bytes: &[u8]) -> Option<RecordView<'_>> {
 }
 
 // Prints what was appended in a row of its own, and nothing if nothing was.
-fn put_members(text: Text, put: Result<(), Memory>, told: &mut Told) {
+pub(crate) fn put_members(text: Text, put: Result<(), Memory>, told: &mut Told) {
     match put {
         Ok(()) => told.put_text(&text.whole()),
         Err(_) => told.give_up(),

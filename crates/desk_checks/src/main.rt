@@ -11,13 +11,18 @@
 //! | `echo TICKERS: TEXT` | `ask_line` in the highest version, with these tickers, `put_command` of each command | a row for each: its members; or `none` |
 //! | `reply TICKERS: RECORD` | `put_reply` of what the record answers, with these tickers | a row: its members, if there are any; or `none` |
 //! | `batch TICKERS: RECORD` | `put_cleared_batch` or `put_skipped_batch` of what the record answers | a row: its members; or `none` |
+//! | `fills BATCH FILLS:` | `put_fills` | a row: its members |
+//! | `market VERSION BATCHES PRICES TICKERS:` | `put_market` | a row: its members |
+//! | `exchange MONEY UNITS TICKERS:` | `put_exchange` | a row: its members |
 //! | `head TO NUMBER LINE ENTRY:` | `put_head`, `put_end` | a row; LINE and ENTRY may be `-` |
 //!
-//! TO is `operator`, `all` or the number of an account.
+//! TO is `operator`, `all` or the number of an account. PRICES and UNITS are numbers with commas, and FILLS such a list of orders, each as
+//! `ORDER/RATE/COST`; an empty list is `-`.
 #![tactic(auto)]
 
 mod answers;
 mod lines;
+mod values;
 
 use check_lines::{Line, Names, Told};
 use std::alloc::Global;
@@ -31,6 +36,9 @@ fn put_case(alloc: Global, words: (&str, &str), bytes: &[u8], told: &mut Told) {
         "echo" => answers::put_echo(alloc, words.1, bytes, told),
         "reply" => answers::put_answer(alloc, words.1, bytes, told),
         "batch" => answers::put_outcome(alloc, words.1, bytes, told),
+        "fills" => values::put_account_fills(alloc, words.1, told),
+        "market" => values::put_market_of(alloc, words.1, told),
+        "exchange" => values::put_exchange_of(alloc, words.1, told),
         "head" => answers::put_heading(alloc, words.1, told),
         _ => told.give_up(),
     }
