@@ -1,12 +1,14 @@
 //! A real file as a disk.
 use crate::keeping::keeps;
 use disk_edge::{Disk, DiskFailed, FileDisk, PathDisk};
-use std::alloc::AllocGlobal;
+use journal_disk::{Group, is_whole_pair};
+use std::alloc::{AllocGlobal, Global};
 use std::fs;
 use std::fs::{File, Files, OpenOptions};
 use std::os::unix::fs::symlink;
 use std::process::Abort;
 use std::test::Fail;
+use wire_records::Memory;
 
 // What was written is there when the file is opened again. A file that can't be written or that couldn't be opened fails.
 #[test]
@@ -54,12 +56,95 @@ fn file_keeps_pairs(rt: HostRuntime) -> Result<(), Fail> {
             alloc,
             &mut disk,
             b"\x02\0\0\0\0\x82\0\0\0\x01\x07",
+            &Group::new(alloc),
             want,
         );
         let mut second = PathDisk::open(&rt, path);
         assert_eq!(rt; second.sync(), Err(DiskFailed));
     }
     assert_eq!(rt; fs::read(&rt, path)?.len(), 9 + 3 * 16);
+    fs::remove_file(&rt, path)?;
+    Ok(())
+}
+
+// Puts an entry into a group, and then another one, which is the only one of the other group. That one is empty afterwards.
+fn put_two(group: &mut Group, other: &mut Group) -> Result<(), Memory> {
+    if is_whole_pair(b"\x02\0\0\0\0\x82\0\0\0\x01\x08") {
+        group.push(b"\x02\0\0\0\0\x82\0\0\0\x01\x08")?;
+    }
+    if is_whole_pair(b"\x02\0\0\0\0\x82\0\0\0\x01\x09") {
+        other.push(b"\x02\0\0\0\0\x82\0\0\0\x01\x09")?;
+    }
+    group.join(other)?;
+    other.clear();
+    group.join(other)
+}
+
+// Keeps an entry in a new file, and then a group of entries.
+fn keeps_group<R: Files<File = File> + Abort>(rt: &R, alloc: Global, path: &str, group: &Group) {
+    let none = Group::new(alloc);
+    let mut disk = PathDisk::open(rt, path);
+    keeps(
+        rt,
+        alloc,
+        &mut disk,
+        b"\x02\0\0\0\0\x82\0\0\0\x01\x07",
+        &none,
+        b"",
+    );
+    keeps(rt, alloc, &mut disk, b"", group, b"\x07");
+    keeps(rt, alloc, &mut disk, b"", &none, b"\x07\x08\x09");
+}
+
+// Compares the last bytes of the entries that are kept in a file of these bytes.
+fn keeps_of<R: Files<File = File> + Abort>(
+    rt: &R,
+    alloc: Global,
+    path: &str,
+    bytes: &[u8],
+    want: &[u8],
+) {
+    if fs::write(rt, path, bytes).is_err() {
+        assert!(rt; false, "{path}");
+    }
+    let mut disk = PathDisk::open(rt, path);
+    keeps(rt, alloc, &mut disk, b"", &Group::new(alloc), want);
+}
+
+// A group is stored as its entries would be one after the other. What a crash leaves before its first commit byte is set has
+// none of them, whatever was written after that byte.
+#[test]
+fn file_keeps_groups(rt: HostRuntime) -> Result<(), Fail> {
+    let alloc = rt.alloc();
+    let path = "groups.disk";
+    let mut group = Group::new(alloc);
+    let mut other = Group::new(alloc);
+    put_two(&mut group, &mut other)?;
+    assert_eq!(rt; group.len(), 32);
+    assert!(rt; other.is_empty());
+    keeps_group(&rt, alloc, path, &group);
+    holds(
+        &rt,
+        path,
+        b"FLOWDSK2\x01\0\0\0\x0b\x02\0\0\0\0\x82\0\0\0\x01\x07\x01\0\0\0\x0b\x02\0\0\0\0\x82\0\0\0\x01\x08\x01\0\0\0\x0b\x02\0\0\0\0\x82\0\0\0\x01\x09\0",
+    );
+    for rest in [
+        b"\0\0\0\0\x0b\x02\0\0\0\0\x82\0\0\0\x01\x08\x01\0\0\0\x0b\x02\0\0\0\0\x82\0\0\0\x01\x09\0".as_slice(),
+        b"\0\0\0\0\x0b\x02\0\0\0\0\x82\0\0\0\x01\x08\x01",
+        b"\0\x01\x01\x01",
+    ] {
+        let mut image = Vec::from_slice(
+            alloc,
+            b"FLOWDSK2\x01\0\0\0\x0b\x02\0\0\0\0\x82\0\0\0\x01\x07",
+        )?;
+        image.extend_from_slice(rest)?;
+        keeps_of(&rt, alloc, path, &image, b"\x07");
+    }
+    holds(
+        &rt,
+        path,
+        b"FLOWDSK2\x01\0\0\0\x0b\x02\0\0\0\0\x82\0\0\0\x01\x07\0",
+    );
     fs::remove_file(&rt, path)?;
     Ok(())
 }

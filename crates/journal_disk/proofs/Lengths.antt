@@ -1,11 +1,9 @@
 -- How long a sequence of disk calls leaves a disk.
-use Rattle.std.proofs.Common.{◌≡◌, ℕ, ◌+◌, ◌≤◌, List, [], ◌∷◌, ◌++◌, length, length-append, ap, arith}
+use Rattle.std.proofs.Common.{ℕ, ◌+◌, ◌≤◌, arith}
 use Rattle.disk_edge.specs.Disks.{DiskState, IsDisk, AtEachMoment}
 use Rattle.disk_edge.specs.Images.{TornWrite, After}
 use Rattle.disk_edge.proofs.Moments.{then_more, weaker, no_call, at_the_end}
-use Rattle.journal_disk.specs.Entries.{framed}
 use Rattle.journal_disk.specs.Looking.{OnlyLooks}
-use Rattle.journal_disk.proofs.Entries.{length-framed}
 use Rattle.journal_disk.specs.Lengths.{HasAtMost, ReachesAtMost}
 
 -- up to a later place
@@ -31,14 +29,9 @@ pub reach_write : (place count : ℕ) (old new : DiskState) → AtEachMoment old
 reach_write place count old new run = λ most enough short.
     weaker old new (After (TornWrite place count) old.images) (HasAtMost most) (λ image made. omega (arith, enough, short made.0 made.1, made.2.no_longer)) run
 
--- an append writes the entry after the commit byte, with another commit byte, and then sets the first
-module _ (place self : ℕ) (pair bytes : List ℕ) (old mid : DiskState) (at : place ≡ self) (filled : bytes ≡ framed pair ++ 0 ∷ []) (wrote : AtEachMoment old mid (After (TornWrite (place + 1) (length bytes)) old.images)) where
-  pub entry_reaches : ReachesAtMost (self + (6 + length pair)) old mid
-  entry_reaches =
-      reach_wider (place + 1 + length bytes) (self + (6 + length pair)) old mid
-      (omega (arith, at, ap length filled, length-append (framed pair) (0 ∷ []), length-framed pair)) (reach_write (place + 1) (length bytes) old mid wrote)
-
-  pub append_reaches : (new : DiskState) → IsDisk mid → AtEachMoment mid new (After (TornWrite place 1) mid.images) → ReachesAtMost (self + (6 + length pair)) old new
-  append_reaches new is_disk opened =
-      reach_more (self + (6 + length pair)) old mid new is_disk entry_reaches
-      (reach_wider (place + 1) (self + (6 + length pair)) mid new (omega (arith, at)) (reach_write place 1 mid new opened))
+-- an append writes its bytes after the commit byte, and then sets that byte
+pub append_reaches : (place count : ℕ) (old mid new : DiskState) → IsDisk mid → AtEachMoment old mid (After (TornWrite (place + 1) count) old.images) → AtEachMoment mid new (After (TornWrite place 1) mid.images) → ReachesAtMost (place + (1 + count)) old new
+append_reaches place count old mid new is_disk wrote opened =
+    reach_more (place + (1 + count)) old mid new is_disk
+    (reach_wider (place + 1 + count) (place + (1 + count)) old mid (omega arith) (reach_write (place + 1) count old mid wrote))
+    (reach_wider (place + 1) (place + (1 + count)) mid new (omega arith) (reach_write place 1 mid new opened))

@@ -2,6 +2,7 @@ pub mod Entries
 pub mod Lengths
 pub mod OneList
 mod Appending
+mod Grouping
 pub mod Opening
 mod Beginning
 pub mod PairBytes

@@ -1,5 +1,6 @@
 pub mod Pairs
 pub mod Entries
+pub mod Groups
 pub mod Looking
 pub mod Lengths
 pub mod Recovering

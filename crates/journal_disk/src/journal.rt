@@ -1,4 +1,4 @@
-ghost use Rattle.std.specs.Prelude.{◌≡◌, ◌≢◌, ◌⊎◌, ◌≤◌, ◌<◌, ◌+◌, ◌^◌, [], ◌∷◌, ℕ, List, length, IfSome, IsSome, ◌↔◌, IfOk, IfErr, IsErrOf, Err, OnOk, OnErr};
+ghost use Rattle.std.specs.Prelude.{◌≡◌, ◌≢◌, ◌⊎◌, ◌≤◌, ◌<◌, ◌+◌, ◌^◌, [], ◌∷◌, ℕ, List, length, IfSome, IsSome, ◌↔◌, IsTrue, IfOk, IfErr, IsErrOf, Err, OnOk, OnErr};
 ghost use Rattle.journal_disk.specs.Pairs.{RecordPair, IsRecordPair, pair_bytes, IsWholePair};
 ghost use Rattle.disk_edge.specs.Disks.{AtEachMoment};
 ghost use Rattle.journal_disk.specs.Entries.{Head, StandsFor, Holds, EndsAt, Keeps};
@@ -25,7 +25,7 @@ use wire_records::Version;
 pub(crate) const MOST_BYTES: u64 = 1 << 60;
 
 // The most bytes that may follow the commit byte after the last entry. A crash leaves there no more than was being
-// written: an entry with its length and a commit byte, which are at most 263,183 bytes.
+// written: an entry with its length and a commit byte, which are at most 263,183 bytes, or a group of at most so many.
 const MOST_UNKEPT: u64 = 1 << 21;
 
 /// Opens a disk that a crash may have left, after a sync, and returns its version; `None` exactly if it is new, which
@@ -80,6 +80,13 @@ impl DiskJournal {
         ensures { result ≡ 8 }
     {
         DiskJournal { place: 8 }
+    }
+
+    /// Returns whether the reading is before the disk's first entry.
+    pub fn is_first(&self) -> bool
+        ensures { IsTrue result ↔ (self.now ≡ 8) }
+    {
+        self.place == 8
     }
 
     /// Reads the next commit byte, and reads ahead what follows it if it is set: then it returns the stated length of

@@ -17,17 +17,20 @@
 //! copies its bytes. [`DiskJournal::begin`] cuts off what follows that commit byte. [`Appender::append`] then appends
 //! an entry: it writes its length, the entry and another unset commit byte after the unset one, and syncs; then it sets
 //! the older commit byte, and syncs. So a crash at any moment leaves the entries that were kept, with this one or
-//! without, and once the call has returned Ok, with it. The content of an entry's two records isn't read, only that
-//! they are within a journal's limits; [`is_whole_pair`] says whether bytes are such an entry.
+//! without, and once the call has returned Ok, with it. [`Appender::append_group`] appends the entries of a [`Group`] in
+//! the same way, by one write and the same two syncs: the commit bytes between them are written as set ones, and the one
+//! before them is set at the end. So a crash leaves all of them or none. The content of an entry's two records isn't
+//! read, only that they are within a journal's limits; [`is_whole_pair`] says whether bytes are such an entry.
 //!
 //! After any fault the disk is to be opened again.
 //!
 //! # Costs
 //!
 //! Entries are read in pieces of 65,536 bytes, so one costs its bytes and a share of such a piece; one that is appended
-//! costs its bytes and two writes with a sync each. Reading takes memory for a piece, which grows to the longest entry
-//! and which [`Ahead::forget`] gives back, and `next` for the entry in the caller's buffer too; beginning takes an
-//! appender's buffer of 263,183 bytes; opening and appending take none.
+//! costs its bytes and two writes with a sync each, and so does a group of them. Reading takes memory for a piece, which
+//! grows to the longest entry and which [`Ahead::forget`] gives back, and `next` for the entry in the caller's buffer
+//! too; beginning takes an appender's buffer of 263,183 bytes; a group takes memory for its entries, with 5 bytes more
+//! for each; opening and appending take none.
 #![tactic(auto)]
 
 mod ahead;
@@ -35,6 +38,7 @@ mod appender;
 mod calls;
 mod fault;
 mod first;
+mod group;
 mod journal;
 pub mod laws;
 mod magic;
@@ -45,5 +49,6 @@ pub use ahead::Ahead;
 pub use appender::Appender;
 pub use fault::{DiskFault, Step};
 pub use first::stored_first;
+pub use group::Group;
 pub use journal::{DiskJournal, recover};
 pub use pairs::is_whole_pair;
