@@ -1,43 +1,34 @@
 -- A disk that entries were added to, and then more: what a crash leaves at each moment and at the return.
-use Rattle.std.proofs.Common.{◌≡◌, ◌⊎◌, inl, inr, ℕ, ◌+◌, ◌≤◌, List, [], ◌∷◌, ◌++◌, Option, IfSome, length, length-append, take, map, refl, sym, ap, subst, ◌∙◌, arith, append_assoc}
+use Rattle.std.proofs.Common.{◌≡◌, ◌⊎◌, inl, inr, ℕ, ◌+◌, ◌≤◌, List, ◌++◌, IsSome, All, length, length-append, take, map, sym, ap, subst, ◌∙◌, arith, append_assoc}
 use Rattle.std.proofs.Math.Seq.{take-append-add, take-append_seam}
 use Rattle.wire_records.specs.Versions.{IsReadAs}
+use Rattle.wire_records.proofs.Readings.{reading_unique}
 use Rattle.canonical_rule.specs.Canonical.{IsCanonicalOutcome}
+use Rattle.journal_records.specs.Pairs.{IsPair}
 use Rattle.journal_records.specs.Formats.{records_of}
 use Rattle.market_rules.specs.Market.{Market}
 use Rattle.market_rules.specs.Journal.{Follows}
+use Rattle.market_rules.proofs.OneJournal.{follows-append}
 use Rattle.market_history.specs.Histories.{Start}
 use Rattle.disk_edge.specs.Disks.{DiskState}
 use Rattle.disk_edge.proofs.Moments.{weaker, then_more}
-use Rattle.journal_disk.specs.Entries.{entries, IsNewDisk, Keeps}
-use Rattle.journal_disk.proofs.OneList.{new_none, few_first, few_none}
+use Rattle.journal_disk.specs.Entries.{Keeps}
 use Rattle.journal_keeping.specs.Starts.{head_of}
 use Rattle.journal_keeping.specs.Keeping.{IsKeptJournal, StandsForJournal, GoesOn, KeepsFirst, IsStillNew, DuringCall, Runs}
 use Rattle.journal_keeping.specs.Serving.{HasKept}
-use Rattle.journal_keeping.proofs.Legal.{more_pairs_stay}
-use Rattle.journal_keeping.specs.Private.{HasAdded}
+use Rattle.journal_keeping.specs.Private.{KeepsMore, HasAdded}
+use Rattle.journal_keeping.proofs.Legal.{more_pairs_stay, first_wider}
+use Rattle.journal_keeping.proofs.Serving.{kept_stands, new_stands, kept_more}
 use Rattle.journal_keeping.proofs.Turns.{Pairs}
-
--- entries one after the other, and more
-follows_join : (old : Market) (pairs : Pairs) (mid : Market) (more : Pairs) (new : Market) → Follows IsReadAs IsCanonicalOutcome old pairs mid → Follows IsReadAs IsCanonicalOutcome mid more new → Follows IsReadAs IsCanonicalOutcome old (pairs ++ more) new
-follows_join old [] mid more new first second = subst (λ (m : Market). Follows IsReadAs IsCanonicalOutcome m more new) first second
-follows_join old (p ∷ pairs) mid more new first second = (first.0, first.1, follows_join first.0 pairs mid more new first.2 second)
 
 module _ (begin : Start) (start mid : DiskState) (old new : Pairs) (before m : Market) (place : ℕ) (kept : HasKept begin start mid old before place new m) where
   -- what a crash leaves of a disk that keeps entries represents them
   stands : (image : List ℕ) → mid.images image → StandsForJournal begin (old ++ new) image
-  stands image left =
-      let keeps = kept.keeps in
-      inr (record { lawful = keeps.2.lawful; each = keeps.2.each; commit = keeps.0; shut = keeps.1; rest = []; few = omega arith; encoded = keeps.2.durable image left })
+  stands image left = kept_stands begin (map records_of (old ++ new)) place mid image kept.keeps left
 
   -- also if it is new
   still_stands : (image : List ℕ) → IsStillNew mid image → StandsForJournal begin (old ++ new) image
-  still_stands image still =
-      let keeps = kept.keeps in
-      let pairs = map records_of (old ++ new) in
-      let few = new_none (head_of begin) pairs (entries (head_of begin) pairs ++ keeps.0 ∷ []) (subst (λ (o : Option (List ℕ)). IfSome o IsNewDisk) keeps.2.content still.0)
-      (record { lawful = keeps.2.lawful; each = keeps.2.each; commit = keeps.0; shut = keeps.1; rest = []; few = omega arith; encoded = refl }) in
-      inl (still.1, few_first (head_of begin) pairs few, few_none (head_of begin) pairs few)
+  still_stands image still = new_stands begin (old ++ new) place mid image kept.keeps still
 
   module _ (more : Pairs) where
     -- the new entries, and none of those after them
@@ -54,7 +45,7 @@ module _ (begin : Start) (start mid : DiskState) (old new : Pairs) (before m : M
     )
 
     wider : (least most low high : ℕ) (image : List ℕ) → low ≤ least → most ≤ high → KeepsFirst begin old (new ++ more) least most image → KeepsFirst begin old (new ++ more) low high image
-    wider least most low high image below above keeps = (keeps.0, omega (arith, keeps.1, below), omega (arith, keeps.2, above), keeps.3)
+    wider = first_wider begin old (new ++ more)
 
     -- during the first call
     before_left : (image : List ℕ) → start.images image ⊎ (KeepsFirst begin old new 0 (length new) image ⊎ IsStillNew start image)
@@ -74,18 +65,18 @@ module _ (begin : Start) (start mid : DiskState) (old new : Pairs) (before m : M
     during_both now during = then_more start mid now _ (weaker start mid _ _ before_left kept.during) (weaker mid now _ _ after_left during)
 
     returned_left : (most acknowledged : ℕ) (image : List ℕ)
-        → (mid.images image × (acknowledged ≡ 0)) ⊎ (KeepsFirst begin (old ++ new) more acknowledged (acknowledged + most) image ⊎ (IsStillNew mid image × (acknowledged ≡ 0)))
-        → KeepsFirst begin old (new ++ more) (length new + acknowledged) (length new + acknowledged + most) image
-    returned_left most acknowledged image (inl early) =
-        wider (length new) (length new) (length new + acknowledged) (length new + acknowledged + most) image (omega (arith, early.1)) (omega arith) (first_of image (stands image early.0))
-    returned_left most acknowledged image (inr (inl first)) =
-        wider (length new + acknowledged) (length new + (acknowledged + most)) (length new + acknowledged) (length new + acknowledged + most) image (omega arith) (omega arith) (later_first acknowledged (acknowledged + most) image first)
-    returned_left most acknowledged image (inr (inr still)) =
-        wider (length new) (length new) (length new + acknowledged) (length new + acknowledged + most) image (omega (arith, still.1)) (omega arith) (first_of image (still_stands image still.0))
+        → (mid.images image × (acknowledged ≡ 0))
+        ⊎ ((KeepsFirst begin (old ++ new) more acknowledged acknowledged image ⊎ KeepsFirst begin (old ++ new) more (length more) (acknowledged + most) image) ⊎ (IsStillNew mid image × (acknowledged ≡ 0)))
+        → KeepsFirst begin old (new ++ more) (length new + acknowledged) (length new + acknowledged) image ⊎ KeepsFirst begin old (new ++ more) (length (new ++ more)) (length new + acknowledged + most) image
+    returned_left most acknowledged image (inl early) = inl (wider (length new) (length new) (length new + acknowledged) (length new + acknowledged) image (omega (arith, early.1)) (omega arith) (first_of image (stands image early.0)))
+    returned_left most acknowledged image (inr (inl (inl none))) = inl (later_first acknowledged acknowledged image none)
+    returned_left most acknowledged image (inr (inl (inr all))) =
+        inr (wider (length new + length more) (length new + (acknowledged + most)) (length (new ++ more)) (length new + acknowledged + most) image (omega (arith, length-append new more)) (omega arith) (later_first (length more) (acknowledged + most) image all))
+    returned_left most acknowledged image (inr (inr still)) = inl (wider (length new) (length new) (length new + acknowledged) (length new + acknowledged) image (omega (arith, still.1)) (omega arith) (first_of image (still_stands image still.0)))
 
     pub goes_both : (after : Market) → GoesOn begin (old ++ new) m more after → GoesOn begin old before (new ++ more) after
     goes_both after goes = record {
-      steps = follows_join before new m more after kept.goes_on.steps goes.steps;
+      steps = follows-append IsReadAs reading_unique IsCanonicalOutcome before m after new more kept.goes_on.steps goes.steps;
       journal = subst (λ (l : Pairs). IsKeptJournal begin l after) (append_assoc old new more) goes.journal;
     }
 
@@ -115,3 +106,13 @@ added_more start mid now before m after from place later new more first second =
       kept_both begin start mid old new before m place kept more now after later (second.kept begin (old ++ new) kept.goes_on.journal kept.keeps);
   told = λ some. first.told (second.told some);
 }
+
+-- entries were added, and then more of them together
+pub added_together : (start now next : DiskState) (before market after : Market) (from place later : ℕ) (new more : Pairs)
+    → HasAdded start now before market from place new → All IsPair more → Follows IsReadAs IsCanonicalOutcome market more after
+    → KeepsMore more place later now next → (IsSome next.content → IsSome now.content) → HasAdded start next before after from later (new ++ more)
+added_together start now next before market after from place later new more so fits steps keeps told =
+    added_more start now next before market after from place later new more so (record {
+      kept = λ begin old is at. kept_more begin old more market after is fits steps now next (keeps.moments (head_of begin) (map records_of old) at) later (keeps.keeps (head_of begin) (map records_of old) at);
+      told = told;
+    })

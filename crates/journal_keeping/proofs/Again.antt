@@ -22,7 +22,9 @@ can_begin_again start end = record {
   during = λ begin of old new market before after holds on run image left.
       ⊎_elim (λ early. holds.each image early) (λ later. ⊎_elim (λ keeps. firsts_are_legal of old new before after 0 (length new) image on keeps) (λ still. new_is_legal image still.1) later) (run.each image left);
   returned = λ begin of old new market before after most acknowledged holds on returns image left.
-      ⊎_elim (λ early. holds.each image early.0) (λ later. ⊎_elim (λ keeps. firsts_are_legal of old new before after acknowledged (acknowledged + most) image on keeps) (λ still. new_is_legal image still.0.1) later) (returns image left);
+      ⊎_elim (λ early. holds.each image early.0)
+      (λ later.
+      ⊎_elim (⊎_elim (firsts_are_legal of old new before after acknowledged acknowledged image on) (firsts_are_legal of old new before after (length new) (acknowledged + most) image on)) (λ still. new_is_legal image still.0.1) later) (returns image left);
   opened = λ limit count content few brings short grows again image left opens is.
       let legal = again.stopped image left in
       let size = (grows (2 ^ 59) count (omega arith) short brings).each image left in

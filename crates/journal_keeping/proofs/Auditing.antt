@@ -1,13 +1,16 @@
 -- Auditing the entries that a disk keeps, one after the other: none yet, one more, and one that isn't valid.
-use Rattle.std.proofs.Common.{◌≡◌, ◌⊎◌, ⊎_elim, ℕ, ◌+◌, length-append, List, [], ◌∷◌, ◌++◌, Option, Some, None, IfSome, length, map, sym, ap, subst, ◌∙◌, arith}
+use Rattle.std.proofs.Common.{◌≡◌, ◌⊎◌, ⊎_elim, ℕ, ◌+◌, length-append, List, [], ◌∷◌, ◌++◌, Option, Some, None, IfSome, length, map, refl, sym, ap, subst, ◌∙◌, arith}
 use Rattle.std.proofs.lemmas.List.{map-append}
 use Rattle.std.proofs.lemmas.List.Elements.{All-append, All-cons, All-nil}
 use Rattle.wire_records.specs.Records.{Record}
 use Rattle.wire_records.specs.Commands.{Pair}
-use Rattle.flow_orders.specs.Outcomes.{Outcome}
+use Rattle.wire_records.specs.Versions.{IsReadAs}
+use Rattle.wire_records.proofs.Readings.{reading_unique}
+use Rattle.flow_orders.specs.Outcomes.{Outcome, IsAdmissibleOutcome}
 use Rattle.journal_records.specs.Pairs.{IsPair}
 use Rattle.journal_records.specs.Formats.{records_of}
 use Rattle.market_rules.specs.Market.{Market}
+use Rattle.market_rules.proofs.OneJournal.{follows-append}
 use Rattle.market_history.specs.Histories.{Start, market_of, CanStart}
 use Rattle.batch_audit.specs.Legal.{IsLegalPair, IsIllegalPair}
 use Rattle.disk_edge.specs.Disks.{DiskState}
@@ -23,7 +26,6 @@ use Rattle.journal_keeping.specs.Faults.{of_disk}
 use Rattle.journal_keeping.specs.Auditing.{StopsAs}
 use Rattle.journal_keeping.specs.declared.fault.OpenFault.TheVariants.{Damaged, Rejected, Memory}
 use Rattle.journal_keeping.specs.declared.fault.OpenFault.{OpenFault}
-use Rattle.journal_keeping.proofs.Serving.{right_more}
 
 abbrev Pairs : Type 0
 Pairs = List (Pair Record Outcome)
@@ -50,7 +52,7 @@ module _ (begin : Start) where
         record {
           starts = is.starts;
           each = All-append IsPair legal (pair ∷ []) is.each (All-cons IsPair pair [] fits (All-nil IsPair));
-          steps = right_more (market_of begin) legal old pair new is.steps one.step;
+          steps = follows-append IsReadAs reading_unique IsAdmissibleOutcome (market_of begin) old new legal (pair ∷ []) is.steps (new, one.step, refl);
         },
         omega (arith, length-append legal (pair ∷ [])),
         ap (λ (r : Record). map records_of legal ++ (p.0, r) ∷ []) one.encoded.encoded ∙ sym (map-append records_of legal (pair ∷ [])),

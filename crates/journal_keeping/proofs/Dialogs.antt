@@ -1,5 +1,5 @@
 -- What a call does, whatever its input is, from what its parts did: nothing, or entries that were added until it stopped.
-use Rattle.std.proofs.Common.{◌≡◌, ℕ, ◌+◌, List, [], ◌++◌, Option, length, map, take, sym, subst}
+use Rattle.std.proofs.Common.{◌≡◌, ℕ, List, [], ◌++◌, Option, length, map, take, sym, subst}
 use Rattle.std.proofs.Math.Seq.{take-append_seam}
 use Rattle.journal_records.specs.Formats.{records_of}
 use Rattle.market_rules.specs.Market.{Market}

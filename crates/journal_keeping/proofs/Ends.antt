@@ -1,5 +1,5 @@
 -- How serving records onto a disk ends.
-use Rattle.std.proofs.Common.{◌≡◌, inl, inr, ℕ, ◌+◌, ◌≤◌, List, [], ◌∷◌, ◌++◌, Option, Result, Err, IsSome, length, map, take, flat_map, refl, sym, subst}
+use Rattle.std.proofs.Common.{◌≡◌, inl, inr, ℕ, ◌+◌, ◌≤◌, List, [], ◌∷◌, ◌++◌, Option, Result, Err, IsSome, length, map, take, flat_map, refl, sym, subst, arith}
 use Rattle.std.specs.Prelude.{⊤}
 use Rattle.std.proofs.lemmas.List.{append-nil, map-append}
 use Rattle.flow_io.specs.Streams.{Grows}
@@ -24,9 +24,10 @@ use Rattle.journal_disk.specs.Entries.{Head, WithOrWithout, Keeps}
 use Rattle.journal_keeping.specs.declared.fault.ServeFault.{ServeFault}
 use Rattle.journal_keeping.specs.declared.fault.ServeFault.TheVariants.{Disk, Write, Memory}
 use Rattle.journal_keeping.specs.Outputs.{Output, Gains}
-use Rattle.journal_keeping.specs.Private.{KeepsOneMore, HasAdded, IsServed, BreaksNext, Adds, Names, IfEnded, ServesOn}
-use Rattle.journal_keeping.proofs.Turns.{Pairs, added_one}
+use Rattle.journal_keeping.specs.Private.{KeepsMore, HasAdded, IsServed, BreaksNext, Adds, Names, IfEnded, ServesOn}
+use Rattle.journal_keeping.proofs.Turns.{Pairs, one_fits}
 use Rattle.journal_keeping.proofs.Gaining.{gains_wider, gains_more, gained_whole, joined}
+use Rattle.journal_keeping.proofs.Adding.{added_together}
 use Rattle.journal_keeping.proofs.Stopping.{stops_after, stops_failed}
 
 -- the texts of entries, and of one more
@@ -65,7 +66,7 @@ module _ (window : WindowState) (rest left : Option (List ℕ)) (start now : Dis
 
   -- it ended at an entry that wasn't kept
   pub serves_failed : (next : DiskState) (after : Market) (pair : Pair Record Outcome) (bytes : List ℕ) → IsDisk next → IsServed bytes market pair after
-      → ((head : Head) (pairs : List RecordPair) → Keeps head pairs place now → AtEachMoment now next (WithOrWithout head pairs (records_of pair)))
+      → ((head : Head) (pairs : List RecordPair) → Keeps head pairs place now → AtEachMoment now next (WithOrWithout head pairs (records_of pair ∷ [])))
       → Goes market (pair ∷ []) (Err (Broken Disk)) → ServesOn window rest left (Err (Broken Disk)) before from start next out later
   serves_failed next after pair bytes is_disk served moments goes = record {
     read = new;
@@ -75,14 +76,14 @@ module _ (window : WindowState) (rest left : Option (List ℕ)) (start now : Dis
     all = refl;
     market = market;
     goes = goes;
-    stops = stops_failed _ _ start now before market from place new so out later (map pair_encoding new) (gained _) refl next after pair is_disk served.fits served.step moments;
+    stops = stops_failed _ _ start now before market from place new so out later (map pair_encoding new) (gained _) refl next after (pair ∷ []) is_disk (one_fits pair served.fits) (after, served.step, refl) (omega arith) moments;
     written = whole;
     ended = tt;
   }
 
   -- it ended at an entry that was kept, but not written completely
   pub serves_cut : (next : DiskState) (after : Market) (to : ℕ) (last : Output) (pair : Pair Record Outcome) (bytes : List ℕ) → IsServed bytes market pair after
-      → KeepsOneMore pair place to now next → (IsSome next.content → IsSome now.content) → Gains ⊤ later last (pair_encoding pair ∷ [])
+      → KeepsMore (pair ∷ []) place to now next → (IsSome next.content → IsSome now.content) → Gains ⊤ later last (pair_encoding pair ∷ [])
       → Goes after (pair ∷ []) (Err (Broken Write)) → ServesOn window rest left (Err (Broken Write)) before from start next out last
   serves_cut next after to last pair bytes served keeps known cut goes =
       let all = new ++ pair ∷ [] in
@@ -94,7 +95,7 @@ module _ (window : WindowState) (rest left : Option (List ℕ)) (start now : Dis
         all = append-nil all;
         market = after;
         goes = goes;
-        stops = stops_after _ _ start next before after from to all (added_one start now next before market after from place to new pair so served.fits served.step keeps known) out last (map pair_encoding all)
+        stops = stops_after _ _ start next before after from to all (added_together start now next before market after from place to new (pair ∷ []) so (one_fits pair served.fits) (after, served.step, refl) keeps known) out last (map pair_encoding all)
             (gains_wider ⊤ _ out last (map pair_encoding all) (λ _. refl) (told_more ⊤ out later last new pair told cut));
         written = (
           joined cut.whole ++ take cut.count (joined cut.last),

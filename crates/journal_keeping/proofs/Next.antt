@@ -22,7 +22,7 @@ use Rattle.journal_keeping.specs.declared.fault.ServeFault.{ServeFault}
 use Rattle.journal_keeping.specs.declared.fault.ServeFault.TheVariants.{Disk, Write}
 use Rattle.journal_keeping.specs.Lengths.{longest_stored_entry}
 use Rattle.journal_keeping.specs.Outputs.{Output, Gains}
-use Rattle.journal_keeping.specs.Private.{KeepsOneMore, IsServed, TakesNext, BreaksNext, HasAllocating}
+use Rattle.journal_keeping.specs.Private.{KeepsMore, IsServed, TakesNext, BreaksNext, HasAllocating}
 use Rattle.journal_keeping.proofs.Turns.{is_record_pair, same_bytes, is_whole}
 
 -- a record takes at least five bytes, and no more than there are
@@ -56,7 +56,7 @@ module _ (n : ℕ) (bytes : List ℕ) (old new : Market) (text : List ℕ) (one 
   pub their_bytes : text ≡ pair_bytes (records_of pair_of)
   their_bytes = one.step.encoded ∙ same_bytes pair_of
 
-  pub takes : (from to : ℕ) (disk later : DiskState) (out after : Output) → KeepsOneMore pair_of from to disk later → (IsSome later.content → IsSome disk.content) → Gains ⊥ out after (text ∷ []) → TakesNext n bytes old new from to disk later out after
+  pub takes : (from to : ℕ) (disk later : DiskState) (out after : Output) → KeepsMore (pair_of ∷ []) from to disk later → (IsSome later.content → IsSome disk.content) → Gains ⊥ out after (text ∷ []) → TakesNext n bytes old new from to disk later out after
   takes from to disk later out after keeps told gained = record {
     pair = pair_of;
     served = record { lawful = one.lawful; rest = drop n bytes; prefix = one.prefix; step = one.step.step; fits = fits };
@@ -82,12 +82,12 @@ module _ (n : ℕ) (bytes : List ℕ) (old new : Market) (text : List ℕ) (one 
 
   -- the entry wasn't kept, or not written completely
   pub breaks : (from to : ℕ) (disk later : DiskState) (out after : Output) (SameDisk : Type 0) (fault : ServeFault) → (fault ≡ Disk) ⊎ (fault ≡ Write) → (fault ≡ Disk → after ≡ out)
-      → ((head : Head) (pairs : List RecordPair) → Keeps head pairs from disk → AtEachMoment disk later (WithOrWithout head pairs (records_of pair_of)))
-      → (fault ≡ Write → (head : Head) (pairs : List RecordPair) → Keeps head pairs from disk → Keeps head (pairs ++ records_of pair_of ∷ []) to later) → (fault ≡ Write → IsSome later.content → IsSome disk.content)
+      → ((head : Head) (pairs : List RecordPair) → Keeps head pairs from disk → AtEachMoment disk later (WithOrWithout head pairs (records_of pair_of ∷ [])))
+      → (fault ≡ Write → KeepsMore (pair_of ∷ []) from to disk later) → (fault ≡ Write → IsSome later.content → IsSome disk.content)
       → (fault ≡ Write → Gains ⊤ out after (text ∷ [])) → BreaksNext bytes old from to disk later out after SameDisk fault
   breaks from to disk later out after SameDisk fault refused silent moments keeps told cut =
       ⊎_elim
       (λ (is : fault ≡ Disk). subst (λ (f : ServeFault). BreaksNext bytes old from to disk later out after SameDisk f) (sym is) (silent is, pair_of, new, served, moments))
       (λ (is : fault ≡ Write). subst (λ (f : ServeFault). BreaksNext bytes old from to disk later out after SameDisk f) (sym is)
-      (pair_of, new, served, record { keeps = keeps is; moments = moments }, told is, subst (λ (l : List ℕ). Gains ⊤ out after (l ∷ [])) one.step.encoded (cut is)))
+      (pair_of, new, served, keeps is, told is, subst (λ (l : List ℕ). Gains ⊤ out after (l ∷ [])) one.step.encoded (cut is)))
       refused

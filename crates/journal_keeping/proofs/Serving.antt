@@ -1,17 +1,19 @@
--- The loop that serves and keeps: nothing yet, one more, and one that broke off.
-use Rattle.std.proofs.Common.{◌≡◌, ◌⊎◌, inl, inr, ℕ, ◌+◌, List, [], ◌∷◌, ◌++◌, Option, IfSome, length, take, map, refl, sym, ap, subst, ◌∙◌, arith, length-append, append_assoc}
-use Rattle.std.proofs.lemmas.List.{append-nil, take_all, take-append-le, map-append}
-use Rattle.std.proofs.lemmas.List.Elements.{All-append, All-cons, All-nil}
+-- What a disk went through: entries that are kept together after those that it keeps, or that weren't, and runs that ended.
+use Rattle.std.proofs.Common.{◌≡◌, ◌⊎◌, inl, inr, ℕ, ◌+◌, ◌≤◌, List, [], ◌∷◌, ◌++◌, Option, IfSome, All, length, map, refl, sym, subst, arith}
+use Rattle.std.proofs.lemmas.List.{append-nil, take_all, map-append}
+use Rattle.std.proofs.lemmas.List.Elements.{All-append}
 use Rattle.journal_records.specs.Pairs.{IsPair}
 use Rattle.wire_records.specs.Records.{Record}
 use Rattle.wire_records.specs.Commands.{Pair}
 use Rattle.wire_records.specs.Versions.{IsReadAs}
+use Rattle.wire_records.proofs.Readings.{reading_unique}
 use Rattle.flow_orders.specs.Outcomes.{Outcome, IsAdmissibleOutcome}
 use Rattle.canonical_rule.specs.Canonical.{IsCanonicalOutcome}
 use Rattle.journal_records.specs.Formats.{records_of}
 use Rattle.market_rules.specs.Market.{Market}
 use Rattle.market_history.specs.Histories.{Start, market_of}
-use Rattle.market_rules.specs.Journal.{Step, Follows}
+use Rattle.market_rules.specs.Journal.{Follows}
+use Rattle.market_rules.proofs.OneJournal.{follows-append}
 use Rattle.disk_edge.specs.Disks.{DiskState, IsDisk, AtEachMoment}
 use Rattle.disk_edge.proofs.Moments.{weaker, then_more, at_the_end}
 use Rattle.journal_disk.specs.Pairs.{RecordPair}
@@ -20,29 +22,20 @@ use Rattle.journal_disk.proofs.OneList.{new_none, few_first, few_none}
 use Rattle.journal_keeping.specs.Starts.{head_of}
 use Rattle.journal_keeping.specs.Keeping.{IsKeptJournal, StandsForJournal, GoesOn, KeepsFirst, IsStillNew, DuringCall, AtReturn, Runs}
 use Rattle.journal_keeping.specs.Beginning.{WhileOpening}
-use Rattle.journal_keeping.specs.Serving.{HasKept, IsNext}
-use Rattle.journal_keeping.proofs.Legal.{more_pairs_stay}
+use Rattle.journal_keeping.specs.Serving.{HasKept}
+use Rattle.journal_keeping.proofs.Legal.{first_wider, canonical_are_admissible}
 
 abbrev Pairs : Type 0
 Pairs = List (Pair Record Outcome)
 
--- the steps of some entries, and of one more
-follows_more : (old : Market) (pairs : Pairs) (mid : Market) (pair : Pair Record Outcome) (new : Market) → Follows IsReadAs IsCanonicalOutcome old pairs mid → IsNext mid pair new → Follows IsReadAs IsCanonicalOutcome old (pairs ++ pair ∷ []) new
-follows_more old [] mid pair new follows next = (new, subst (λ (m : Market). IsNext m pair new) follows next, refl)
-follows_more old (p ∷ pairs) mid pair new follows next = (follows.0, follows.1, follows_more follows.0 pairs mid pair new follows.2 next)
-
-pub right_more : (old : Market) (pairs : Pairs) (mid : Market) (pair : Pair Record Outcome) (new : Market) → Follows IsReadAs IsAdmissibleOutcome old pairs mid → Step IsReadAs IsAdmissibleOutcome mid pair.asked pair.answer new → Follows IsReadAs IsAdmissibleOutcome old (pairs ++ pair ∷ []) new
-right_more old [] mid pair new follows next = (new, subst (λ (m : Market). Step IsReadAs IsAdmissibleOutcome m pair.asked pair.answer new) follows next, refl)
-right_more old (p ∷ pairs) mid pair new follows next = (follows.0, follows.1, right_more follows.0 pairs mid pair new follows.2 next)
-
 module _ (begin : Start) where
   -- a disk that keeps entries leaves an image that represents them
-  kept_stands : (pairs : List RecordPair) (place : ℕ) (disk : DiskState) (image : List ℕ) → Keeps (head_of begin) pairs place disk → disk.images image → StandsFor (head_of begin) pairs image
+  pub kept_stands : (pairs : List RecordPair) (place : ℕ) (disk : DiskState) (image : List ℕ) → Keeps (head_of begin) pairs place disk → disk.images image → StandsFor (head_of begin) pairs image
   kept_stands pairs place disk image keeps left =
       inr (record { lawful = keeps.2.lawful; each = keeps.2.each; commit = keeps.0; shut = keeps.1; rest = []; few = omega arith; encoded = keeps.2.durable image left })
 
   -- while a new disk stays new, it represents the old entries if the call began with them: there are none
-  new_stands : (old : Pairs) (place : ℕ) (disk : DiskState) (image : List ℕ) → Keeps (head_of begin) (map records_of old) place disk → IsStillNew disk image → StandsForJournal begin old image
+  pub new_stands : (old : Pairs) (place : ℕ) (disk : DiskState) (image : List ℕ) → Keeps (head_of begin) (map records_of old) place disk → IsStillNew disk image → StandsForJournal begin old image
   new_stands old place disk image keeps still =
       let pairs = map records_of old in
       let few = new_none (head_of begin) pairs (entries (head_of begin) pairs ++ keeps.0 ∷ []) (subst (λ (o : Option (List ℕ)). IfSome o IsNewDisk) keeps.2.content still.0)
@@ -50,8 +43,15 @@ module _ (begin : Start) where
       inl (still.1, few_first (head_of begin) pairs few, few_none (head_of begin) pairs few)
 
   -- the old entries, and none of the new ones
+  none_of : (old new : Pairs) (image : List ℕ) → StandsForJournal begin old image → KeepsFirst begin old new 0 0 image
+  none_of old new image stands = (0, omega arith, omega arith, subst (λ (l : Pairs). StandsForJournal begin l image) (sym (append-nil old)) stands)
+
+  -- the old entries, and all new ones
+  all_of : (old new : Pairs) (image : List ℕ) → StandsForJournal begin (old ++ new) image → KeepsFirst begin old new (length new) (length new) image
+  all_of old new image stands = (length new, omega arith, omega arith, subst (λ (l : Pairs). StandsForJournal begin (old ++ l) image) (sym (take_all (length new) new (omega arith))) stands)
+
   first_of : (old new : Pairs) (image : List ℕ) → StandsForJournal begin old image → KeepsFirst begin old new 0 (length new) image
-  first_of old new image stands = (0, omega arith, omega arith, subst (λ (l : Pairs). StandsForJournal begin l image) (sym (append-nil old)) stands)
+  first_of old new image stands = first_wider begin old new 0 0 0 (length new) image (omega arith) (omega arith) (none_of old new image stands)
 
   -- what a crash leaves during a call of which no entry is kept yet
   opened_left : (start : DiskState) (old new : Pairs) (image : List ℕ) → WhileOpening begin start old image → start.images image ⊎ (KeepsFirst begin old new 0 (length new) image ⊎ IsStillNew start image)
@@ -63,40 +63,19 @@ module _ (begin : Start) where
   opened_during start now old new opens = weaker start now _ _ (opened_left start old new) opens
 
   -- what it leaves after one
-  returned_left : (most : ℕ) (start : DiskState) (old : Pairs) (image : List ℕ) → WhileOpening begin start old image → (start.images image × (◌≡◌ {A = ℕ} 0 0)) ⊎ (KeepsFirst begin old [] 0 (0 + most) image ⊎ (IsStillNew start image × (◌≡◌ {A = ℕ} 0 0)))
+  abbrev Returned : (most : ℕ) → DiskState → (old new : Pairs) → ℕ → List ℕ → Type 0
+  Returned most start old new acknowledged image =
+      (start.images image × (acknowledged ≡ 0))
+      ⊎ ((KeepsFirst begin old new acknowledged acknowledged image ⊎ KeepsFirst begin old new (length new) (acknowledged + most) image) ⊎ (IsStillNew start image × (acknowledged ≡ 0)))
+
+  returned_left : (most : ℕ) (start : DiskState) (old : Pairs) (image : List ℕ) → WhileOpening begin start old image → Returned most start old [] 0 image
   returned_left most start old image (inl early) = inl (early, refl)
-  returned_left most start old image (inr (inl stands)) = inr (inl (0, omega arith, omega arith, subst (λ (l : Pairs). StandsForJournal begin l image) (sym (append-nil old)) stands))
+  returned_left most start old image (inr (inl stands)) = inr (inl (inl (none_of old [] image stands)))
   returned_left most start old image (inr (inr still)) = inr (inr (still, refl))
 
   -- no record yet
   pub goes_none : (old : Pairs) (before : Market) → IsKeptJournal begin old before → GoesOn begin old before [] before
   goes_none old before is = record { steps = refl; journal = subst (λ (l : Pairs). IsKeptJournal begin l before) (sym (append-nil old)) is }
-
-  -- one more record: its entry fits, and its canonical step is admissible
-  pub goes_more : (old : Pairs) (before : Market) (new : Pairs) (now : Market) (pair : Pair Record Outcome) (next : Market)
-      → GoesOn begin old before new now → IsPair pair → IsNext now pair next → Step IsReadAs IsAdmissibleOutcome now pair.asked pair.answer next → GoesOn begin old before (new ++ pair ∷ []) next
-  goes_more old before new now pair next on fits own right = record {
-    steps = follows_more before new now pair next on.steps own;
-    journal = subst (λ (l : Pairs). IsKeptJournal begin l next) (append_assoc old new (pair ∷ [])) (record {
-      starts = on.journal.starts;
-      each = All-append IsPair (old ++ new) (pair ∷ []) on.journal.each (All-cons IsPair pair [] fits (All-nil IsPair));
-      steps = right_more (market_of begin) (old ++ new) now pair next on.journal.steps right;
-    });
-  }
-
-  -- the records of entries, and of one more
-  records_more : (old new : Pairs) (pair : Pair Record Outcome) → map records_of (old ++ new) ++ records_of pair ∷ [] ≡ map records_of (old ++ (new ++ pair ∷ []))
-  records_more old new pair = sym (map-append records_of (old ++ new) (pair ∷ [])) ∙ ap (map records_of) (append_assoc old new (pair ∷ []))
-
-  -- The entries with or without one more are a prefix of those with it.
-  with_or_without : (old new : Pairs) (pair : Pair Record Outcome) (image : List ℕ) → WithOrWithout (head_of begin) (map records_of (old ++ new)) (records_of pair) image → KeepsFirst begin old (new ++ pair ∷ []) (length new) (length (new ++ pair ∷ [])) image
-  with_or_without old new pair image (inl without) =
-      let same : take (length new) (new ++ pair ∷ []) ≡ new = take-append-le (length new) new (pair ∷ []) (omega arith) ∙ take_all (length new) new (omega arith) in
-      (length new, omega arith, omega (arith, length-append new (pair ∷ [])), subst (λ (l : Pairs). StandsForJournal begin (old ++ l) image) (sym same) without)
-  with_or_without old new pair image (inr with_it) =
-      let more = new ++ pair ∷ [] in
-      let stands : StandsForJournal begin (old ++ more) image = subst (λ (l : List RecordPair). StandsFor (head_of begin) l image) (records_more old new pair) with_it in
-      (length more, omega (arith, length-append new (pair ∷ [])), omega arith, subst (λ (l : Pairs). StandsForJournal begin (old ++ l) image) (sym (take_all (length more) more (omega arith))) stands)
 
   pub kept_none : (start now : DiskState) (old : Pairs) (before : Market) (place : ℕ) → IsKeptJournal begin old before → Keeps (head_of begin) (map records_of old) place now
       → AtEachMoment start now (WhileOpening begin start old) → HasKept begin start now old before place [] before
@@ -110,66 +89,66 @@ module _ (begin : Start) where
   pub opened_returns : (most : ℕ) (start next : DiskState) (old : Pairs) → IsDisk next → AtEachMoment start next (WhileOpening begin start old) → AtReturn most begin start next old [] 0
   opened_returns most start next old is_disk opens image left = returned_left most start old image (at_the_end start next _ is_disk opens image left)
 
-  module _ (start now : DiskState) (old : Pairs) (before : Market) (place : ℕ) (new : Pairs) (market : Market) (kept : HasKept begin start now old before place new market) where
-    -- a run that ends here leaves each entry that was acknowledged
-    pub kept_returns : (most : ℕ) → AtReturn most begin start now old new (length new)
-    kept_returns most image left =
-        inr (inl (length new, omega arith, omega arith, subst (λ (l : Pairs). StandsForJournal begin (old ++ l) image) (sym (take_all (length new) new (omega arith))) (kept_stands (map records_of (old ++ new)) place now image kept.keeps left)))
+  -- More entries that are kept together after the old ones: they fit, and follow by the canonical rule on the market.
+  module _ (old more : Pairs) (before after : Market) (is : IsKeptJournal begin old before) (fits : All IsPair more) (own : Follows IsReadAs IsCanonicalOutcome before more after) where
+    pub goes_more : GoesOn begin old before more after
+    goes_more = record {
+      steps = own;
+      journal = record {
+        starts = is.starts;
+        each = All-append IsPair old more is.each fits;
+        steps = follows-append IsReadAs reading_unique IsAdmissibleOutcome (market_of begin) before after old more is.steps (canonical_are_admissible begin old before more after is own);
+      };
+    }
 
-    -- what a crash leaves during a call that keeps one more entry
-    more_left : (pair : Pair Record Outcome) (image : List ℕ) → start.images image ⊎ (KeepsFirst begin old new 0 (length new) image ⊎ IsStillNew start image)
-        → start.images image ⊎ (KeepsFirst begin old (new ++ pair ∷ []) 0 (length (new ++ pair ∷ [])) image ⊎ IsStillNew start image)
-    more_left pair image (inl early) = inl early
-    more_left pair image (inr (inl first)) =
-        inr (inl (more_pairs_stay begin old new (pair ∷ []) 0 (length new) (length (new ++ pair ∷ [])) image (omega arith) (omega (arith, length-append new (pair ∷ []))) first))
-    more_left pair image (inr (inr still)) = inr (inr still)
+    module _ (start next : DiskState) (moments : AtEachMoment start next (WithOrWithout (head_of begin) (map records_of old) (map records_of more))) where
+      -- the entries with or without more are these, and none or all of those
+      with_or_without : (image : List ℕ) → WithOrWithout (head_of begin) (map records_of old) (map records_of more) image → KeepsFirst begin old more 0 0 image ⊎ KeepsFirst begin old more (length more) (length more) image
+      with_or_without image (inl without) = inl (none_of old more image without)
+      with_or_without image (inr with_them) = inr (all_of old more image (subst (λ (l : List RecordPair). StandsFor (head_of begin) l image) (sym (map-append records_of old more)) with_them))
 
-    module _ (next : DiskState) (pair : Pair Record Outcome) (moments : AtEachMoment now next (WithOrWithout (head_of begin) (map records_of (old ++ new)) (records_of pair))) where
-      -- an append, whatever it answers
-      pub more_during : DuringCall begin start next old (new ++ pair ∷ [])
-      more_during =
-          then_more start now next _ (weaker start now _ _ (more_left pair) kept.during)
-          (weaker now next _ _ (λ image was. let first = with_or_without old new pair image was in inr (inl (first.0, omega arith, first.2, first.3))) moments)
+      -- what a crash leaves during the append and after it, whatever it answers
+      more_left : (image : List ℕ) → KeepsFirst begin old more 0 0 image ⊎ KeepsFirst begin old more (length more) (length more) image → start.images image ⊎ (KeepsFirst begin old more 0 (length more) image ⊎ IsStillNew start image)
+      more_left image (inl none) = inr (inl (first_wider begin old more 0 0 0 (length more) image (omega arith) (omega arith) none))
+      more_left image (inr all) = inr (inl (first_wider begin old more (length more) (length more) 0 (length more) image (omega arith) (omega arith) all))
 
-      -- an append that failed: what was acknowledged is left, and at most one entry more
-      pub failed_returns : IsDisk next → AtReturn 1 begin start next old (new ++ pair ∷ []) (length new)
-      failed_returns is_disk image left =
-          let first = with_or_without old new pair image (at_the_end now next _ is_disk moments image left) in
-          inr (inl (first.0, first.1, omega (arith, first.2, length-append new (pair ∷ [])), first.3))
+      more_during : DuringCall begin start next old more
+      more_during = weaker start next _ _ (λ image was. more_left image (with_or_without image was)) moments
+
+      failed_left : (most : ℕ) (image : List ℕ) → length more ≤ most → KeepsFirst begin old more 0 0 image ⊎ KeepsFirst begin old more (length more) (length more) image → Returned most start old more 0 image
+      failed_left most image few (inl none) = inr (inl (inl none))
+      failed_left most image few (inr all) = inr (inl (inr (first_wider begin old more (length more) (length more) (length more) (0 + most) image (omega arith) (omega (arith, few)) all)))
+
+      -- what a run did, if it ended at an append that failed
+      pub failed : (most : ℕ) → length more ≤ most → IsDisk next → Runs most begin start next old before more 0
+      failed most few is_disk = record {
+        now = after;
+        within = omega arith;
+        all_but = omega (arith, few);
+        goes_on = goes_more;
+        during = more_during;
+        returns = λ image left. failed_left most image few (with_or_without image (at_the_end start next _ is_disk moments image left));
+      }
 
       -- an append that succeeded
-      pub kept_more : (later : ℕ) (after : Market) → IsPair pair → IsNext market pair after → Step IsReadAs IsAdmissibleOutcome market pair.asked pair.answer after
-          → Keeps (head_of begin) (map records_of (old ++ new) ++ records_of pair ∷ []) later next → HasKept begin start next old before later (new ++ pair ∷ []) after
-      kept_more later after fits own right keeps = record {
-        goes_on = goes_more old before new market pair after kept.goes_on fits own right;
-        keeps = subst (λ (l : List RecordPair). Keeps (head_of begin) l later next) (records_more old new pair) keeps;
+      pub kept_more : (later : ℕ) → Keeps (head_of begin) (map records_of old ++ map records_of more) later next → HasKept begin start next old before later more after
+      kept_more later keeps = record {
+        goes_on = goes_more;
+        keeps = subst (λ (l : List RecordPair). Keeps (head_of begin) l later next) (sym (map-append records_of old more)) keeps;
         during = more_during;
       }
 
-  -- What a run did, if it ended after its last entry.
-  pub ended : (most : ℕ) (start now : DiskState) (old : Pairs) (before : Market) (place : ℕ) (new : Pairs) (market : Market)
-      → HasKept begin start now old before place new market → Runs most begin start now old before new (length new)
-  ended most start now old before place new market kept = record {
+  -- What a run did, if it ended after its last entry was kept, and these of the entries are acknowledged.
+  pub ended : (most acknowledged : ℕ) (start now : DiskState) (old : Pairs) (before : Market) (place : ℕ) (new : Pairs) (market : Market) → acknowledged ≤ length new → length new ≤ acknowledged + most
+      → HasKept begin start now old before place new market → Runs most begin start now old before new acknowledged
+  ended most acknowledged start now old before place new market within all_but kept = record {
     now = market;
-    within = omega arith;
-    all_but = omega arith;
+    within = within;
+    all_but = all_but;
     goes_on = kept.goes_on;
     during = kept.during;
-    returns = kept_returns start now old before place new market kept most;
-  }
-
-  -- What a run did, if it ended at an append that failed.
-  pub failed : (start now next : DiskState) (old : Pairs) (before : Market) (place : ℕ) (new : Pairs) (market after : Market) (pair : Pair Record Outcome)
-      → HasKept begin start now old before place new market → IsDisk next → IsPair pair → IsNext market pair after → Step IsReadAs IsAdmissibleOutcome market pair.asked pair.answer after
-      → AtEachMoment now next (WithOrWithout (head_of begin) (map records_of (old ++ new)) (records_of pair))
-      → Runs 1 begin start next old before (new ++ pair ∷ []) (length new)
-  failed start now next old before place new market after pair kept is_disk fits own right moments = record {
-    now = after;
-    within = omega (arith, length-append new (pair ∷ []));
-    all_but = omega (arith, length-append new (pair ∷ []));
-    goes_on = goes_more old before new market pair after kept.goes_on fits own right;
-    during = more_during start now old before place new market kept next pair moments;
-    returns = failed_returns start now old before place new market kept next pair moments is_disk;
+    returns = λ image left.
+        inr (inl (inr (first_wider begin old new (length new) (length new) (length new) (acknowledged + most) image (omega arith) all_but (all_of old new image (kept_stands (map records_of (old ++ new)) place now image kept.keeps left)))));
   }
 
   -- What a run did, if it ended before the first entry.
@@ -193,13 +172,12 @@ module _ (begin : Start) where
 
   -- and after it
   returned_later : (most : ℕ) (first start : DiskState) (old new : Pairs) (place acknowledged : ℕ) (image : List ℕ) → Keeps (head_of begin) (map records_of old) place start
-      → (start.images image × (acknowledged ≡ 0)) ⊎ (KeepsFirst begin old new acknowledged (acknowledged + most) image ⊎ (IsStillNew start image × (acknowledged ≡ 0)))
-      → (first.images image × (acknowledged ≡ 0)) ⊎ (KeepsFirst begin old new acknowledged (acknowledged + most) image ⊎ (IsStillNew first image × (acknowledged ≡ 0)))
+      → Returned most start old new acknowledged image → Returned most first old new acknowledged image
   returned_later most first start old new place acknowledged image keeps (inl early) =
-      inr (inl (0, omega (arith, early.1), omega arith, subst (λ (l : Pairs). StandsForJournal begin l image) (sym (append-nil old)) (kept_stands (map records_of old) place start image keeps early.0)))
+      inr (inl (inl (first_wider begin old new 0 0 acknowledged acknowledged image (omega (arith, early.1)) (omega arith) (none_of old new image (kept_stands (map records_of old) place start image keeps early.0)))))
   returned_later most first start old new place acknowledged image keeps (inr (inl later)) = inr (inl later)
   returned_later most first start old new place acknowledged image keeps (inr (inr still)) =
-      inr (inl (0, omega (arith, still.1), omega arith, subst (λ (l : Pairs). StandsForJournal begin l image) (sym (append-nil old)) (new_stands old place start image keeps still.0)))
+      inr (inl (inl (first_wider begin old new 0 0 acknowledged acknowledged image (omega (arith, still.1)) (omega arith) (none_of old new image (new_stands old place start image keeps still.0)))))
 
   -- a run whose disk was opened first
   pub opened_first : (most : ℕ) (first start end : DiskState) (old : Pairs) (before : Market) (place : ℕ) (new : Pairs) (acknowledged : ℕ)

@@ -1,5 +1,5 @@
 -- What a call makes of its input that keeps a journal: one protocol of serving, whatever the input is.
-use Rattle.std.specs.Prelude.{◌≡◌, ◌⊎◌, ℕ, ◌+◌, List, [], ◌++◌, Option, IfSome, length, map, take}
+use Rattle.std.specs.Prelude.{◌≡◌, ◌⊎◌, ℕ, List, [], ◌++◌, Option, IfSome, length, map, take}
 use Rattle.wire_records.specs.Records.{Record}
 use Rattle.wire_records.specs.Commands.{Pair}
 use Rattle.wire_records.specs.Reading.{StartsWith}
@@ -19,7 +19,7 @@ use Rattle.journal_keeping.specs.Outputs.{Output, Gains}
 -- A kind of input whose commands are served, kept and answered: how it begins, and which entries and texts its first units add.
 pub record Dialog : Type 1 where
   pub starts : InputStarts
-  -- So many entries at most are kept before they are acknowledged together.
+  -- So many entries at most are kept before they are acknowledged together. Of those that aren't yet, a crash after the call leaves all or none.
   pub together : ℕ
   -- The first units of an input that begins so, within the limit, add these entries and are answered with these texts, if its content is known: in a
   -- journal that is at this market, and has `count` entries before.

@@ -65,12 +65,13 @@ abbrev pub DuringCall : Start → DiskState → DiskState → List (Pair Record 
 DuringCall begin start end old new =
     AtEachMoment start end (λ image. start.images image ⊎ (KeepsFirst begin old new 0 (length new) image ⊎ IsStillNew start image))
 
--- After the call a crash leaves the old entries, each acknowledged one, and at most so many more; or, if no entry was acknowledged, an image that
--- was there at its start, or a new disk if the call began on one.
+-- After the call a crash leaves the old entries and each acknowledged one, with none of the other new ones or with all of them, which are at most so
+-- many; or, if no entry was acknowledged, an image that was there at its start, or a new disk if the call began on one.
 abbrev pub AtReturn : (most : ℕ) → Start → DiskState → DiskState → List (Pair Record Outcome) → List (Pair Record Outcome) → ℕ → Type 0
 AtReturn most begin start end old new acknowledged =
     (image : List ℕ) → end.images image
-    → (start.images image × (acknowledged ≡ 0)) ⊎ (KeepsFirst begin old new acknowledged (acknowledged + most) image ⊎ (IsStillNew start image × (acknowledged ≡ 0)))
+    → (start.images image × (acknowledged ≡ 0))
+    ⊎ ((KeepsFirst begin old new acknowledged acknowledged image ⊎ KeepsFirst begin old new (length new) (acknowledged + most) image) ⊎ (IsStillNew start image × (acknowledged ≡ 0)))
 
 -- What a run does to the disk: these entries were added, and acknowledged, all of them or all but the last `most`.
 pub record Runs (most : ℕ) (begin : Start) (start end : DiskState) (old : List (Pair Record Outcome)) (market : Market) (new : List (Pair Record Outcome)) (acknowledged : ℕ) : Type 0 where

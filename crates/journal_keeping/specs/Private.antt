@@ -37,10 +37,10 @@ use Rattle.journal_keeping.specs.declared.fault.ServeFault.TheVariants.{Disk, Wr
 
 -- ---- entries that are added, whatever the input is
 
--- a disk that kept entries keeps one more, and at each moment since a crash left them with it or without it
-pub record KeepsOneMore (pair : Pair Record Outcome) (from to : ℕ) (old new : DiskState) : Type 0 where
-  pub keeps : (head : Head) (pairs : List RecordPair) → Keeps head pairs from old → Keeps head (pairs ++ records_of pair ∷ []) to new
-  pub moments : (head : Head) (pairs : List RecordPair) → Keeps head pairs from old → AtEachMoment old new (WithOrWithout head pairs (records_of pair))
+-- a disk that kept entries keeps these after them, and at each moment since a crash left all of these or none of them
+pub record KeepsMore (more : List (Pair Record Outcome)) (from to : ℕ) (old new : DiskState) : Type 0 where
+  pub keeps : (head : Head) (pairs : List RecordPair) → Keeps head pairs from old → Keeps head (pairs ++ map records_of more) to new
+  pub moments : (head : Head) (pairs : List RecordPair) → Keeps head pairs from old → AtEachMoment old new (WithOrWithout head pairs (map records_of more))
 
 -- `P` holds of each valid journal that led to this market, and whose entries the disk keeps up to the place.
 abbrev pub IfKept : Market → ℕ → DiskState → (Start → List (Pair Record Outcome) → Type 0) → Type 0
@@ -51,8 +51,8 @@ pub record HasAdded (start now : DiskState) (before market : Market) (from place
   pub kept : IfKept before from start (λ begin old. HasKept begin start now old before place new market)
   pub told : IsSome now.content → IsSome start.content
 
--- Adding entries stopped: these are acknowledged and were answered with these texts, and `more` are those that were being kept together, if any were.
--- Unless the disk failed, there are none, and the disk keeps just them.
+-- Adding entries stopped: these are acknowledged and were answered with these texts, and `more` are those of the last group that aren't, if there are
+-- any: it wasn't kept, or their texts weren't written. Unless it failed so, there are none, and the disk keeps just the others.
 pub record HasStopped (together : ℕ) (Failed Cut : Type 0) (before now : Market) (from : ℕ) (start end : DiskState) (out later : Output) (new more : List (Pair Record Outcome)) (texts : List (List ℕ)) : Type 0 where
   pub goes_on : IfKept before from start (λ begin old. GoesOn begin old before new now)
   pub runs : IfKept before from start (λ begin old. Runs together begin start end old before (new ++ more) (length new))
@@ -80,7 +80,7 @@ pub record TakesNext (n : ℕ) (bytes : List ℕ) (old new : Market) (from to : 
   pub size : n ≡ length (commands.units.encode pair.asked)
   pub some : 0 < n
   pub following : served.rest ≡ drop n bytes
-  pub keeps : KeepsOneMore pair from to disk later
+  pub keeps : KeepsMore (pair ∷ []) from to disk later
   pub told : IsSome later.content → IsSome disk.content
   pub gained : Gains ⊥ out after (pair_encoding pair ∷ [])
 
@@ -108,9 +108,9 @@ module _ (bytes : List ℕ) (old : Market) (from to : ℕ) (disk later : DiskSta
   BreaksNext Memory = SameDisk × (after ≡ out) × HasAllocating old bytes
   BreaksNext Disk =
       (after ≡ out) × (pair : Pair Record Outcome) × (new : Market) × IsServed bytes old pair new
-      × ((head : Head) (pairs : List RecordPair) → Keeps head pairs from disk → AtEachMoment disk later (WithOrWithout head pairs (records_of pair)))
+      × ((head : Head) (pairs : List RecordPair) → Keeps head pairs from disk → AtEachMoment disk later (WithOrWithout head pairs (records_of pair ∷ [])))
   BreaksNext Write =
-      (pair : Pair Record Outcome) × (new : Market) × IsServed bytes old pair new × KeepsOneMore pair from to disk later × (IsSome later.content → IsSome disk.content)
+      (pair : Pair Record Outcome) × (new : Market) × IsServed bytes old pair new × KeepsMore (pair ∷ []) from to disk later × (IsSome later.content → IsSome disk.content)
       × Gains ⊤ out after (pair_encoding pair ∷ [])
 
 -- the entries so far, and one more for a record that was taken

@@ -2,13 +2,10 @@
 use Rattle.std.specs.Prelude.{ℕ, List, ◌++◌, map}
 use Rattle.wire_records.specs.Records.{Record}
 use Rattle.wire_records.specs.Commands.{Pair}
-use Rattle.wire_records.specs.Versions.{IsReadAs}
 use Rattle.flow_orders.specs.Outcomes.{Outcome}
-use Rattle.canonical_rule.specs.Canonical.{IsCanonicalOutcome}
 use Rattle.journal_records.specs.Formats.{records_of}
 use Rattle.market_rules.specs.Market.{Market}
 use Rattle.market_history.specs.Histories.{Start}
-use Rattle.market_rules.specs.Journal.{Step}
 use Rattle.disk_edge.specs.Disks.{DiskState}
 use Rattle.journal_disk.specs.Entries.{Keeps}
 use Rattle.journal_keeping.specs.Starts.{head_of}
@@ -20,7 +17,3 @@ pub record HasKept (begin : Start) (start now : DiskState) (old : List (Pair Rec
   pub goes_on : GoesOn begin old before new market
   pub keeps : Keeps (head_of begin) (map records_of (old ++ new)) place now
   pub during : DuringCall begin start now old new
-
--- the entry of the record that is served next, by one step of the market
-abbrev pub IsNext : Market → Pair Record Outcome → Market → Type 0
-IsNext old pair new = Step IsReadAs IsCanonicalOutcome old pair.asked pair.answer new

@@ -42,9 +42,13 @@ fn checkpoint_market(alloc: Global, bytes: &[u8], version: Version) -> Result<Ma
     }
 }
 
-// Returns the market in which a disk of a version begins, and moves the reading to its first entry that is one of the journal. A checkpoint
-// isn't held any longer then.
-pub(crate) fn first_market<D: Disk>(
+/// Returns the market in which a disk of a version begins, and moves the reading to its first entry that is one of the journal: the market of
+/// the first entry, if that begins with the magic of a checkpoint, and else the empty market of the version.
+///
+/// `Damaged` with the place 8: what such a first entry holds isn't just the checkpoint of a consistent market of the version. `Disk` comes only
+/// if the disk's count of faults rose, and `Memory` at any time. Changes nothing of the disk. Costs what reading a checkpoint costs, which is
+/// held once, beside its market, and no longer than until the call returns.
+pub fn first_market<D: Disk>(
     alloc: Global,
     journal: &mut DiskJournal,
     disk: &mut D,

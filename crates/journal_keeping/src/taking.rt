@@ -63,7 +63,7 @@ pub fn keep_entry<D: Disk, K: Sink>(
         Keeps head (pairs ++ last ∷ []) appender.new (D.state disk.new) }
     ensures moments { (head : Head) (pairs : List RecordPair) (last : RecordPair) →
         Keeps head pairs appender.old (D.state disk.old) → IsRecordPair last → pair.now ≡ pair_bytes last →
-        AtEachMoment (D.state disk.old) (D.state disk.new) (WithOrWithout head pairs last) }
+        AtEachMoment (D.state disk.old) (D.state disk.new) (WithOrWithout head pairs (last ∷ [])) }
     ensures lengths { ReachesAtMost (appender.old + (6 + length pair.now)) (D.state disk.old) (D.state disk.new) }
     ensures told { result ≢ Err ServeFault.Disk → IsSome (D.state disk.new).content → IsSome (D.state disk.old).content }
     ensures place { OnOk result (appender.new ≡ appender.old + (5 + length pair.now)) }

@@ -12,13 +12,14 @@ use Rattle.journal_records.specs.Formats.{records_of}
 use Rattle.market_rules.specs.Market.{Market}
 use Rattle.batch_report.specs.Reports.{IsReport}
 use Rattle.disk_edge.specs.Disks.{DiskState, IsDisk, AtEachMoment}
-use Rattle.journal_disk.specs.Pairs.{RecordPair, IsRecordPair, pair_bytes}
+use Rattle.journal_disk.specs.Pairs.{RecordPair}
 use Rattle.journal_disk.specs.Entries.{Head, WithOrWithout, Keeps}
 use Rattle.journal_keeping.specs.Lengths.{longest_stored_entry}
-use Rattle.journal_keeping.specs.Private.{KeepsOneMore}
+use Rattle.journal_keeping.specs.Private.{KeepsMore}
 use Rattle.journal_keeping.specs.declared.fault.ServeFault.{ServeFault}
 use Rattle.journal_keeping.specs.declared.fault.ServeFault.TheVariants.{Disk, Write, Memory}
-use Rattle.journal_keeping.proofs.Turns.{is_record_pair, same_bytes, added_none, added_one}
+use Rattle.journal_keeping.proofs.Turns.{one_fits, added_none}
+use Rattle.journal_keeping.proofs.Adding.{added_together}
 use Rattle.journal_keeping.proofs.Stopping.{stops_after, stops_failed}
 use Rattle.line_keeping.specs.Answers.{AreAnswered}
 use Rattle.journal_keeping.specs.Outputs.{Output, Gains}
@@ -31,21 +32,11 @@ pub longest_entry : (pair : Pair Record Outcome) → IsPair pair → length (pai
 unfolding pair_encoding
 longest_entry pair fits = omega (arith, length-append (encoding pair.asked) (encoding (records_of pair).1), length-encoding pair.asked, length-encoding (records_of pair).1, fits.asked.body, fits.answered.body)
 
--- a disk keeps one entry more
-pub keeps_one : (pair : Pair Record Outcome) (from to : ℕ) (disk later : DiskState) (bytes : List ℕ) → IsPair pair → bytes ≡ pair_encoding pair
-    → ((head : Head) (pairs : List RecordPair) (last : RecordPair) → Keeps head pairs from disk → IsRecordPair last → bytes ≡ pair_bytes last → Keeps head (pairs ++ last ∷ []) to later)
-    → ((head : Head) (pairs : List RecordPair) (last : RecordPair) → Keeps head pairs from disk → IsRecordPair last → bytes ≡ pair_bytes last → AtEachMoment disk later (WithOrWithout head pairs last))
-    → KeepsOneMore pair from to disk later
-keeps_one pair from to disk later bytes fits is kept moments = record {
-  keeps = λ head pairs keeps. kept head pairs (records_of pair) keeps (is_record_pair pair fits) (is ∙ same_bytes pair);
-  moments = λ head pairs keeps. moments head pairs (records_of pair) keeps (is_record_pair pair fits) (is ∙ same_bytes pair);
-}
-
 -- why a command wasn't kept and told, if it was served
 pub breaks_one : (command : Command) (old new : Market) (count from to : ℕ) (disk later : DiskState) (out after : Output) (SameDisk : Type 0) (pair : Pair Record Outcome) (text : List ℕ) (fault : ServeFault) → (fault ≡ Disk) ⊎ (fault ≡ Write)
     → IsServed command old pair new → IsReport new (count + 1) (records_of pair) text → (fault ≡ Disk → after ≡ out)
-    → ((head : Head) (pairs : List RecordPair) → Keeps head pairs from disk → AtEachMoment disk later (WithOrWithout head pairs (records_of pair)))
-    → (fault ≡ Write → KeepsOneMore pair from to disk later) → (fault ≡ Write → IsSome later.content → IsSome disk.content) → (fault ≡ Write → Gains ⊤ out after (text ∷ []))
+    → ((head : Head) (pairs : List RecordPair) → Keeps head pairs from disk → AtEachMoment disk later (WithOrWithout head pairs (records_of pair ∷ [])))
+    → (fault ≡ Write → KeepsMore (pair ∷ []) from to disk later) → (fault ≡ Write → IsSome later.content → IsSome disk.content) → (fault ≡ Write → Gains ⊤ out after (text ∷ []))
     → BreaksCommand command old count from to disk later out after SameDisk fault
 breaks_one command old new count from to disk later out after SameDisk pair text fault refused served report silent moments keeps told cut = ⊎_elim
     (λ (is : fault ≡ Disk). subst (λ (f : ServeFault). BreaksCommand command old count from to disk later out after SameDisk f) (sym is) (silent is, pair, text, new, served, report, moments))
@@ -101,7 +92,7 @@ module _ (old : Market) (count from : ℕ) (disk : DiskState) (out : Output) whe
       pairs = so.pairs ++ one.pair ∷ [];
       texts = so.texts ++ one.text ∷ [];
       answered = answered_more old count done so.pairs so.texts mid command one.pair one.text new (entries + 1) so.answered one.served (omega (arith, so.counted)) one.report;
-      added = added_one disk m later old mid new from place to so.pairs one.pair so.added one.served.fits one.served.step one.keeps one.told;
+      added = added_together disk m later old mid new from place to so.pairs (one.pair ∷ []) so.added (one_fits one.pair one.served.fits) (new, one.served.step, refl) one.keeps one.told;
       stays = λ keeps. keeps_on m.content later.content one.told (so.stays keeps) (λ kept. (kept.0, kept.1 ++ records_of one.pair ∷ [], one.keeps.keeps kept.0 kept.1 kept.2));
       counted = omega (arith, so.counted, length-append so.pairs (one.pair ∷ []));
       size = omega (arith, so.size, length-append so.pairs (one.pair ∷ []), length-append done (command ∷ []));
@@ -136,7 +127,7 @@ module _ (old : Market) (count from : ℕ) (disk : DiskState) (out : Output) whe
 
       -- the disk failed
       pub disk_breaks : (pair : Pair Record Outcome) (text : List ℕ) (new : Market) (later : DiskState) → IsDisk later → IsServed command mid pair new → IsReport new (entries + 1) (records_of pair) text
-          → ((head : Head) (pairs : List RecordPair) → Keeps head pairs place m → AtEachMoment m later (WithOrWithout head pairs (records_of pair))) → Broke later o Disk
+          → ((head : Head) (pairs : List RecordPair) → Keeps head pairs place m → AtEachMoment m later (WithOrWithout head pairs (records_of pair ∷ []))) → Broke later o Disk
       disk_breaks pair text new later is_disk served report moments = record {
         pairs = so.pairs;
         texts = so.texts;
@@ -146,15 +137,15 @@ module _ (old : Market) (count from : ℕ) (disk : DiskState) (out : Output) whe
         words = so.texts ++ text ∷ [];
         last = new;
         further = (done ++ command ∷ [], rest, joined, answered_more old count done so.pairs so.texts mid command pair text new (entries + 1) so.answered served (omega (arith, so.counted)) report);
-        stops = stops_failed _ _ disk m old mid from place so.pairs so.added out o so.texts (gains_wider ⊥ _ out o so.texts (λ no. absurd no) so.gained) refl later new pair is_disk served.fits served.step moments;
+        stops = stops_failed _ _ disk m old mid from place so.pairs so.added out o so.texts (gains_wider ⊥ _ out o so.texts (λ no. absurd no) so.gained) refl later new (pair ∷ []) is_disk (one_fits pair served.fits) (new, served.step, refl) (omega arith) moments;
       }
 
       -- its text was cut short
       pub write_breaks : (pair : Pair Record Outcome) (text : List ℕ) (new : Market) (to : ℕ) (later : DiskState) (after : Output) → IsServed command mid pair new → IsReport new (entries + 1) (records_of pair) text
-          → KeepsOneMore pair place to m later → (IsSome later.content → IsSome m.content) → Gains ⊤ o after (text ∷ []) → Broke later after Write
+          → KeepsMore (pair ∷ []) place to m later → (IsSome later.content → IsSome m.content) → Gains ⊤ o after (text ∷ []) → Broke later after Write
       write_breaks pair text new to later after served report keeps told gains =
           let all = so.pairs ++ pair ∷ [] in
-          let added = added_one disk m later old mid new from place to so.pairs pair so.added served.fits served.step keeps told in
+          let added = added_together disk m later old mid new from place to so.pairs (pair ∷ []) so.added (one_fits pair served.fits) (new, served.step, refl) keeps told in
           let answered = answered_more old count done so.pairs so.texts mid command pair text new (entries + 1) so.answered served (omega (arith, so.counted)) report in
           record {
             pairs = all;

@@ -32,7 +32,7 @@ use Rattle.input_lines.specs.Finding.{IsOpen, HasEnded}
 use Rattle.journal_keeping.specs.Taking.{InputFormat}
 use Rattle.journal_keeping.specs.Lengths.{longest_stored_entry}
 use Rattle.journal_keeping.specs.Outputs.{Output, Gains}
-use Rattle.journal_keeping.specs.Private.{KeepsOneMore, HasAdded, HasStopped}
+use Rattle.journal_keeping.specs.Private.{KeepsMore, HasAdded, HasStopped}
 use Rattle.line_keeping.specs.Answers.{no_command_text, AreAnswered, IsLineAnswered, IsLineBegun, AreLinesAnswered, AreAnsweredInto, MayRunOut}
 use Rattle.line_keeping.specs.Inputs.{bytes_before, line_starts, IsUnopened}
 
@@ -111,7 +111,7 @@ pub record AnswersCommand (command : Command) (old new : Market) (count from to 
   pub text : List ℕ
   pub served : IsServed command old pair new
   pub report : IsReport new (count + 1) (records_of pair) text
-  pub keeps : KeepsOneMore pair from to disk later
+  pub keeps : KeepsMore (pair ∷ []) from to disk later
   pub told : IsSome later.content → IsSome disk.content
   pub place : to ≡ from + (5 + length (pair_encoding pair))
   pub gained : Gains ⊥ out after (text ∷ [])
@@ -122,10 +122,10 @@ module _ (command : Command) (old : Market) (count from to : ℕ) (disk later : 
   BreaksCommand Memory = SameDisk × (after ≡ out)
   BreaksCommand Disk =
       (after ≡ out) × (pair : Pair Record Outcome) × (text : List ℕ) × (new : Market) × IsServed command old pair new × IsReport new (count + 1) (records_of pair) text
-      × ((head : Head) (pairs : List RecordPair) → Keeps head pairs from disk → AtEachMoment disk later (WithOrWithout head pairs (records_of pair)))
+      × ((head : Head) (pairs : List RecordPair) → Keeps head pairs from disk → AtEachMoment disk later (WithOrWithout head pairs (records_of pair ∷ [])))
   BreaksCommand Write =
       (pair : Pair Record Outcome) × (text : List ℕ) × (new : Market) × IsServed command old pair new × IsReport new (count + 1) (records_of pair) text
-      × KeepsOneMore pair from to disk later × (IsSome later.content → IsSome disk.content) × Gains (⊤) out after (text ∷ [])
+      × KeepsMore (pair ∷ []) from to disk later × (IsSome later.content → IsSome disk.content) × Gains (⊤) out after (text ∷ [])
 
 -- if the content of a disk is known, it keeps some entries up to this place
 abbrev pub KeepsSome : ℕ → DiskState → Type 0

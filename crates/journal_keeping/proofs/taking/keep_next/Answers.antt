@@ -1,7 +1,8 @@
 use Rattle.std.proofs.Common.{◌≡◌, Err, ap, ◌∙◌}
 use Rattle.journal_records.specs.Formats.{records_of}
 use Rattle.journal_keeping.specs.Outputs.{output}
-use Rattle.journal_keeping.proofs.Next.{pair_of, whole, two_records, their_bytes, takes, still_ready, still_within, still_reaches, breaks}
+use Rattle.journal_keeping.proofs.Turns.{keeps_one}
+use Rattle.journal_keeping.proofs.Next.{pair_of, fits, whole, two_records, their_bytes, takes, still_ready, still_within, still_reaches, breaks}
 use Rattle.journal_keeping.proofs.taking.keep_next.Goals as goal
 
 pub keep_entry-requires-clause-pair : goal.keep_entry-requires-clause-pair
@@ -14,12 +15,12 @@ pub returns-in-Ok-clause-taken : goal.returns-in-Ok-clause-taken
 returns-in-Ok-clause-taken g c =
     let one = rw c.in-Ok-Taken.field-0-is at c.in-Ok-Taken.ensures.taken in
     let ready = c.requires.ready in
-    let two = two_records c.in-Ok-Taken.taken c.args.bytes.now c.args.writer.now.session c.serve_next.new.self c.serve_next.new.out.items one ready.0 ready.1 ready.2.0 in
     let pair = pair_of c.in-Ok-Taken.taken c.args.bytes.now c.args.writer.now.session c.serve_next.new.self c.serve_next.new.out.items one ready.0 ready.1 ready.2.0 in
-    let bytes = c.deref.ensures.value ∙ their_bytes c.in-Ok-Taken.taken c.args.bytes.now c.args.writer.now.session c.serve_next.new.self c.serve_next.new.out.items one ready.0 ready.1 ready.2.0 in
+    let fitting = fits c.in-Ok-Taken.taken c.args.bytes.now c.args.writer.now.session c.serve_next.new.self c.serve_next.new.out.items one ready.0 ready.1 ready.2.0 in
+    let encoded = c.deref.ensures.value ∙ one.step.encoded in
     takes c.in-Ok-Taken.taken c.args.bytes.now c.args.writer.now.session c.serve_next.new.self c.serve_next.new.out.items one ready.0 ready.1 ready.2.0 c.args.writer.now.appender c.keep_entry.new.appender (g.D.Disk.state c.args.disk.now) (g.D.Disk.state c.keep_entry.new.disk)
     (output g.K.Sink.held g.K.Sink.calls g.K.Sink.faults c.args.out.now) (output g.K.Sink.held g.K.Sink.calls g.K.Sink.faults c.keep_entry.new.out)
-    (record { keeps = λ version pairs at. c.in-Ok.ensures.kept (λ is. cc is) version pairs (records_of pair) at two bytes; moments = λ version pairs at. c.in-Ok.ensures.moments version pairs (records_of pair) at two bytes })
+    (keeps_one pair c.args.writer.now.appender c.keep_entry.new.appender (g.D.Disk.state c.args.disk.now) (g.D.Disk.state c.keep_entry.new.disk) _ fitting encoded (c.in-Ok.ensures.kept (λ is. cc is)) c.in-Ok.ensures.moments)
     (c.in-Ok.ensures.told (λ is. cc is)) (rw c.deref-in-Ok-Taken.ensures.value at c.in-Ok.ensures.gained)
 
 pub returns-in-Ok-clause-stays : goal.returns-in-Ok-clause-stays
@@ -35,11 +36,13 @@ returns-in-Err-keep_entry-clause-broken g c =
     let pair = pair_of c.in-Ok-Taken.taken c.args.bytes.now c.args.writer.now.session c.serve_next.new.self c.serve_next.new.out.items one ready.0 ready.1 ready.2.0 in
     let two = two_records c.in-Ok-Taken.taken c.args.bytes.now c.args.writer.now.session c.serve_next.new.self c.serve_next.new.out.items one ready.0 ready.1 ready.2.0 in
     let bytes = c.deref.ensures.value ∙ their_bytes c.in-Ok-Taken.taken c.args.bytes.now c.args.writer.now.session c.serve_next.new.self c.serve_next.new.out.items one ready.0 ready.1 ready.2.0 in
+    let fitting = fits c.in-Ok-Taken.taken c.args.bytes.now c.args.writer.now.session c.serve_next.new.self c.serve_next.new.out.items one ready.0 ready.1 ready.2.0 in
+    let encoded = c.deref.ensures.value ∙ one.step.encoded in
     let kept = c.in-Err-keep_entry.ensures in
     breaks c.in-Ok-Taken.taken c.args.bytes.now c.args.writer.now.session c.serve_next.new.self c.serve_next.new.out.items one ready.0 ready.1 ready.2.0 c.args.writer.now.appender c.keep_entry.new.appender (g.D.Disk.state c.args.disk.now) (g.D.Disk.state c.keep_entry.new.disk)
     (output g.K.Sink.held g.K.Sink.calls g.K.Sink.faults c.args.out.now) (output g.K.Sink.held g.K.Sink.calls g.K.Sink.faults c.keep_entry.new.out)
     (c.keep_entry.new.disk ≡ c.args.disk.now) c.in-Err-keep_entry.fault kept.refused (λ is. ap (output g.K.Sink.held g.K.Sink.calls g.K.Sink.faults) (kept.unasked (ap Err is))) (λ version pairs at. kept.moments version pairs (records_of pair) at two bytes)
-    (λ is version pairs at. kept.kept (λ bad. cc (bad, is)) version pairs (records_of pair) at two bytes) (λ is. kept.told (λ bad. cc (bad, is))) (λ is. rw c.deref-in-Ok-Taken.ensures.value at kept.cut (ap Err is))
+    (λ is. keeps_one pair c.args.writer.now.appender c.keep_entry.new.appender (g.D.Disk.state c.args.disk.now) (g.D.Disk.state c.keep_entry.new.disk) _ fitting encoded (kept.kept (λ bad. cc (bad, is))) kept.moments) (λ is. kept.told (λ bad. cc (bad, is))) (λ is. rw c.deref-in-Ok-Taken.ensures.value at kept.cut (ap Err is))
 
 pub returns-in-Ok-clause-places : goal.returns-in-Ok-clause-places
 returns-in-Ok-clause-places g c = λ left most fits room.

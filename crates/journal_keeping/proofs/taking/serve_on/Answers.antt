@@ -6,7 +6,8 @@ use Rattle.file_units.specs.declared.units.Ending.TheVariants.{End, Torn, TooLon
 use Rattle.file_units.specs.declared.input.TakeFault.TheVariants.{Read}
 use Rattle.journal_keeping.specs.Private.{IsReady, Adds, Names}
 use Rattle.journal_keeping.specs.Outputs.{output}
-use Rattle.journal_keeping.proofs.Turns.{added_none, added_one}
+use Rattle.journal_keeping.proofs.Turns.{one_fits, added_none}
+use Rattle.journal_keeping.proofs.Adding.{added_together}
 use Rattle.journal_keeping.proofs.Gaining.{gains_none}
 use Rattle.journal_keeping.proofs.Ends.{told_more, serves_so, serves_broken}
 use Rattle.journal_keeping.proofs.Loop.{takes_one, size_within}
@@ -38,7 +39,7 @@ units-preserved-in-Taken g c =
       all,
       one_more_gone commands Adds g.S.Source.rest g.S.Source.faults c.args.window.now w c.args.source.now c.units.source [] i.0 tt tt
           (IsReady c.units.writer.session c.units.writer.appender) (IsReady c.keep_next.new.writer.session c.keep_next.new.writer.appender) c.in-Taken.taken all tt c.advance.new.self i.1 (takes_one i.0 one) c.advance.ensures stays inside,
-      added_one _ _ _ _ _ _ _ _ _ i.0 one.pair i.2 one.served.fits one.served.step one.keeps one.told,
+      added_together _ _ _ _ _ _ _ _ _ i.0 (one.pair ∷ []) i.2 (one_fits one.pair one.served.fits) (_, one.served.step, refl) one.keeps one.told,
       told_more ⊥ _ _ _ i.0 one.pair i.3 one.gained,
       c.in-Ok.ensures.disk_cause.quiet (λ is. cc is) ∙ i.4,
       c.in-Ok.ensures.out_cause.quiet (λ is. cc is) ∙ i.5,

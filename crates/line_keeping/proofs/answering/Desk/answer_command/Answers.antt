@@ -3,8 +3,8 @@ use Rattle.canonical_journals.proofs.LawProofs.{steps_number_one}
 use Rattle.journal_disk.proofs.Lengths.{reach_wider}
 use Rattle.journal_keeping.specs.Lengths.{longest_stored_entry}
 use Rattle.journal_keeping.specs.Outputs.{output}
-use Rattle.journal_keeping.proofs.Turns.{is_whole, is_record_pair, same_bytes}
-use Rattle.line_keeping.proofs.Keeping.{longest_entry, keeps_one, breaks_one}
+use Rattle.journal_keeping.proofs.Turns.{is_whole, is_record_pair, same_bytes, keeps_one}
+use Rattle.line_keeping.proofs.Keeping.{longest_entry, breaks_one}
 use Rattle.line_keeping.proofs.answering.Desk.answer_command.Goals as goal
 
 pub keep_entry-requires-clause-pair : goal.keep_entry-requires-clause-pair
