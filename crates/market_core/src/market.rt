@@ -254,6 +254,14 @@ impl Market {
         self.book.orders()
     }
 
+    /// Returns the book: the live orders, which it lends where they are, and what they reserve of each account.
+    pub fn book(&self) -> &Book
+        ensures orders { result.now.orders ≡ self.now.orders }
+        ensures consistent { IsConsistent self.now }
+    {
+        &self.book
+    }
+
     /// Returns the number that the next order gets, from 1.
     pub fn next_number(&self) -> u64
         ensures value { result ≡ self.now.next_order }

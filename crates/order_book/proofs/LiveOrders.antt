@@ -1,6 +1,6 @@
 -- Which of a book's orders are live when one is cancelled and when gaps are closed.
-use Rattle.std.proofs.Common.{◌≡◌, ◌≢◌, ℕ, zero, suc, ◌+◌, ◌<◌, ◌-◌, Bool, true, false, not, cond, filter, eqb, ◌||◌, Some, List, [], ◌∷◌, ◌++◌, length, get_or, IsTrue, true≢false, refl, sym, ap, subst, ⊎_elim, ◌∙◌, arith}
-use Rattle.std.specs.Prelude.{All, AllPairs, Contains, unwrap_or}
+use Rattle.std.proofs.Common.{◌≡◌, ◌≢◌, ℕ, zero, suc, ◌<◌, ◌-◌, Bool, true, false, not, cond, filter, eqb, ◌||◌, Some, List, [], ◌∷◌, ◌++◌, length, get_or, IsTrue, true≢false, refl, sym, ap, subst, ⊎_elim, ◌∙◌, arith}
+use Rattle.std.specs.Prelude.{All, Contains, unwrap_or}
 use Rattle.std.specs.List.{list_any, slice_get, HoldsAt}
 use Rattle.std.proofs.lemmas.Bool.{cases_Bool, cases_lt, eqb-true}
 use Rattle.std.proofs.lemmas.List.{length_push}
@@ -76,6 +76,14 @@ module _ (old new : GapSet) (same : new.keys ≡ old.keys) (slots : List Order) 
     placed = λ number gap. are.placed number (sym (ap (λ (l : List ℕ). list_any (λ k. eqb number k) l) same) ∙ gap);
     count = omega (arith, are.count, ap length same, ap length live_same);
   }
+
+-- ---- orders that are read one after the other
+module _ (gaps : GapSet) (slots others : List Order) (first : Order) (is : slots ≡ first ∷ others) (number : ℕ) (numbered : number ≡ first.number) where
+  pub first_live : is_gap gaps number ≡ false → live_in gaps slots ≡ first ∷ live_in gaps others
+  first_live none = ap (live_in gaps) is ∙ rw (ap (is_gap gaps) (sym numbered) ∙ none) refl
+
+  pub first_passed : is_gap gaps number ≡ true → live_in gaps slots ≡ live_in gaps others
+  first_passed gap = ap (live_in gaps) is ∙ rw (ap (is_gap gaps) (sym numbered) ∙ gap) refl
 
 -- ---- an order is added at the end
 module _ (slots : List Order) (gaps : GapSet) (o : Order) (are : AreGaps slots gaps) (below : All (λ x. x.number < o.number) slots) where

@@ -9,6 +9,7 @@ ghost use Rattle.order_book.specs.Gaps.{AreSlots, live_in, is_gap};
 use crate::ended::{end_orders, lower_ended};
 use crate::fill::{fill_orders, lower_traded};
 use crate::gaps::{close_above, close_gaps, leave_gap};
+use crate::live::LiveIter;
 use crate::sums::{Need, NeedSums};
 use flow_orders::Order;
 use indexmap::IndexSet;
@@ -75,6 +76,18 @@ impl Book {
     {
         close_gaps(&mut self.slots, &mut self.gaps);
         self.slots.as_slice()
+    }
+
+    /// Returns the live orders, by ascending numbers, where they are: the gaps of cancelled orders stay. Going over them costs one
+    /// pass over the book, with a look-up for each order.
+    pub fn live(&self) -> LiveIter<'_>
+        ensures value { result ≡ self.now.orders }
+        ensures live { AreLive self.now.orders }
+    {
+        LiveIter {
+            slots: self.slots.as_slice(),
+            gaps: &self.gaps,
+        }
     }
 
     /// Returns how many orders are live: at most 16,384.

@@ -24,7 +24,9 @@ mod ended;
 mod fill;
 mod gaps;
 pub mod laws;
+mod live;
 mod sums;
 
 pub use book::Book;
+pub use live::LiveIter;
 pub use out_of_memory::Memory;
