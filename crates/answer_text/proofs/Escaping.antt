@@ -1,5 +1,5 @@
 -- Bytes of texts in quotes.
-use Rattle.std.proofs.Common.{◌≡◌, ◌+◌, ◌<◌, ◌≤◌, ℕ, Bool, true, false, List, [], ◌∷◌, ◌++◌, if◌then◌else◌, ◌==◌, refl, sym, subst}
+use Rattle.std.proofs.Common.{◌≡◌, ◌<◌, ◌≤◌, ℕ, Bool, true, false, [], ◌∷◌, ◌++◌, if◌then◌else◌, ◌==◌, refl, sym, subst}
 use Rattle.std.specs.Prelude.{nat_lt, ◌||◌, ◌/◌, ◌%◌, codes}
 use Rattle.std.proofs.lemmas.Bool.{ne_eqb, lt-ltb, le-ltb}
 use Rattle.answer_text.specs.Texts.{hex_digit, escaped}

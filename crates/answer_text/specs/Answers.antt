@@ -1,6 +1,6 @@
 -- The members of answers, and the line of an answer. An answer is a JSON object without blanks. Its numbers are whole and in full; those in grains are
 -- texts.
-use Rattle.std.specs.Prelude.{ℕ, ℤ, pos, List, [], ◌++◌, length, codes, decimal, slice_index_or, Option, Some, None}
+use Rattle.std.specs.Prelude.{ℕ, ℤ, pos, List, [], length, codes, decimal, slice_index_or, Option, Some, None}
 use Rattle.std.specs.Fmt.{signed_decimal}
 use Rattle.weight_rows.specs.declared.entries.Entry.{Entry}
 use Rattle.weight_rows.specs.Rows.{price_of}
@@ -10,7 +10,7 @@ use Rattle.wire_records.specs.declared.reply.Refusal.{Refusal}
 use Rattle.wire_records.specs.declared.reply.Refusal.TheVariants.{UnknownTag, BadBody, AssetLimit, TickerTaken, BadTicker, AccountLimit, NoAccount, NoAsset, ZeroAmount, TotalLimit, NotFree, BadLimits, BadRate, BadCap, BadRow, OrderLimit, NoOrder, BadBudget, BatchLimit, BadLast, CreditInUse, CreditLimit}
 use Rattle.wire_records.specs.Versions.{number_of}
 use Rattle.wire_records.specs.declared.version.Version.{Version}
-use Rattle.flow_orders.specs.Outcomes.{Clearing, Skipping, Outcome, Cleared, Skipped}
+use Rattle.flow_orders.specs.Outcomes.{Clearing, Outcome, Cleared, Skipped}
 use Rattle.flow_orders.specs.Residuals.{residual_in}
 use Rattle.pair_text.specs.Texts.{◌then◌}
 use Rattle.answer_text.specs.declared.fills.FillCost.{FillCost}

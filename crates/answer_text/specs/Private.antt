@@ -1,5 +1,4 @@
 -- Definitions that only private functions use.
-use Rattle.std.specs.Prelude.{ℕ, zero, suc, List, []}
 use Rattle.weight_rows.specs.declared.entries.Entry.{Entry}
 use Rattle.std.specs.Prelude.{pos}
 

@@ -39,3 +39,8 @@ comma (suc place) = codes ","
 -- so many items, each by its place, with commas between them
 abbrev pub listed : (ℕ → List ℕ) → ℕ → List ℕ
 listed item count = flat_map (λ place. comma place then item place) (range_with_len 0 count)
+
+-- the texts of the elements of a list, with commas between them
+abbrev pub separated : {X : Type 0} → (X → List ℕ) → List X → List ℕ
+separated text [] = []
+separated text (x ∷ xs) = text x then flat_map (λ y. codes "," then text y) xs

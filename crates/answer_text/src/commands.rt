@@ -94,8 +94,8 @@ fn put_terms(tickers: &TickerTable, place: &PlaceView<'_>, out: &mut Text) -> Re
     out.put(b"}")
 }
 
-// Appends the last batch of an order, if it has one.
-fn put_last(last: Option<u32>, out: &mut Text) -> Result<(), Memory>
+/// Appends the last batch of an order, if it has one.
+pub(crate) fn put_last(last: Option<u32>, out: &mut Text) -> Result<(), Memory>
     ensures before { out.new.before ≡ out.old.before }
     ensures put { OnOk result (out.new.text ≡ out.old.text ++ last_member last) }
 {

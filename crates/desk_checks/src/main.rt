@@ -14,12 +14,14 @@
 //! | `fills BATCH FILLS:` | `put_fills` | a row: its members |
 //! | `market VERSION BATCHES PRICES TICKERS:` | `put_market` | a row: its members |
 //! | `exchange MONEY UNITS TICKERS:` | `put_exchange` | a row: its members |
+//! | `account VERSION NUMBER: RECORDS` | `put_account`, in the market of a version that these commands make | a row: its members; or `none` |
 //! | `head TO NUMBER LINE ENTRY:` | `put_head`, `put_end` | a row; LINE and ENTRY may be `-` |
 //!
 //! TO is `operator`, `all` or the number of an account. PRICES and UNITS are numbers with commas, and FILLS such a list of orders, each as
 //! `ORDER/RATE/COST`; an empty list is `-`.
 #![tactic(auto)]
 
+mod accounts;
 mod answers;
 mod lines;
 mod values;
@@ -39,6 +41,7 @@ fn put_case(alloc: Global, words: (&str, &str), bytes: &[u8], told: &mut Told) {
         "fills" => values::put_account_fills(alloc, words.1, told),
         "market" => values::put_market_of(alloc, words.1, told),
         "exchange" => values::put_exchange_of(alloc, words.1, told),
+        "account" => accounts::put_account_of(alloc, words.1, bytes, told),
         "head" => answers::put_heading(alloc, words.1, told),
         _ => told.give_up(),
     }

@@ -10,7 +10,7 @@ use wire_records::Version;
 const MOST_NUMBERS: usize = 1000;
 
 // Returns the number before the first blank, and what follows it.
-fn number_first(words: &str) -> Option<(i128, &str)> {
+pub(crate) fn number_first(words: &str) -> Option<(i128, &str)> {
     let (number, rest) = words.split_once(' ').unwrap_or((words, ""));
     Some((number.parse().ok()?, rest))
 }
@@ -74,7 +74,7 @@ pub(crate) fn put_account_fills(alloc: Global, words: &str, told: &mut Told) {
 }
 
 // Returns the version of a number.
-fn version_of(number: i128) -> Option<Version> {
+pub(crate) fn version_of(number: i128) -> Option<Version> {
     match number {
         1 => Some(Version::One),
         2 => Some(Version::Two),

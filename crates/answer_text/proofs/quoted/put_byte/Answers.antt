@@ -1,4 +1,4 @@
-use Rattle.std.proofs.Common.{◌≡◌, ◌++◌, ap, sym, ◌∙◌}
+use Rattle.std.proofs.Common.{◌++◌, ap, sym, ◌∙◌}
 use Rattle.pair_text.proofs.Joining.{joined, on_ok}
 use Rattle.answer_text.proofs.Escaping.{quote_escaped, backslash_escaped, low_escaped, plain_escaped}
 use Rattle.answer_text.proofs.quoted.put_byte.Goals as goal

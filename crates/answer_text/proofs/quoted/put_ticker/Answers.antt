@@ -1,4 +1,4 @@
-use Rattle.std.proofs.Common.{◌++◌, ap, sym, ◌∙◌}
+use Rattle.std.proofs.Common.{◌++◌, ap, ◌∙◌}
 use Rattle.pair_text.proofs.Joining.{on_ok}
 use Rattle.answer_text.proofs.Padding.{no_ticker}
 use Rattle.answer_text.proofs.quoted.put_ticker.Goals as goal

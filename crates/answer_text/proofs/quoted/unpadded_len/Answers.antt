@@ -1,5 +1,4 @@
-use Rattle.std.proofs.Common.{◌≡◌, ◌≤◌, ◌+◌, ◌∙◌, sym, ap, take, subst, arith}
-use Rattle.answer_text.specs.Texts.{unpadded}
+use Rattle.std.proofs.Common.{◌∙◌, sym, ap, take, arith}
 use Rattle.answer_text.proofs.Padding.{none_yet, one_more_space, one_more_byte}
 use Rattle.answer_text.proofs.quoted.unpadded_len.Goals.{then-ticker-place-ne32, else-ticker-place-ne32}
 use Rattle.answer_text.proofs.quoted.unpadded_len.Goals as goal
