@@ -3,6 +3,8 @@ ghost use Rattle.std.specs.Prelude.{◌≡◌, ◌+◌, ◌^◌, ◌<◌, IfOk, 
 ghost use Rattle.journal_records.specs.Views.{answer_of};
 ghost use Rattle.journal_records.specs.Replies.{EncodesAnswer};
 ghost use Rattle.market_rules.specs.Allocating.{RecordMayAllocate};
+ghost use Rattle.batch_audit.specs.Legal.{IsLegalPair};
+ghost use Rattle.batch_audit.specs.Judging.{IsChangeOf, IsWeighed};
 
 use crate::change::Change;
 use crate::explaining::finding_of;
@@ -23,6 +25,56 @@ pub enum Legality {
     Illegal,
 }
 
+/// Returns what an entry changes in a market, which stays as it is: `None` exactly if the entry is no step of it, so exactly if
+/// [`Audit::pair`] returns `Illegal`. `seen` is the answer that the entry's second record encodes, as
+/// [`reply`](journal_records::reply) finds it; an entry whose second record encodes none is invalid. The number that the next order gets is
+/// below 2^64 - 1.
+///
+/// It costs what the audit of the entry costs without the step. Memory is taken for the start prices of a batch, for the
+/// prices, rates and residuals of an admissible clearing, and for the walk of a skip what a search takes, without its trace.
+pub fn judge<'a>(
+    market: &mut Market,
+    pair: &PairView<'a>,
+    seen: &ReplyView<'_>,
+) -> Result<Option<Change<'a>>, Memory>
+    requires seen { EncodesAnswer pair.now.1 (answer_of seen.now) }
+    requires next { market.old.next_order + 1 < 2 ^ 64 }
+    ensures weighed { IfOk result (IsWeighed market.old pair.now) }
+    ensures stays { market.new ≡ market.old }
+    // Memory may run out only at a record for which the audit of the entry may allocate.
+    ensures wanted { OnErr result (RecordMayAllocate market.old pair.now.0) }
+{
+    let asked = pair.asked();
+    let alloc = market.alloc();
+    Ok(judge_record(alloc, market, &asked, seen)?)
+}
+
+/// Makes the step of an entry that was judged over this market: `change` is what [`judge`] returned for it. The number that the
+/// next order gets is below 2^64 - 1. After `Memory` the market is as before.
+///
+/// It costs what the step costs: the change has the command, so nothing of the entry is read again. Memory is taken for
+/// what the market keeps of a command; a batch takes none.
+pub fn make(market: &mut Market, pair: &PairView<'_>, change: Change<'_>) -> Result<(), Memory>
+    requires change { IsChangeOf market.old pair.now change }
+    requires next { market.old.next_order + 1 < 2 ^ 64 }
+    ensures legal { OnOk result (IsLegalPair market.old pair.now market.new) }
+    ensures stays { OnErr result (market.new ≡ market.old) }
+    ensures wanted { OnErr result (RecordMayAllocate market.old pair.now.0) }
+{
+    match change {
+        Change::Nothing => Ok(()),
+        Change::Refused(_) => Ok(()),
+        Change::Command(command) => {
+            market.make(&command)?;
+            Ok(())
+        }
+        Change::Batch(outcome) => {
+            market.settle(&outcome);
+            Ok(())
+        }
+    }
+}
+
 /// The market of a journal, from entry to entry. Contracts see it as that market.
 #[derive(Drop)]
 pub struct Audit {
@@ -41,8 +93,7 @@ impl Model for Audit {
 impl Audit {
     ghost use Rattle.wire_records.specs.declared.version.Version.TheVariants.{One};
     ghost use Rattle.market_rules.specs.Market.{empty_market, IsConsistent};
-    ghost use Rattle.batch_audit.specs.Legal.{IsLegalPair};
-    ghost use Rattle.batch_audit.specs.Judging.{IsJudged, IsChangeOf, IsWeighed};
+    ghost use Rattle.batch_audit.specs.Judging.{IsJudged};
     ghost use Rattle.batch_audit.specs.Findings.{IsFinding};
 
     /// Begins the audit of a journal of version One, at its first entry. Takes no memory.
@@ -122,14 +173,7 @@ impl Audit {
         }
     }
 
-    /// Returns what the entry changes in the market, which stays as it is: `None` exactly if the entry is no step of
-    /// it, so exactly if [`Audit::pair`] returns `Illegal`. `seen` is the answer that the entry's second record encodes, as
-    /// [`reply`] finds it; an entry whose second record encodes none is invalid. The number that the next order gets is
-    /// below 2^64 - 1.
-    ///
-    /// It costs what the audit of the entry costs without the step. Memory is taken for the start prices of a batch,
-    /// for the prices, rates and residuals of an admissible clearing, and for the walk of a skip what a search takes,
-    /// without its trace.
+    /// Returns what the entry changes in the market, which stays as it is, as [`judge`] does.
     pub fn judge<'a>(
         &mut self,
         pair: &PairView<'a>,
@@ -139,18 +183,12 @@ impl Audit {
         requires next { self.old.next_order + 1 < 2 ^ 64 }
         ensures weighed { IfOk result (IsWeighed self.old pair.now) }
         ensures stays { self.new ≡ self.old }
-        // Memory may run out only at a record for which the audit of the entry may allocate.
         ensures wanted { OnErr result (RecordMayAllocate self.old pair.now.0) }
     {
-        let asked = pair.asked();
-        Ok(judge_record(self.alloc, &mut self.market, &asked, seen)?)
+        judge(&mut self.market, pair, seen)
     }
 
-    /// Makes the step of an entry that was judged over this market: `change` is what [`Audit::judge`] returned for it.
-    /// The number that the next order gets is below 2^64 - 1. After `Memory` the market is as before.
-    ///
-    /// It costs what the step costs: the change has the command, so nothing of the entry is read again. Memory is taken
-    /// for what the market keeps of a command; a batch takes none.
+    /// Makes the step of an entry that was judged over this market, as [`make`] does.
     pub fn make(&mut self, pair: &PairView<'_>, change: Change<'_>) -> Result<(), Memory>
         requires change { IsChangeOf self.old pair.now change }
         requires next { self.old.next_order + 1 < 2 ^ 64 }
@@ -158,18 +196,7 @@ impl Audit {
         ensures stays { OnErr result (self.new ≡ self.old) }
         ensures wanted { OnErr result (RecordMayAllocate self.old pair.now.0) }
     {
-        match change {
-            Change::Nothing => Ok(()),
-            Change::Refused(_) => Ok(()),
-            Change::Command(command) => {
-                self.market.make(&command)?;
-                Ok(())
-            }
-            Change::Batch(outcome) => {
-                self.market.settle(&outcome);
-                Ok(())
-            }
-        }
+        make(&mut self.market, pair, change)
     }
 
     /// Returns why the entry is no step of the market: the first of the findings that holds, and `Legal` exactly if it

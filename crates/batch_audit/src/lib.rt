@@ -3,7 +3,7 @@
 //! An [`Audit`] holds the market from entry to entry. An entry is valid if its reply is the one that the market gives
 //! to its command, or, for a batch, has any admissible outcome: the prices needn't be those that this program would
 //! find. [`Audit::pair`] judges an entry and makes its step; [`Audit::judge`] and [`Audit::make`] are its two halves,
-//! for callers that look at the market in between. The laws of valid entries and journals are in [`laws`].
+//! for callers that look at the market in between, and [`judge`] and [`make`] the same over a market that the caller has. The laws of valid entries and journals are in [`laws`].
 //!
 //! # Costs
 //!
@@ -21,6 +21,6 @@ mod judging;
 pub mod laws;
 mod outcomes;
 
-pub use audit::{Audit, Legality};
+pub use audit::{Audit, Legality, judge, make};
 pub use change::Change;
 pub use finding::Finding;

@@ -1,4 +1,6 @@
 pub mod Serving
+pub mod Halves
+pub mod Listing
 pub mod Journals
 pub mod Running
 pub mod Private

@@ -4,13 +4,13 @@ use Rattle.wire_records.specs.Records.{Record}
 use Rattle.wire_records.specs.Commands.{RunBatch, Plain}
 use Rattle.wire_records.specs.Versions.{IsReadAs}
 use Rattle.flow_orders.specs.Orders.{Order}
-use Rattle.flow_orders.specs.Outcomes.{most_budget, Outcome as batch_value}
+use Rattle.flow_orders.specs.Outcomes.{most_budget}
 use Rattle.flow_orders.specs.Residuals.{most_prices}
 use Rattle.batch_outcome.specs.declared.outcome.Outcome.{Outcome}
 use Rattle.batch_outcome.specs.declared.outcome.Outcome.TheVariants as parts
 use Rattle.canonical_rule.specs.Canonical.{IsCanonicalOutcome}
-use Rattle.market_rules.specs.Market.{Market, most_batches, search_of, start_prices}
-use Rattle.market_rules.specs.Step.{FirstRefusal, after_batch}
+use Rattle.market_rules.specs.Market.{Market, most_batches}
+use Rattle.market_rules.specs.Step.{FirstRefusal}
 use Rattle.market_rules.specs.Journal.{Step}
 use Rattle.exchange_session.specs.declared.session.Asked.{Asked}
 use Rattle.exchange_session.specs.declared.session.Asked.TheVariants as asks
@@ -25,11 +25,6 @@ pub record AsksBatch (old : Market) (asked : Record) (budget : ℕ) : Type 0 whe
 abbrev pub IsAsked : Market → Record → Market → Asked → Type 0
 IsAsked old asked new (asks.Plain reply) = Step IsReadAs IsCanonicalOutcome old asked (Plain reply) new
 IsAsked old asked new (asks.Batch budget) = AsksBatch old asked budget × (new ≡ old)
-
--- a batch of this budget was held by the canonical rule, and this is the market after it
-pub record IsBatchHeld (old : Market) (budget : ℕ) (outcome : batch_value) (new : Market) : Type 0 where
-  pub own : IsCanonicalOutcome (search_of old.version) old.orders (start_prices old) budget outcome
-  pub settled : new ≡ after_batch old outcome
 
 -- an outcome of a batch of these orders that can be written: a clearing with one rate for each order and one imbalance
 -- for each of at most 64 prices, or a skip of at most as many moves as a budget may have

@@ -6,14 +6,13 @@ ghost use Rattle.wire_records.specs.Versions.{IsReadAs};
 ghost use Rattle.flow_orders.specs.Orders.{most_orders};
 ghost use Rattle.canonical_rule.specs.Canonical.{IsCanonicalOutcome};
 ghost use Rattle.batch_outcome.specs.Published.{outcome_of};
-ghost use Rattle.flow_orders.specs.Outcomes.{Outcome as batch_value};
 ghost use Rattle.journal_records.specs.Replies.{answer_record};
 ghost use Rattle.journal_records.specs.Pairs.{pair_encoding};
 ghost use Rattle.market_rules.specs.Market.{IsConsistent, most_batches, search_of, start_prices};
 ghost use Rattle.market_rules.specs.Step.{FirstRefusal, after_batch};
 ghost use Rattle.market_rules.specs.Settling.{MaySettle};
 ghost use Rattle.exchange_session.specs.Serving.{AnswersOne};
-ghost use Rattle.exchange_session.specs.Private.{IsWritable, IsBatchHeld};
+ghost use Rattle.exchange_session.specs.Private.{IsWritable};
 
 use batch_engine::clear;
 use batch_outcome::Outcome;
@@ -80,25 +79,28 @@ fn write_answer(
     }
 }
 
-// Answers a batch that is allowed, right after the record that asks for it, and then settles it.
+// Answers a batch that is allowed, right after the record that asks for it, and returns its outcome, which the market may settle.
 pub(crate) fn answer_batch(
     alloc: Global,
     market: &mut Market,
     budget: u32,
     out: &mut Vec<u8>,
-) -> Result<(), Memory>
+) -> Result<Outcome, Memory>
     requires first { FirstRefusal market.old (RunBatch budget) None }
     requires more { market.old.batches < most_batches }
-    ensures served { OnOk result ((outcome : batch_value) × IsBatchHeld market.old budget outcome market.new
-        × (out.new.items ≡ out.old.items ++ encoding (answer_record (Batch (market.old.batches + 1) outcome)))) }
+    ensures own { IfOk result (λ outcome. IsCanonicalOutcome (search_of market.old.version) market.old.orders
+        (start_prices market.old) budget (outcome_of market.old.orders outcome)) }
+    ensures settles { IfOk result (MaySettle market.old) }
+    ensures written { IfOk result (λ outcome. out.new.items ≡ out.old.items
+        ++ encoding (answer_record (Batch (market.old.batches + 1) (outcome_of market.old.orders outcome)))) }
     ensures consistent { OnOk result (IsConsistent market.old) }
-    ensures stays { OnErr result ((market.new ≡ market.old) × (out.new.items ≡ out.old.items)) }
+    ensures market { market.new ≡ market.old }
+    ensures stays { OnErr result (out.new.items ≡ out.old.items) }
     ensures room { vec_capacity out.old ≤ vec_capacity out.new }
 {
-    let held = outcome_for(alloc, market, budget)?;
-    write_answer(market.batches() + 1, market.orders(), &held, out)?;
-    market.settle(&held);
-    Ok(())
+    let outcome = outcome_for(alloc, market, budget)?;
+    write_answer(market.batches() + 1, market.orders(), &outcome, out)?;
+    Ok(outcome)
 }
 
 // Holds a batch that is allowed: appends its entry, and then settles it.

@@ -1,5 +1,6 @@
 //! One command record, and the entry that it gets.
 ghost use Rattle.std.specs.Prelude.{◌≡◌, ◌++◌, ◌+◌, ◌-◌, ◌^◌, ◌<◌, ◌≤◌, ◌⊎◌, ℕ, List, [], length, Ok, IfOk, OnErr, OnOk, vec_len, vec_capacity};
+ghost use Rattle.std.specs.Borrow.{sem};
 ghost use Rattle.wire_records.specs.Commands.{Plain};
 ghost use Rattle.wire_records.specs.CommandRecords.{record_of, IsCommand, HasShortRow};
 ghost use Rattle.wire_records.specs.Records.{encoding};
@@ -9,10 +10,13 @@ ghost use Rattle.journal_records.specs.Pairs.{plain_room};
 ghost use Rattle.canonical_rule.specs.Canonical.{IsCanonicalOutcome};
 ghost use Rattle.market_rules.specs.Journal.{Step};
 ghost use Rattle.market_rules.specs.Allocating.{MayAllocate, RecordMayAllocate};
+ghost use Rattle.exchange_session.specs.Halves.{IsAnswered};
 ghost use Rattle.exchange_session.specs.Private.{IsAsked};
 
+use crate::answered::{Answered, HeldBatch};
 use crate::batch::{answer_batch, hold_batch};
 use file_units::Prefix;
+use flow_orders::Order;
 use journal_records::{ReplyView, put_reply, reserve_plain, reserve_reply, write_plain};
 use market_core::Market;
 use std::alloc::Global;
@@ -118,13 +122,50 @@ fn reply_to_written(market: &mut Market, command: &Command, bytes: &[u8]) -> Res
     reply_to_command(market, &command.view(bytes))
 }
 
+/// Answers a command of a market, and puts its entry into an empty buffer, as [`Session::serve_command`] does. A command that holds no
+/// batch is served then. For a batch that is allowed this finds the outcome and writes it: the market stays as it is, with the
+/// orders that are live in the batch, until it settles the outcome, as [`Session::settle`] does. The command has few enough legs for its
+/// record, if it has any, and the number that the next order gets is below 2^64 - 1.
+///
+/// The cost is that of [`Session::serve`] without what settling a batch costs. After `Memory` the market is as before, and the
+/// buffer may hold the command's record.
+pub fn answer_command(
+    market: &mut Market,
+    command: &Command,
+    out: &mut Vec<u8>,
+) -> Result<Answered, Memory>
+    requires short { HasShortRow (command_in command.now) }
+    requires next { market.old.next_order + 1 < 2 ^ 64 }
+    requires empty { out.old.items ≡ [] }
+    ensures answered { IfOk result (IsAnswered market.old (command_in command.now) market.new out.new.items) }
+    ensures stays { OnErr result (market.new ≡ market.old) }
+{
+    write_command(command, out)?;
+    reserve_reply(out)?;
+    match reply_to_written(market, command, out)? {
+        Asked::Plain(reply) => {
+            put_reply(&reply, out);
+            Ok(Answered::Plain(reply))
+        }
+        Asked::Batch(budget) => {
+            let place = out.len();
+            let alloc = market.alloc();
+            let outcome = answer_batch(alloc, market, budget, out)?;
+            Ok(Answered::Batch(HeldBatch { outcome, place }))
+        }
+    }
+}
+
 impl Session {
     ghost use Rattle.wire_records.specs.Records.{IsRecord, most_body};
     ghost use Rattle.wire_records.specs.declared.version.Version.TheVariants.{One};
-    ghost use Rattle.market_rules.specs.Market.{empty_market, IsConsistent};
+    ghost use Rattle.market_rules.specs.Market.{empty_market, most_batches, IsConsistent};
+    ghost use Rattle.market_rules.specs.Settling.{MaySettle};
     ghost use Rattle.wire_records.specs.Formats.{commands};
     ghost use Rattle.file_units.specs.Units.{IsTaken, StaysReady};
     ghost use Rattle.exchange_session.specs.Serving.{AnswersOne, ServesCommand, Puts, HasNumbers, AllocatesNext};
+    ghost use Rattle.exchange_session.specs.Halves.{after_held};
+    ghost use Rattle.exchange_session.specs.Listing.{StaysAsListed};
 
     /// Makes a session over the empty market of version One. Takes no memory.
     pub fn new(alloc: Global) -> Session
@@ -150,6 +191,16 @@ impl Session {
         // Called for its contract: the market is consistent.
         let _consistent = self.market.accounts();
         &self.market
+    }
+
+    /// Returns the live orders of the market, by ascending numbers: at most 16,384. If orders were cancelled since the last call,
+    /// this takes one pass over the orders, which closes the gaps that they left. The market is as before.
+    pub fn orders(&mut self) -> &[Order]
+        ensures value { result.now ≡ self.old.orders }
+        ensures consistent { IsConsistent self.old }
+        ensures* after { sem 𝓛 (StaysAsListed self.entry) }
+    {
+        self.market.orders()
     }
 
     /// Returns the market after the records that were served, and ends the session.
@@ -204,19 +255,41 @@ impl Session {
         ensures served { IfOk result (ServesCommand self.old (command_in command.now) self.new out.new.items) }
         ensures stays { OnErr result (self.new ≡ self.old) }
     {
-        write_command(command, out)?;
-        reserve_reply(out)?;
-        match reply_to_written(&mut self.market, command, out)? {
-            Asked::Plain(reply) => {
-                put_reply(&reply, out);
-                Ok(Served::Plain(reply))
-            }
-            Asked::Batch(budget) => {
-                let place = out.len();
-                answer_batch(self.alloc, &mut self.market, budget, out)?;
-                Ok(Served::Batch(place))
+        match self.answer_command(command, out)? {
+            Answered::Plain(reply) => Ok(Served::Plain(reply)),
+            Answered::Batch(held) => {
+                self.settle(&held);
+                Ok(Served::Batch(held.place))
             }
         }
+    }
+
+    /// Answers a command of this session's market, as [`answer_command`] does.
+    pub fn answer_command(
+        &mut self,
+        command: &Command,
+        out: &mut Vec<u8>,
+    ) -> Result<Answered, Memory>
+        requires short { HasShortRow (command_in command.now) }
+        requires next { self.old.next_order + 1 < 2 ^ 64 }
+        requires empty { out.old.items ≡ [] }
+        ensures answered { IfOk result (IsAnswered self.old (command_in command.now) self.new out.new.items) }
+        ensures stays { OnErr result (self.new ≡ self.old) }
+    {
+        answer_command(&mut self.market, command, out)
+    }
+
+    /// Settles a batch that [`Session::answer_command`] answered in this market, so that its command is served. Its outcome is
+    /// admissible for the live orders and the start prices, and fewer than 2^24 batches were held.
+    ///
+    /// The call takes no memory and can't fail. It costs two passes over the legs of the live orders, however many accounts there
+    /// are, and one over the orders and the legs of those that leave.
+    pub fn settle(&mut self, held: &HeldBatch)
+        requires right { MaySettle self.old held.now.outcome }
+        requires more { self.old.batches < most_batches }
+        ensures { self.new ≡ after_held self.old held.now }
+    {
+        self.market.settle(&held.outcome);
     }
 
     /// Serves the record that begins the bytes of a command file, if it is complete, puts its entry into an empty
