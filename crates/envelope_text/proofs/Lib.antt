@@ -1,2 +1,2 @@
 mod Members
-mod OneEnvelope
+pub mod OneEnvelope

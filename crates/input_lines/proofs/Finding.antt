@@ -13,8 +13,7 @@ use Rattle.flow_io.proofs.Reading.{Takes-more}
 use Rattle.file_units.proofs.Gone.{within_limit}
 use Rattle.line_records.specs.Lines.{HasNoFeed}
 use Rattle.line_records.proofs.Pieces.{empty_piece, line_found, no_line_found}
-use Rattle.input_lines.specs.Long.{most_line}
-use Rattle.input_lines.specs.Finding.{IsOpen, Found, FindsNext, FindsNoFeed}
+use Rattle.input_lines.specs.Finding.{IsOpenFor, Found, FindsNextWithin, FindsNoFeed}
 use Rattle.input_lines.specs.Private.{IsPassing, IsSearching}
 use Rattle.input_lines.specs.declared.lines.Next.{Next}
 use Rattle.input_lines.specs.declared.lines.Next.TheVariants as next
@@ -70,7 +69,7 @@ module _ (w f : WindowState) (x y : Option (List ℕ)) (fills : Fills w f x y) w
       no_bytes (b ∷ l) e = absurd (omega (arith, e))
 
   -- a window stays open
-  pub stays_open : IsOpen w x → f.over ≡ w.over → (f.over ≡ Some Source → IfSome y (λ left. left ≡ [])) → IsWithin f.place (length f.held) f.limit f.over → IsOpen f y
+  pub stays_open : {most : ℕ} → IsOpenFor most w x → f.over ≡ w.over → (f.over ≡ Some Source → IfSome y (λ left. left ≡ [])) → IsWithin f.place (length f.held) f.limit f.over → IsOpenFor most f y
   stays_open is_open same all within = record {
     room = filled_room ∙ is_open.room;
     unlimited = λ e. is_open.unlimited (sym same ∙ e);
@@ -84,7 +83,7 @@ gave_up w g held same gives = subst (λ (l : List ℕ). g ≡ record w { held = 
 
 -- ---- a line is sought
 
-pub search_none : (w : WindowState) (x : Option (List ℕ)) → IsOpen w x → IsSearching w w x x 0
+pub search_none : {most : ℕ} (w : WindowState) (x : Option (List ℕ)) → IsOpenFor most w x → IsSearching most w w x x 0
 search_none w x is_open = record {
   joined = [];
   takes = Takes-nothing x;
@@ -96,7 +95,7 @@ search_none w x is_open = record {
   is_open = is_open;
 }
 
-module _ (old w : WindowState) (first x : Option (List ℕ)) (seen : ℕ) (is : IsSearching old w first x seen) where
+module _ {most : ℕ} (old w : WindowState) (first x : Option (List ℕ)) (seen : ℕ) (is : IsSearching most old w first x seen) where
   all_held : old.held ++ is.joined ≡ w.held
   all_held = sym is.held
 
@@ -104,7 +103,7 @@ module _ (old w : WindowState) (first x : Option (List ℕ)) (seen : ℕ) (is : 
   all_within = omega (arith, is.is_open.within, is.place, is.limit, ap length is.held)
 
   -- a line feed was found
-  pub search_found : (size : ℕ) → length w.held ≤ w.room → IsFirstByte (is_byte 10) (drop seen w.held) (Some size) → FindsNext old w first x (next.Line (seen + size))
+  pub search_found : (size : ℕ) → length w.held ≤ w.room → IsFirstByte (is_byte 10) (drop seen w.held) (Some size) → FindsNextWithin most old w first x (next.Line (seen + size))
   search_found size few found =
       let one = line_found (drop seen w.held) size found in
       let parts : w.held ≡ take seen w.held ++ (take size (drop seen w.held) ++ 10 ∷ drop (size + 1) (drop seen w.held)) =
@@ -118,7 +117,7 @@ module _ (old w : WindowState) (first x : Option (List ℕ)) (seen : ℕ) (is : 
         takes = subst (Takes first x) (sym (append-nil is.joined)) is.takes;
         limit = is.limit;
         within = all_within;
-        is = subst (λ (l : List ℕ). Found old w x [] l (next.Line (seen + size))) is.held (
+        is = subst (λ (l : List ℕ). Found most old w x [] l (next.Line (seen + size))) is.held (
           refl,
           is.place,
           inside,
@@ -136,7 +135,7 @@ module _ (old w : WindowState) (first x : Option (List ℕ)) (seen : ℕ) (is : 
   search_all none = subst HasNoFeed (take-append-drop seen w.held) (pieces_join (take seen w.held) (drop seen w.held) is.piece (no_line_found (drop seen w.held) none))
 
   -- what was found by passing over a long line
-  pub passed : (new : WindowState) (after : Option (List ℕ)) (found : Next) → FindsNext w new x after found → FindsNext old new first after found
+  pub passed : (new : WindowState) (after : Option (List ℕ)) (found : Next) → FindsNextWithin most w new x after found → FindsNextWithin most old new first after found
   passed new after found finds =
       let bytes : old.held ++ (is.joined ++ finds.joined) ≡ w.held ++ finds.joined = sym (append_assoc old.held is.joined finds.joined) ∙ ap (λ (l : List ℕ). l ++ finds.joined) all_held in
       record {
@@ -145,10 +144,10 @@ module _ (old w : WindowState) (first x : Option (List ℕ)) (seen : ℕ) (is : 
         takes = subst (Takes first after) (sym (append_assoc is.joined finds.joined finds.past)) (Takes-more first x after is.joined (finds.joined ++ finds.past) is.takes finds.takes);
         limit = finds.limit ∙ is.limit;
         within = omega (arith, finds.within, is.place, is.limit, ap length bytes);
-        is = subst (λ (l : List ℕ). Found old new after finds.past l found) (sym bytes) (found_by new after finds.past (w.held ++ finds.joined) found finds.is);
+        is = subst (λ (l : List ℕ). Found most old new after finds.past l found) (sym bytes) (found_by new after finds.past (w.held ++ finds.joined) found finds.is);
       }
     where
-      found_by : (new : WindowState) (after : Option (List ℕ)) (past all : List ℕ) (found : Next) → Found w new after past all found → Found old new after past all found
+      found_by : (new : WindowState) (after : Option (List ℕ)) (past all : List ℕ) (found : Next) → Found most w new after past all found → Found most old new after past all found
       found_by new after past all (next.Line size) f = (f.0, f.1 ∙ is.place, f.2, f.3, f.4, f.5, f.6, f.7)
       found_by new after past all next.Long f = (f.0, f.1, f.2, f.3, f.4 ∙ ap (λ (n : ℕ). n + (length f.0 + 1)) is.place, f.5, f.6)
       found_by new after past all next.Last f = (f.0, f.1 ∙ is.place, f.2, f.3, f.4, f.5, f.6, f.7)
@@ -166,8 +165,15 @@ module _ (old w : WindowState) (first x : Option (List ℕ)) (seen : ℕ) (is : 
         piece = subst HasNoFeed (sym bytes) none.piece;
       }
 
-  pub passed_by : (new : WindowState) (after : Option (List ℕ)) (result : Result Next ReadFailed) → IfOk result (FindsNext w new x after) → IfOk result (FindsNext old new first after)
-  passed_by new after (Ok found) finds = passed new after found finds
+  -- the window has room for one byte more than a line may have
+  room_is : most ≡ w.room - 1
+  room_is = omega (arith, is.is_open.room)
+
+  pub passed_open : IsOpenFor (w.room - 1) w x
+  passed_open = subst (λ (n : ℕ). IsOpenFor n w x) room_is is.is_open
+
+  pub passed_by : (new : WindowState) (after : Option (List ℕ)) (result : Result Next ReadFailed) → IfOk result (FindsNextWithin (w.room - 1) w new x after) → IfOk result (FindsNextWithin most old new first after)
+  passed_by new after (Ok found) finds = passed new after found (subst (λ (n : ℕ). FindsNextWithin n w new x after found) (sym room_is) finds)
   passed_by new after (Err failed) finds = tt
 
   pub passed_none_by : (after : Option (List ℕ)) (result : Result Next ReadFailed) → OnErr result (FindsNoFeed w x after) → OnErr result (FindsNoFeed old first after)
@@ -180,7 +186,7 @@ module _ (old w : WindowState) (first x : Option (List ℕ)) (seen : ℕ) (is : 
     further : f.over ≢ Some Limit → Takes first y (is.joined ++ fills.joined)
     further not = Takes-more first x y is.joined fills.joined is.takes (taken_whole w f x y fills not)
 
-    pub search_more : f.over ≡ w.over → IsSearching old f first y (length w.held)
+    pub search_more : f.over ≡ w.over → IsSearching most old f first y (length w.held)
     search_more same = record {
       joined = is.joined ++ fills.joined;
       takes = further (λ e. is.is_open.unlimited (sym same ∙ e));
@@ -197,7 +203,7 @@ module _ (old w : WindowState) (first x : Option (List ℕ)) (seen : ℕ) (is : 
       same_held : f.held ≡ w.held
       same_held = filled_held w f x y fills ∙ ap (λ (l : List ℕ). w.held ++ l) (joined_none w f x y fills few) ∙ append-nil w.held
 
-      pub search_limit : f.over ≡ Some Limit → (w.over ≢ None → f.over ≡ w.over) → FindsNext old f first y next.Limit
+      pub search_limit : f.over ≡ Some Limit → (w.over ≢ None → f.over ≡ w.over) → FindsNextWithin most old f first y next.Limit
       search_limit over kept =
           let full : f.place + length f.held ≡ f.limit = subst (λ (o : Option InputEnd). IsWithin f.place (length f.held) f.limit o) over within in
           record {
@@ -206,7 +212,7 @@ module _ (old w : WindowState) (first x : Option (List ℕ)) (seen : ℕ) (is : 
             takes = Takes-more first x y is.joined fills.past is.takes (subst (λ (l : List ℕ). Takes x y (l ++ fills.past)) (joined_none w f x y fills few) fills.taken);
             limit = filled_limit w f x y fills ∙ is.limit;
             within = all_within;
-            is = subst (λ (l : List ℕ). Found old f y fills.past l next.Limit) is.held (
+            is = subst (λ (l : List ℕ). Found most old f y fills.past l next.Limit) is.held (
               piece,
               past_one w.over f.over fills.past is.is_open.unlimited over kept fills.beyond,
               omega (arith, full, ap length same_held, filled_place w f x y fills, filled_limit w f x y fills, is.place, is.limit),
@@ -224,14 +230,14 @@ module _ (old w : WindowState) (first x : Option (List ℕ)) (seen : ℕ) (is : 
       ended_takes : f.over ≡ Some Source → Takes first y (is.joined ++ [])
       ended_takes over = subst (λ (l : List ℕ). Takes first y (is.joined ++ l)) (joined_none w f x y fills few) (further (λ e. not_none f.over over e))
 
-      pub search_last : f.over ≡ Some Source → f.held ≢ [] → length w.held ≤ most_line → FindsNext old f first y next.Last
+      pub search_last : f.over ≡ Some Source → f.held ≢ [] → length w.held ≤ most → FindsNextWithin most old f first y next.Last
       search_last over some short = record {
         joined = is.joined;
         past = [];
         takes = ended_takes over;
         limit = filled_limit w f x y fills ∙ is.limit;
         within = all_within;
-        is = subst (λ (l : List ℕ). Found old f y [] l next.Last) is.held (
+        is = subst (λ (l : List ℕ). Found most old f y [] l next.Last) is.held (
           same_held,
           filled_place w f x y fills ∙ is.place,
           (λ e. some (same_held ∙ e)),
@@ -248,23 +254,23 @@ module _ (old w : WindowState) (first x : Option (List ℕ)) (seen : ℕ) (is : 
         );
       }
 
-      pub search_end : f.over ≡ Some Source → f.held ≡ [] → FindsNext old f first y next.End
+      pub search_end : f.over ≡ Some Source → f.held ≡ [] → FindsNextWithin most old f first y next.End
       search_end over none = record {
         joined = is.joined;
         past = [];
         takes = ended_takes over;
         limit = filled_limit w f x y fills ∙ is.limit;
         within = all_within;
-        is = subst (λ (l : List ℕ). Found old f y [] l next.End) is.held (sym same_held ∙ none, refl, (over, all over));
+        is = subst (λ (l : List ℕ). Found most old f y [] l next.End) is.held (sym same_held ∙ none, refl, (over, all over));
       }
 
-      pub search_ended : f.over ≡ Some Source → length w.held ≤ most_line → (found : Next) → (found ≡ next.Last → f.held ≢ []) → (found ≡ next.End → f.held ≡ []) → (found ≡ next.Last) ⊎ (found ≡ next.End) → FindsNext old f first y found
+      pub search_ended : f.over ≡ Some Source → length w.held ≤ most → (found : Next) → (found ≡ next.Last → f.held ≢ []) → (found ≡ next.End → f.held ≡ []) → (found ≡ next.Last) ⊎ (found ≡ next.End) → FindsNextWithin most old f first y found
       search_ended over short found some none either =
-          ⊎_elim (λ last. subst (λ (n : Next). FindsNext old f first y n) (sym last) (search_last over (some last) short)) (λ end. subst (λ (n : Next). FindsNext old f first y n) (sym end) (search_end over (none end))) either
+          ⊎_elim (λ last. subst (λ (n : Next). FindsNextWithin most old f first y n) (sym last) (search_last over (some last) short)) (λ end. subst (λ (n : Next). FindsNextWithin most old f first y n) (sym end) (search_end over (none end))) either
 
 -- ---- a long line is passed over
 
-pub passing_none : (w : WindowState) (x : Option (List ℕ)) → IsOpen w x → HasNoFeed w.held → most_line < length w.held → IsPassing w w x x
+pub passing_none : {most : ℕ} (w : WindowState) (x : Option (List ℕ)) → IsOpenFor most w x → HasNoFeed w.held → most < length w.held → IsPassing most w w x x
 passing_none w x is_open piece long = record {
   joined = [];
   gone = [];
@@ -278,7 +284,7 @@ passing_none w x is_open piece long = record {
 }
 
 -- the held bytes were given up, and the window `g` was filled to `f`
-module _ (old w g f : WindowState) (first x y : Option (List ℕ)) (is : IsPassing old w first x) (gives : g ≡ record w { held = drop (length w.held) w.held; place = w.place + length w.held })
+module _ {most : ℕ} (old w g f : WindowState) (first x y : Option (List ℕ)) (is : IsPassing most old w first x) (gives : g ≡ record w { held = drop (length w.held) w.held; place = w.place + length w.held })
     (fills : Fills g f x y) (all : f.over ≡ Some Source → IfSome y (λ left. left ≡ [])) (within : IsWithin f.place (length f.held) f.limit f.over) where
   abbrev whole : List ℕ
   whole = is.gone ++ w.held
@@ -310,7 +316,7 @@ module _ (old w g f : WindowState) (first x y : Option (List ℕ)) (is : IsPassi
   now_room : f.room ≡ w.room
   now_room = filled_room g f x y fills ∙ ap (λ (s : WindowState). s.room) gives
 
-  still_open : f.over ≡ g.over → IsOpen f y
+  still_open : f.over ≡ g.over → IsOpenFor most f y
   still_open same = record {
     room = now_room ∙ is.is_open.room;
     unlimited = λ e. is.is_open.unlimited (sym over_same ∙ sym same ∙ e);
@@ -319,7 +325,7 @@ module _ (old w g f : WindowState) (first x y : Option (List ℕ)) (is : IsPassi
   }
 
   -- no line feed is among the bytes that were read
-  pub passing_more : f.over ≡ g.over → IsFirstByte (is_byte 10) f.held None → IsPassing old f first y
+  pub passing_more : f.over ≡ g.over → IsFirstByte (is_byte 10) f.held None → IsPassing most old f first y
   passing_more same none = record {
     joined = is.joined ++ fills.joined;
     gone = whole;
@@ -333,7 +339,7 @@ module _ (old w g f : WindowState) (first x y : Option (List ℕ)) (is : IsPassi
   }
 
   -- one is, and the window begins after it
-  pub passing_found : (size : ℕ) (b : WindowState) → f.over ≡ g.over → IsFirstByte (is_byte 10) f.held (Some size) → b ≡ record f { held = drop (size + 1) f.held; place = f.place + (size + 1) } → FindsNext old b first y next.Long
+  pub passing_found : (size : ℕ) (b : WindowState) → f.over ≡ g.over → IsFirstByte (is_byte 10) f.held (Some size) → b ≡ record f { held = drop (size + 1) f.held; place = f.place + (size + 1) } → FindsNextWithin most old b first y next.Long
   passing_found size b same found following =
       let one = line_found f.held size found in
       let line = whole ++ take size f.held in
@@ -345,7 +351,7 @@ module _ (old w g f : WindowState) (first x y : Option (List ℕ)) (is : IsPassi
         takes = subst (Takes first y) (sym (append-nil (is.joined ++ fills.joined))) (now_takes (λ e. is.is_open.unlimited (sym over_same ∙ sym same ∙ e)));
         limit = ap (λ (s : WindowState). s.limit) following ∙ now_limit;
         within = now_within;
-        is = subst (λ (l : List ℕ). Found old b y [] l next.Long) (sym now_parts) (
+        is = subst (λ (l : List ℕ). Found most old b y [] l next.Long) (sym now_parts) (
           line,
           omega (arith, is.long, length-append whole (take size f.held)),
           pieces_join whole (take size f.held) is.piece one.0.0,
@@ -372,7 +378,7 @@ module _ (old w g f : WindowState) (first x y : Option (List ℕ)) (is : IsPassi
     all_in : old.place + length (old.held ++ is.joined) ≤ old.limit
     all_in = omega (arith, is.is_open.within, is.place, is.limit, ap length is.parts, length-append is.gone w.held)
 
-    pub passing_limit : f.over ≡ Some Limit → (g.over ≢ None → f.over ≡ g.over) → FindsNext old f first y next.Limit
+    pub passing_limit : f.over ≡ Some Limit → (g.over ≢ None → f.over ≡ g.over) → FindsNextWithin most old f first y next.Limit
     passing_limit over kept =
         let full : f.place + length f.held ≡ f.limit = subst (λ (o : Option InputEnd). IsWithin f.place (length f.held) f.limit o) over within in
         record {
@@ -381,21 +387,21 @@ module _ (old w g f : WindowState) (first x y : Option (List ℕ)) (is : IsPassi
           takes = Takes-more first x y is.joined fills.past is.takes (subst (λ (l : List ℕ). Takes x y (l ++ fills.past)) none_joined fills.taken);
           limit = now_limit;
           within = all_in;
-          is = subst (λ (l : List ℕ). Found old f y fills.past l next.Limit) (sym all_is) (
+          is = subst (λ (l : List ℕ). Found most old f y fills.past l next.Limit) (sym all_is) (
             is.piece,
             past_one g.over f.over fills.past (λ e. is.is_open.unlimited (sym over_same ∙ e)) over kept fills.beyond,
             omega (arith, full, few, now_place, now_limit),
           );
         }
 
-    pub passing_last : f.over ≡ Some Source → FindsNext old f first y next.LongLast
+    pub passing_last : f.over ≡ Some Source → FindsNextWithin most old f first y next.LongLast
     passing_last over = record {
       joined = is.joined;
       past = [];
       takes = subst (λ (l : List ℕ). Takes first y (is.joined ++ l)) none_joined (now_takes (λ e. not_none f.over over e));
       limit = now_limit;
       within = all_in;
-      is = subst (λ (l : List ℕ). Found old f y [] l next.LongLast) (sym all_is) (is.long, is.piece, refl, (over, all over));
+      is = subst (λ (l : List ℕ). Found most old f y [] l next.LongLast) (sym all_is) (is.long, is.piece, refl, (over, all over));
     }
 
     pub passing_unread : f.over ≡ None → FindsNoFeed old first y

@@ -3,11 +3,10 @@ use Rattle.std.specs.Prelude.{◌≡◌, ◌<◌, ◌≤◌, ◌+◌, ℕ, List,
 use Rattle.flow_io.specs.Streams.{Takes}
 use Rattle.flow_io.specs.Windows.{WindowState}
 use Rattle.line_records.specs.Lines.{HasNoFeed}
-use Rattle.input_lines.specs.Long.{most_line}
-use Rattle.input_lines.specs.Finding.{IsOpen}
+use Rattle.input_lines.specs.Finding.{IsOpenFor}
 
 -- the bytes of a part of a long line were given up
-pub record IsPassing (old now : WindowState) (before rest : Option (List ℕ)) : Type 0 where
+pub record IsPassing (most : ℕ) (old now : WindowState) (before rest : Option (List ℕ)) : Type 0 where
   pub joined : List ℕ
   pub gone : List ℕ
   pub takes : Takes before rest joined
@@ -15,11 +14,11 @@ pub record IsPassing (old now : WindowState) (before rest : Option (List ℕ)) :
   pub parts : old.held ++ joined ≡ gone ++ now.held
   pub place : now.place ≡ old.place + length gone
   pub piece : HasNoFeed (gone ++ now.held)
-  pub long : most_line < length (gone ++ now.held)
-  pub is_open : IsOpen now rest
+  pub long : most < length (gone ++ now.held)
+  pub is_open : IsOpenFor most now rest
 
 -- bytes were joined to those held, and the first `seen` of all have no line feed
-pub record IsSearching (old now : WindowState) (before rest : Option (List ℕ)) (seen : ℕ) : Type 0 where
+pub record IsSearching (most : ℕ) (old now : WindowState) (before rest : Option (List ℕ)) (seen : ℕ) : Type 0 where
   pub joined : List ℕ
   pub takes : Takes before rest joined
   pub limit : now.limit ≡ old.limit
@@ -27,4 +26,4 @@ pub record IsSearching (old now : WindowState) (before rest : Option (List ℕ))
   pub place : now.place ≡ old.place
   pub inside : seen ≤ length now.held
   pub piece : HasNoFeed (take seen now.held)
-  pub is_open : IsOpen now rest
+  pub is_open : IsOpenFor most now rest

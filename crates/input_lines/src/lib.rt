@@ -1,4 +1,5 @@
-//! The lines of an input that is read through a window: [`next_line`] finds one after the other, or passes over one that is too long.
+//! The lines of an input that is read through a window: [`next_line`] finds one after the other, or passes over one that is too long;
+//! [`next_line_within`] does so for lines of another length.
 //!
 //! # Costs
 //!
@@ -7,7 +8,7 @@
 
 mod lines;
 
-pub use lines::{Next, next_line};
+pub use lines::{Next, next_line, next_line_within};
 
 /// The most bytes of a line before its line feed.
 pub const MOST_LINE: usize = 65_536;

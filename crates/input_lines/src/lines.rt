@@ -1,9 +1,8 @@
 //! The lines of an input, each found in a window or passed over.
-ghost use Rattle.std.specs.Prelude.{◌≡◌, ◌≢◌, ◌<◌, ◌⊎◌, [], length, IfOk, OnErr, IsErr};
+ghost use Rattle.std.specs.Prelude.{◌≡◌, ◌≢◌, ◌<◌, ◌-◌, ◌⊎◌, [], length, IfOk, OnErr, IsErr};
 ghost use Rattle.flow_io.specs.Faults.{Blames};
 ghost use Rattle.line_records.specs.Lines.{HasNoFeed};
-ghost use Rattle.input_lines.specs.Long.{most_line};
-ghost use Rattle.input_lines.specs.Finding.{IsOpen, FindsNext, FindsNoFeed};
+ghost use Rattle.input_lines.specs.Finding.{IsOpen, IsOpenFor, FindsNext, FindsNextWithin, FindsNoFeed};
 
 use crate::MOST_LINE;
 use flow_io::{Filled, ReadFailed, Source, Window};
@@ -26,12 +25,12 @@ pub enum Next {
     Limit,
 }
 
-// Passes over a line that is too long, of which the window holds the first bytes.
+// Passes over a line that is too long for the window, which holds the first bytes of it.
 fn pass_over<S: Source>(window: &mut Window, source: &mut S) -> Result<Next, ReadFailed>
-    requires open { IsOpen window.old (S.rest source.old) }
+    requires open { IsOpenFor (window.old.room - 1) window.old (S.rest source.old) }
     requires piece { HasNoFeed window.old.held }
-    requires long { most_line < length window.old.held }
-    ensures finds { IfOk result (FindsNext window.old window.new (S.rest source.old) (S.rest source.new)) }
+    requires long { window.old.room - 1 < length window.old.held }
+    ensures finds { IfOk result (FindsNextWithin (window.old.room - 1) window.old window.new (S.rest source.old) (S.rest source.new)) }
     ensures none { OnErr result (FindsNoFeed window.old (S.rest source.old) (S.rest source.new)) }
     ensures cause { Blames (IsErr result) (S.faults source.old) (S.faults source.new) }
 {
@@ -54,12 +53,16 @@ fn pass_over<S: Source>(window: &mut Window, source: &mut S) -> Result<Next, Rea
     }
 }
 
-/// FindsNext what an input has next, after what its window has given up: reads only while the window holds no line feed, until it holds one, the input ends, or
-/// the line is too long, which is passed over. The window has room for 65,537 bytes. `ReadFailed` comes only if the source's count of faults rose; then no
-/// line feed is among the bytes that were taken.
-pub fn next_line<S: Source>(window: &mut Window, source: &mut S) -> Result<Next, ReadFailed>
-    requires open { IsOpen window.old (S.rest source.old) }
-    ensures finds { IfOk result (FindsNext window.old window.new (S.rest source.old) (S.rest source.new)) }
+/// Finds what an input has next among lines of at most `most` bytes, after what its window has given up: reads only while the window holds no line feed,
+/// until it holds one, the input ends, or the line is too long, which is passed over. The window has room for one byte more than `most`. `ReadFailed`
+/// comes only if the source's count of faults rose; then no line feed is among the bytes that were taken.
+pub fn next_line_within<S: Source>(
+    window: &mut Window,
+    source: &mut S,
+    most: usize,
+) -> Result<Next, ReadFailed>
+    requires open { IsOpenFor most window.old (S.rest source.old) }
+    ensures finds { IfOk result (FindsNextWithin most window.old window.new (S.rest source.old) (S.rest source.new)) }
     ensures none { OnErr result (FindsNoFeed window.old (S.rest source.old) (S.rest source.new)) }
     ensures cause { Blames (IsErr result) (S.faults source.old) (S.faults source.new) }
 {
@@ -70,7 +73,7 @@ pub fn next_line<S: Source>(window: &mut Window, source: &mut S) -> Result<Next,
             None => {}
         }
         seen = window.held().len();
-        if seen > MOST_LINE {
+        if seen > most {
             return pass_over(window, source);
         }
         match window.fill(source, seen + 1) {
@@ -80,6 +83,16 @@ pub fn next_line<S: Source>(window: &mut Window, source: &mut S) -> Result<Next,
             Err(failed) => return Err(failed),
         }
     }
+}
+
+/// Finds what an input has next among lines of at most 65,536 bytes, as [`next_line_within`] does. The window has room for 65,537 bytes.
+pub fn next_line<S: Source>(window: &mut Window, source: &mut S) -> Result<Next, ReadFailed>
+    requires open { IsOpen window.old (S.rest source.old) }
+    ensures finds { IfOk result (FindsNext window.old window.new (S.rest source.old) (S.rest source.new)) }
+    ensures none { OnErr result (FindsNoFeed window.old (S.rest source.old) (S.rest source.new)) }
+    ensures cause { Blames (IsErr result) (S.faults source.old) (S.faults source.new) }
+{
+    next_line_within(window, source, MOST_LINE)
 }
 
 // What is last in an input that has ended, of which the window holds so much.

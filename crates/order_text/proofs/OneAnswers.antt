@@ -11,7 +11,7 @@ use Rattle.order_text.specs.declared.line.LineRead.TheVariants as line_is
 use Rattle.order_text.specs.declared.line.LineFault.{LineFault}
 use Rattle.order_text.specs.declared.line.LineFault.TheVariants.{NoCommand, Memory}
 use Rattle.wire_records.specs.declared.version.Version.{Version}
-use Rattle.order_text.specs.Lines.{HasKeys, padded, asset_named, Value, Text, Ticker, Asset, Small, Number, Signed, Weights, Points, HasAt, members_of, ladder_members, AsksLadder, Asked, Alone, OfLadder, ObjectAsks, commands_of, Leaves, Leave, Says}
+use Rattle.order_text.specs.Lines.{HasKeys, padded, asset_named, Value, Text, Ticker, Asset, Small, Number, Signed, Weights, Points, HasAt, members_of, ladder_members, AsksLadder, Asked, Alone, OfLadder, ObjectAsks, commands_of, LineAsks, Leaves, Leave, Says}
 use Rattle.order_text.specs.Private.{text_at, number_at, signed_member, members_at, items_at, word_of, Has, put_members, put_points}
 use Rattle.order_text.proofs.AskedFor.{word_asked, fits_asked}
 use Rattle.order_text.proofs.Weights.{made_where}
@@ -177,9 +177,13 @@ one_value version tickers c d a b same x y =
     let value : c ≡ d = cc in
     one_for version tickers d a b (subst (λ v. ObjectAsks version tickers v a) value x) y
 
+-- a line asks for one thing
+pub one_thing : (version : Version) (tickers : List (List ℕ)) (line : List ℕ) (a b : Asked) → LineAsks version tickers line a → LineAsks version tickers line b → a ≡ b
+one_thing version tickers line a b x y = one_value version tickers x.value y.value a b (sym x.reads ∙ y.reads) x.asks y.asks
+
 pub one_saying : OneSaying
 one_saying version tickers line a b after other x y =
-    let same = one_value version tickers x.asks.value y.asks.value a b (sym x.asks.reads ∙ y.asks.reads) x.asks.asks y.asks.asks in
+    let same = one_thing version tickers line a b x.asks y.asks in
     (same, one_table tickers (commands_of b) after other (subst (λ asked. Leave tickers (commands_of asked) after) same x.leaves) y.leaves)
 
 pub one_answer : OneSaying → (version : Version) (tickers : List (List ℕ)) (line : List ℕ) (a b : Answer) (after other : List (List ℕ)) → a ≢ may_run_out → b ≢ may_run_out

@@ -38,7 +38,8 @@ pub enum LineFault {
     Memory,
 }
 
-fn is_blank(line: &[u8]) -> bool
+/// Returns whether a line is blank: it has no byte but spaces, tabs and carriage returns.
+pub fn is_blank(line: &[u8]) -> bool
     ensures { IsTrue result ↔ IsBlank line.now }
 {
     line.iter()
