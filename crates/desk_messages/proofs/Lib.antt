@@ -1,0 +1,3 @@
+mod Chains
+mod Collecting
+pub mod Telling

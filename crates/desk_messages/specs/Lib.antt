@@ -1,0 +1,4 @@
+pub mod Desks
+pub mod Messages
+pub mod Batches
+pub mod Private
