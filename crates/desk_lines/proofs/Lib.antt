@@ -1,0 +1,5 @@
+mod Blanks
+mod Asking
+mod OneHearings
+mod OneWishes
+mod Wishing

@@ -1,0 +1,5 @@
+pub mod Rights
+pub mod Hearing
+pub mod Wishes
+pub mod Answers
+pub mod Laws
