@@ -1,0 +1,6 @@
+mod Parts
+mod Counting
+mod Fitting
+mod Telling
+mod Answering
+mod Left

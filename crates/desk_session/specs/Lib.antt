@@ -1,0 +1,5 @@
+pub mod Talks
+pub mod Lines
+pub mod States
+pub mod Said
+pub mod Private
