@@ -1,0 +1,7 @@
+mod LongCheckpoints
+mod FirstBytes
+mod Begun
+mod FirstEntries
+mod OneBeginning
+pub mod Finding
+pub mod Along

@@ -1,0 +1,4 @@
+pub mod Beginnings
+pub mod Books
+pub mod Laws
+pub mod Private
