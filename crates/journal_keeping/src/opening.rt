@@ -119,9 +119,9 @@ fn open_kept<D: Disk>(
     }
 }
 
-// Makes a new disk one that begins so: with the magic of a version, and with this first entry as it is stored, if it has bytes. The only error
-// is `Disk`, and only if the disk's count rose.
-fn make_disk<D: Disk>(
+/// Makes a new disk one that begins so: with the magic of a version, and with this first entry as it is stored, if it has bytes. The only error
+/// is `Disk`, and only if the disk's count rose.
+pub fn make_disk<D: Disk>(
     appender: &mut Appender,
     disk: &mut D,
     version: Version,
