@@ -116,7 +116,7 @@ module _ (old : State) (line : List ℕ) where
 
 -- ---- all accounts stay counted
 
-line_accounts : (d : Desks) (sender : Recipient) → length (with_line d sender).accounts ≡ length d.accounts
+pub line_accounts : (d : Desks) (sender : Recipient) → length (with_line d sender).accounts ≡ length d.accounts
 line_accounts d Operator = refl
 line_accounts d (Desk account) = length-set d.accounts (account - 1) _
 line_accounts d ToAll = refl
@@ -170,7 +170,7 @@ on_kept (Ok x) P follows holds = follows x holds
 on_kept (Err e) P follows holds = tt
 
 -- the sender of a line is there
-heard_there : (d : Desks) (line : List ℕ) (sender : Recipient) (text : List ℕ) → IsHeard d line (heard.From sender text) → IsThere d sender
+pub heard_there : (d : Desks) (line : List ℕ) (sender : Recipient) (text : List ℕ) → IsHeard d line (heard.From sender text) → IsThere d sender
 heard_there d line sender text (sent, is, from, said, next) = subst (IsThere d) (sym from) is.there
 
 -- the number of a line that was counted

@@ -4,3 +4,6 @@ mod Fitting
 mod Telling
 mod Answering
 mod Left
+pub mod Going
+pub mod Bounds
+pub mod Answered

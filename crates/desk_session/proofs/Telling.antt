@@ -28,7 +28,7 @@ announced_few tickers command (Plain (Refused refusal)) = omega arith
 announced_few tickers command (Batch batch outcome) = omega arith
 
 -- a command that was served is told by three messages at most
-served_few : (accounts : ℕ) (sender : Recipient) (line entry : ℕ) (tickers : List (List ℕ)) (command : Command) (answer : Answer Outcome)
+pub served_few : (accounts : ℕ) (sender : Recipient) (line entry : ℕ) (tickers : List (List ℕ)) (command : Command) (answer : Answer Outcome)
     → length (served_messages accounts sender line entry tickers command answer) ≤ 3
 served_few accounts sender line entry tickers command answer =
     let members = echo_members tickers command answer in

@@ -3,3 +3,4 @@ pub mod Lines
 pub mod States
 pub mod Said
 pub mod Private
+pub mod Bounds

@@ -1,5 +1,5 @@
 -- What comes of the lines of many senders: which entries their commands get, and which texts are written.
-use Rattle.std.specs.Prelude.{◌≡◌, ℕ, ◌+◌, List, [], ◌∷◌, ◌++◌, length, codes, Some, None}
+use Rattle.std.specs.Prelude.{◌≡◌, ◌⊎◌, ℕ, ◌+◌, List, [], ◌∷◌, ◌++◌, length, codes, Some, None}
 use Rattle.wire_records.specs.Records.{Record}
 use Rattle.wire_records.specs.Commands.{Command, Answer, Plain, Batch, Pair}
 use Rattle.wire_records.specs.CommandRecords.{record_of}
@@ -8,7 +8,7 @@ use Rattle.flow_orders.specs.Orders as book
 use Rattle.flow_orders.specs.Outcomes.{Outcome, Cleared, Skipped, BatchRule}
 use Rattle.market_rules.specs.Market.{Market, start_prices}
 use Rattle.market_rules.specs.Journal.{Step}
-use Rattle.order_text.specs.Lines.{commands_of}
+use Rattle.order_text.specs.Lines.{Asked, commands_of}
 use Rattle.order_text.specs.declared.question.Question.{Question}
 use Rattle.order_text.specs.declared.question.Question.TheVariants as question
 use Rattle.answer_text.specs.declared.header.Recipient.{Recipient}
@@ -109,3 +109,37 @@ module _ (Rule : BatchRule) where
       (first : List (Pair Record Outcome)) × (own : List (List ℕ)) × (next : Market) × (between : Desks) × (more : List (Pair Record Outcome)) × (others : List (List ℕ))
       × IsLineServed old d count line first own next between × AreLinesServed next between (count + length first) lines more others new later
       × (pairs ≡ first ++ more) × (texts ≡ own ++ others)
+
+  -- The first commands of a line get these entries, and `next` are its others: the line is the next one of this sender, and asks for them all.
+  pub record IsLineBegun (old : Market) (d : Desks) (count : ℕ) (line : List ℕ) (sender : Recipient) (next : List Command) (pairs : List (Pair Record Outcome)) (texts : List (List ℕ)) (new : Market) (later : Desks) : Type 0 where
+    pub text : List ℕ
+    pub asked : Asked
+    pub is_heard : IsHeard d line (heard.From sender text)
+    pub wished : IsWish old.version old.tickers d sender text (wish.Serve asked)
+    pub first : List Command
+    pub parts : commands_of asked ≡ first ++ next
+    pub served : AreServed Rule old (with_line d sender) count sender ((tally_of d sender).lines + 1) first pairs texts new later
+
+  -- lines are served, and of one more line the first commands; `next` are its others
+  pub record AreServedInto (old : Market) (d : Desks) (count : ℕ) (lines : List (List ℕ)) (line : List ℕ) (next : List Command) (pairs : List (Pair Record Outcome)) (texts : List (List ℕ)) (new : Market) (later : Desks) : Type 0 where
+    pub first : List (Pair Record Outcome)
+    pub own : List (List ℕ)
+    pub mid : Market
+    pub between : Desks
+    pub whole : AreLinesServed old d count lines first own mid between
+    pub sender : Recipient
+    pub more : List (Pair Record Outcome)
+    pub others : List (List ℕ)
+    pub begun : IsLineBegun mid between (count + length first) line sender next more others new later
+    pub all : pairs ≡ first ++ more
+    pub said : texts ≡ own ++ others
+
+  -- The first of these lines add these entries and are answered with these texts; of the last of them perhaps only the first commands are served.
+  pub record AreFirstServed (old : Market) (d : Desks) (count : ℕ) (lines : List (List ℕ)) (pairs : List (Pair Record Outcome)) (texts : List (List ℕ)) : Type 0 where
+    pub whole : List (List ℕ)
+    pub rest : List (List ℕ)
+    pub parts : lines ≡ whole ++ rest
+    pub new : Market
+    pub later : Desks
+    pub served : AreLinesServed old d count whole pairs texts new later
+        ⊎ ((line : List ℕ) × (more : List (List ℕ)) × (next : List Command) × (rest ≡ line ∷ more) × AreServedInto old d count whole line next pairs texts new later)

@@ -1,9 +1,10 @@
 //! A line: who sent it, what it asks for, and its answer, but for its commands.
-ghost use Rattle.std.specs.Prelude.{◌<◌, ◌+◌, ◌^◌, IfOk, OnOk};
+ghost use Rattle.std.specs.Prelude.{ℕ, ◌<◌, ◌+◌, ◌^◌, List, length, IfOk, OnOk};
 ghost use Rattle.desk_messages.specs.Desks.{IsThere};
 ghost use Rattle.desk_lines.specs.Answers.{wish_in, IsShort};
 ghost use Rattle.desk_session.specs.States.{CountsAccounts};
-ghost use Rattle.desk_session.specs.Said.{IsSaid};
+ghost use Rattle.desk_lines.specs.Hearing.{most_envelope};
+ghost use Rattle.desk_session.specs.Said.{IsAnswered, IsSaid};
 ghost use Rattle.desk_session.specs.Private.{IsLeft, CanAnswer};
 
 use crate::session::DeskSession;
@@ -64,6 +65,19 @@ impl DeskSession {
                 self.answer(sender, number, wish)
             }
         }
+    }
+
+    /// Hears a line of more than 262,144 bytes, whatever they are, which is no envelope: counts it, and puts its answer after the other texts. Fails only if
+    /// memory ran out. Fewer than 2^64 - 2 lines were heard, and fewer than 2^64 - 1 messages told. Costs the answer.
+    pub fn hear_long(&mut self) -> Result<(), Memory>
+        requires lines { self.old.talk.desks.total.lines + 2 < 2 ^ 64 }
+        requires messages { self.old.talk.desks.total.messages + 1 < 2 ^ 64 }
+        requires counted { CountsAccounts self.old }
+        ensures said { OnOk result ((line : List ℕ) → most_envelope < length line → IsAnswered self.old line self.new) }
+        ensures counted { OnOk result (CountsAccounts self.new) }
+    {
+        self.talk.skip_line();
+        self.talk.tell_no_envelope()
     }
 
     // Answers what the text of a line asks for, but for its commands. The line was counted, and this is its number.
