@@ -14,7 +14,7 @@ use Rattle.journal_disk.specs.declared.fault.DiskFault.TheVariants as unread
 use Rattle.journal_disk.specs.Pairs.{RecordPair, IsRecordPair, pair_bytes}
 use Rattle.journal_disk.specs.Entries.{Head, entries, IsNewDisk, HasEntries, Holds, EndsAt, Keeps}
 use Rattle.journal_disk.specs.Ahead.{AheadState, IsPiece}
-use Rattle.journal_disk.specs.Stepping.{HasEntryAt, StatesAt, IsDamagedAt}
+use Rattle.journal_disk.specs.Stepping.{HasEntryAt, StatesAt, IsClosedAt, IsDamagedAt}
 use Rattle.journal_disk.proofs.GoingOn.{looks_hold, looks_more, entry_holds, step_ends}
 use Rattle.journal_disk.specs.Recovering.{IsForeign}
 use Rattle.journal_keeping.specs.Starts.{head_of}
@@ -26,7 +26,7 @@ use Rattle.journal_keeping.specs.Beginning.{WhileOpening}
 use Rattle.journal_keeping.proofs.Auditing.{by_both, one_read, stops_finding, stops_damaged}
 use Rattle.journal_keeping.proofs.Begun.{looks_first, opened_old}
 use Rattle.desk_opening.specs.declared.book.Book.TheVariants.{Kept}
-use Rattle.desk_opening.specs.Books.{CanFind, FindsOne, EndsFinding, FindsNothing, Continues, IsReadAlong, GetsMore}
+use Rattle.desk_opening.specs.Books.{CanFind, FindsOne, LeavesThese, EndsFinding, FindsNothing, Continues, IsReadAlong, GetsMore}
 
 abbrev Pairs : Type 0
 Pairs = List (Pair Record Outcome)
@@ -109,38 +109,41 @@ module _ (begin : Start) (start mid : DiskState) (pairs : Pairs) (market : Marke
           subst (λ (f : DiskFault). StopsAs begin (of_disk f) bytes) (sym not.0)
           (stops_damaged begin pairs market place held_now.0 bytes mid along.journal held_now.1 told (known_now (IsDamagedAt place) (not.1 bytes piece states)))
 
-    -- none is left: the file gets more
+    -- none is left
+    module _ (closed : IfSome mid.content (IsClosedAt place)) where
+      ends_there : IsHeld mid → EndsAt (head_of begin) (map records_of pairs) place mid
+      ends_there h = step_ends (head_of begin) (map records_of pairs) place h.0 mid h.1 [] closed
+
+      has_these : (held : List ℕ) → mid.content ≡ Some held → IsHeld mid → HasEntries (head_of begin) (map records_of pairs) held
+      has_these held told h =
+          let at = ends_there h in
+          let both : Some held ≡ Some (entries (head_of begin) (map records_of pairs) ++ at.0 ∷ at.2) = sym told ∙ at.4.content in
+          record { lawful = at.4.lawful; each = at.4.each; commit = at.0; shut = at.1; rest = at.2; few = at.3; encoded = cc }
+
+      pub opens_so : (held : List ℕ) → mid.content ≡ Some held → IsHeld mid → (¬ IsNewDisk held) × (¬ IsForeign held) → IsOpening held (Legal begin pairs market)
+      opens_so held told h known = (known.0, known.1, along.journal, has_these held told h)
+
+      -- what a crash leaves of it while it is being cut: just these entries
+      pub cutting : (now : DiskState) → LeavesThese place mid now → (was : Start) (legal : Pairs) (m : Market) → HoldsLegal start was legal m → AtEachMoment start now (WhileOpening begin start legal)
+      cutting now leaves was legal m holds =
+          let told : mid.content ≡ Some holds.bytes = along.looks.content ∙ holds.told in
+          let h = subst (λ (o : Option (List ℕ)). IfSome o (λ _. IsHeld mid)) told along.holds in
+          let known = subst (λ (o : Option (List ℕ)). IfSome o (λ (l : List ℕ). (¬ IsNewDisk l) × (¬ IsForeign l))) holds.told along.known in
+          let same = opened_old start was legal m holds holds.bytes holds.told begin pairs market (opens_so holds.bytes told h known) in
+          looks_first begin legal start mid now along.looks
+          (weaker mid now _ _ (λ image stands. inr (inl (subst (λ (l : Pairs). StandsForJournal begin l image) (sym same.1) stands))) (leaves (head_of begin) (map records_of pairs) h.0 h.1))
+
+    -- the file gets more
     module _ (now : DiskState) (ends : EndsFinding place mid now) where
       abbrev IsKept : Type 0
       IsKept = Keeps (head_of begin) (map records_of pairs) place now
 
-      ends_at : IsHeld mid → EndsAt (head_of begin) (map records_of pairs) place mid
-      ends_at h = step_ends (head_of begin) (map records_of pairs) place h.0 mid h.1 [] ends.closed
-
-      has_these : (held : List ℕ) → mid.content ≡ Some held → IsHeld mid → HasEntries (head_of begin) (map records_of pairs) held
-      has_these held told h =
-          let at = ends_at h in
-          let both : Some held ≡ Some (entries (head_of begin) (map records_of pairs) ++ at.0 ∷ at.2) = sym told ∙ at.4.content in
-          record { lawful = at.4.lawful; each = at.4.each; commit = at.0; shut = at.1; rest = at.2; few = at.3; encoded = cc }
-
-      opens : (held : List ℕ) → mid.content ≡ Some held → IsHeld mid → (¬ IsNewDisk held) × (¬ IsForeign held) → IsOpening held (Legal begin pairs market)
-      opens held told h known = (known.0, known.1, along.journal, has_these held told h)
-
       continued : (o : Option (List ℕ)) → mid.content ≡ o → IfSome o (λ _. IsHeld mid) → IfSome o (λ held. (¬ IsNewDisk held) × (¬ IsForeign held)) → IfSome o (λ held. IsOpening held (Legal begin pairs market))
       continued None told h known = tt
-      continued (Some held) told h known = opens held told h known
+      continued (Some held) told h known = opens_so ends.closed held told h known
 
       abbrev start_holds : IfSome start.content (λ _. IsHeld mid)
       start_holds = subst (λ (o : Option (List ℕ)). IfSome o (λ _. IsHeld mid)) along.looks.content along.holds
-
-      left : (was : Start) (legal : Pairs) (m : Market) → HoldsLegal start was legal m → AtEachMoment start now (WhileOpening begin start legal)
-      left was legal m holds =
-          let told : mid.content ≡ Some holds.bytes = along.looks.content ∙ holds.told in
-          let h = subst (λ (o : Option (List ℕ)). IfSome o (λ _. IsHeld mid)) told along.holds in
-          let known = subst (λ (o : Option (List ℕ)). IfSome o (λ (l : List ℕ). (¬ IsNewDisk l) × (¬ IsForeign l))) holds.told along.known in
-          let same = opened_old start was legal m holds holds.bytes holds.told begin pairs market (opens holds.bytes told h known) in
-          looks_first begin legal start mid now along.looks
-          (weaker mid now _ _ (λ image stands. inr (inl (subst (λ (l : Pairs). StandsForJournal begin l image) (sym same.1) stands))) (ends.moments (head_of begin) (map records_of pairs) h.0 h.1))
 
       as_before : (o : Option (List ℕ)) → IfSome o (λ held. IsOpening held (Legal begin pairs market)) → IfSome o (λ held. Continues held begin pairs market)
       as_before None is = tt
@@ -151,7 +154,7 @@ module _ (begin : Start) (start mid : DiskState) (pairs : Pairs) (market : Marke
         journal = along.journal;
         continues = as_before start.content (continued start.content along.looks.content start_holds along.known);
         keeps = over start.content (IsHeld mid) IsKept (λ h. ends.keeps (head_of begin) (map records_of pairs) h.0 h.1) start_holds;
-        moments = left;
+        moments = cutting ends.closed now ends.moments;
         told = λ is. subst (λ (o : Option (List ℕ)). IsSome o) along.looks.content (ends.told is);
         near = ends.near;
       }

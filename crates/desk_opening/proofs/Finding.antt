@@ -3,7 +3,7 @@ use Rattle.std.proofs.Common.{◌≡◌, ◌⊎◌, inl, inr, ℕ, List, [], ◌
 use Rattle.disk_edge.specs.Disks.{DiskState, AtEachMoment}
 use Rattle.disk_edge.proofs.Moments.{weaker, then_more}
 use Rattle.journal_disk.specs.declared.fault.DiskFault.{DiskFault}
-use Rattle.journal_disk.specs.declared.fault.DiskFault.TheVariants.{Failed, Memory, Damaged}
+use Rattle.journal_disk.specs.declared.fault.DiskFault.TheVariants.{Failed, Memory, Damaged, NotDisk}
 use Rattle.journal_disk.specs.Pairs.{RecordPair}
 use Rattle.journal_disk.specs.Entries.{Head, StandsFor, Holds, EndsAt, Keeps}
 use Rattle.journal_disk.specs.Looking.{OnlyLooks}
@@ -32,6 +32,10 @@ unknown_why (Some bytes) place fault (inr is) = subst (λ (f : DiskFault). Finds
 not_damaged : (fault : DiskFault) (at : ℕ) (P : Type 0) → (fault ≡ Failed) ⊎ (fault ≡ Memory) → fault ≡ Damaged at → P
 not_damaged fault at P (inl is) other = absurd (let both : Failed ≡ Damaged at = sym is ∙ other in cc)
 not_damaged fault at P (inr is) other = absurd (let both : Memory ≡ Damaged at = sym is ∙ other in cc)
+
+not_other : (fault : DiskFault) → (fault ≡ Failed) ⊎ (fault ≡ Memory) → fault ≡ NotDisk → ⊥
+not_other fault (inl is) other = let both : Failed ≡ NotDisk = sym is ∙ other in absurd cc
+not_other fault (inr is) other = let both : Memory ≡ NotDisk = sym is ∙ other in absurd cc
 
 -- the entries end at the place
 module _ (place : ℕ) (disk mid : DiskState) (looks : OnlyLooks disk mid) (closed : IfSome disk.content (IsClosedAt place)) where
@@ -71,4 +75,5 @@ module _ (place : ℕ) (disk mid : DiskState) (looks : OnlyLooks disk mid) (clos
       why = unknown_why disk.content place fault refused;
       left = inr (closed, leaves_these);
       damaged = λ at is. not_damaged fault at (OnlyLooks disk now) refused is;
+      known = not_other fault refused;
     }

@@ -5,3 +5,6 @@ mod FirstEntries
 mod OneBeginning
 pub mod Finding
 pub mod Along
+mod FirstFiles
+mod FirstBooks
+mod BothBegun

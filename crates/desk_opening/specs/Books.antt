@@ -1,5 +1,5 @@
 -- The file of a market of many senders: its entries are read along with the lines, and then more are kept.
-use Rattle.std.specs.Prelude.{◌≡◌, ◌⊎◌, ℕ, ◌+◌, ◌^◌, ◌≤◌, List, [], length, map, All, Option, None, Some, IfSome, IsSome, ⊤}
+use Rattle.std.specs.Prelude.{◌≡◌, ◌≢◌, ◌⊎◌, ℕ, ◌+◌, ◌^◌, ◌≤◌, List, [], length, map, All, Option, None, Some, IfSome, IsSome, ⊤}
 use Rattle.std.specs.List.{flat_map}
 use Rattle.wire_records.specs.Records.{Record}
 use Rattle.wire_records.specs.Commands.{Pair}
@@ -10,7 +10,7 @@ use Rattle.market_rules.specs.Market.{Market}
 use Rattle.market_history.specs.Histories.{Start, market_of}
 use Rattle.disk_edge.specs.Disks.{DiskState, AtEachMoment}
 use Rattle.journal_disk.specs.declared.fault.DiskFault.{DiskFault}
-use Rattle.journal_disk.specs.declared.fault.DiskFault.TheVariants.{Damaged}
+use Rattle.journal_disk.specs.declared.fault.DiskFault.TheVariants.{Damaged, NotDisk}
 use Rattle.journal_disk.specs.Pairs.{RecordPair}
 use Rattle.journal_disk.specs.Entries.{Head, entry, IsNewDisk, most_unkept, StandsFor, WithOrWithout, Holds, Keeps}
 use Rattle.journal_disk.specs.Recovering.{IsForeign}
@@ -72,6 +72,7 @@ pub record FindsNothing (place : ℕ) (disk now : DiskState) (fault : DiskFault)
   pub why : IfSome disk.content (FindsNone fault place)
   pub left : OnlyLooks disk now ⊎ (IfSome disk.content (IsClosedAt place) × LeavesThese place disk now)
   pub damaged : (at : ℕ) → fault ≡ Damaged at → OnlyLooks disk now
+  pub known : fault ≢ NotDisk
 
 -- why a book found nothing
 abbrev pub IsNotFoundBy : Book → DiskState → DiskState → DiskFault → Type 0

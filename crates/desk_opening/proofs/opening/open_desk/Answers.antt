@@ -1,0 +1,50 @@
+use Rattle.std.proofs.Common.{ℕ, ap, subst}
+use Rattle.flow_io.specs.Windows.{WindowState}
+use Rattle.journal_keeping.proofs.Counts.{went_on, later_call}
+use Rattle.desk_opening.specs.Beginnings.{HasBegun, NotBegun}
+use Rattle.desk_opening.proofs.FirstBooks.{stored_short}
+use Rattle.desk_opening.proofs.BothBegun.{both_begun, not_both, read_none, read_well, same_blame}
+use Rattle.desk_opening.proofs.opening.open_desk.Goals as goal
+
+pub returns-in-Err-read_beginning-clause-fails : goal.returns-in-Err-read_beginning-clause-fails
+returns-in-Err-read_beginning-clause-fails g c = (
+  subst (λ (n : ℕ). NotBegun n (g.S.Source.rest c.args.source.now) (g.S.Source.rest c.read_beginning.new.source) c.in-Err-read_beginning.fault) (ap (λ (w : WindowState). w.limit) c.in-Ok-new.ensures) c.in-Err-read_beginning.ensures.fails,
+  c.in-Ok.ensures.looks,
+)
+
+pub book_of-requires-clause-short : goal.book_of-requires-clause-short
+book_of-requires-clause-short g c =
+    let begun = c.in-Ok-read_beginning.ensures.begun c.args.most (ap (λ (w : WindowState). w.room) c.in-Ok-new.ensures) in
+    stored_short begun.begin c.in-Ok-read_beginning.beginning.market c.in-Ok-read_beginning.beginning.stored.items begun.is_one
+
+pub returns-in-Ok-book_of-clause-begun : goal.returns-in-Ok-book_of-clause-begun
+returns-in-Ok-book_of-clause-begun g c =
+    let begun = c.in-Ok-read_beginning.ensures.begun c.args.most (ap (λ (w : WindowState). w.room) c.in-Ok-new.ensures) in
+    both_begun (g.D.Disk.state c.args.disk.now) (g.D.Disk.state c.open_file.new.disk) (g.D.Disk.state c.book_of.new.disk) c.in-Ok.ensures.looks (g.met.D.Disk.is_disk c.open_file.new.disk) c.args.most c.args.limit c.in-Ok-read_beginning.beginning.market c.in-Ok-read_beginning.beginning.stored.items
+    c.read_beginning.new.window (g.S.Source.rest c.args.source.now) (g.S.Source.rest c.read_beginning.new.source)
+    (subst (λ (n : ℕ). HasBegun c.args.most n c.in-Ok-read_beginning.beginning.market c.in-Ok-read_beginning.beginning.stored.items c.read_beginning.new.window (g.S.Source.rest c.args.source.now) (g.S.Source.rest c.read_beginning.new.source)) (ap (λ (w : WindowState). w.limit) c.in-Ok-new.ensures) begun)
+    c.in-Ok-book_of.book c.in-Ok-book_of.ensures.made
+
+pub returns-in-Err-book_of-clause-fails : goal.returns-in-Err-book_of-clause-fails
+returns-in-Err-book_of-clause-fails g c =
+    let begun = c.in-Ok-read_beginning.ensures.begun c.args.most (ap (λ (w : WindowState). w.room) c.in-Ok-new.ensures) in
+    not_both (g.D.Disk.state c.args.disk.now) (g.D.Disk.state c.open_file.new.disk) (g.D.Disk.state c.book_of.new.disk) c.in-Ok.ensures.looks (g.met.D.Disk.is_disk c.open_file.new.disk) c.args.most c.args.limit c.in-Ok-read_beginning.beginning.market c.in-Ok-read_beginning.beginning.stored.items
+    c.read_beginning.new.window (g.S.Source.rest c.args.source.now) (g.S.Source.rest c.read_beginning.new.source)
+    (subst (λ (n : ℕ). HasBegun c.args.most n c.in-Ok-read_beginning.beginning.market c.in-Ok-read_beginning.beginning.stored.items c.read_beginning.new.window (g.S.Source.rest c.args.source.now) (g.S.Source.rest c.read_beginning.new.source)) (ap (λ (w : WindowState). w.limit) c.in-Ok-new.ensures) begun)
+    c.in-Err-book_of.fault c.in-Err-book_of.ensures.fails
+
+pub returns-in-Err-book_of-clause-unread : goal.returns-in-Err-book_of-clause-unread
+returns-in-Err-book_of-clause-unread g c =
+    let begun = c.in-Ok-read_beginning.ensures.begun c.args.most (ap (λ (w : WindowState). w.room) c.in-Ok-new.ensures) in
+    read_none begun.begin (g.D.Disk.state c.open_file.new.disk) (g.D.Disk.state c.book_of.new.disk) c.in-Err-book_of.fault _ (c.in-Err-book_of.ensures.fails begun.begin begun.is_one)
+
+pub returns-in-Err-book_of-clause-disk_cause : goal.returns-in-Err-book_of-clause-disk_cause
+returns-in-Err-book_of-clause-disk_cause g c =
+    later_call _ _ (g.D.Disk.state c.args.disk.now).faults (g.D.Disk.state c.open_file.new.disk).faults (g.D.Disk.state c.book_of.new.disk).faults c.in-Ok.ensures.cause (λ e. cc e)
+    (same_blame c.in-Err-book_of.fault (g.D.Disk.state c.open_file.new.disk).faults (g.D.Disk.state c.book_of.new.disk).faults c.in-Err-book_of.ensures.cause)
+
+pub returns-in-Err-book_of-clause-source_cause : goal.returns-in-Err-book_of-clause-source_cause
+returns-in-Err-book_of-clause-source_cause g c =
+    let begun = c.in-Ok-read_beginning.ensures.begun c.args.most (ap (λ (w : WindowState). w.room) c.in-Ok-new.ensures) in
+    went_on _ _ (g.S.Source.faults c.args.source.now) (g.S.Source.faults c.read_beginning.new.source) c.in-Ok-read_beginning.ensures.cause (λ e. cc e)
+    (read_well begun.begin (g.D.Disk.state c.open_file.new.disk) (g.D.Disk.state c.book_of.new.disk) c.in-Err-book_of.fault (c.in-Err-book_of.ensures.fails begun.begin begun.is_one))
