@@ -1,0 +1,196 @@
+-- What hosting comes to, of a file whose bytes are known: all lines were answered, or it stopped at an entry of the file.
+use Rattle.std.proofs.Common.{◌≡◌, ◌⊎◌, inl, inr, ℕ, ◌+◌, List, [], ◌∷◌, ◌++◌, Option, Some, IfSome, Ok, Err, length, length-append, map, take, drop, sym, ap, subst, ◌∙◌, arith}
+use Rattle.std.proofs.lemmas.List.{append-nil}
+use Rattle.wire_records.specs.Commands.{Command}
+use Rattle.wire_records.specs.Versions.{IsReadAs}
+use Rattle.canonical_rule.specs.Canonical.{IsCanonicalOutcome}
+use Rattle.flow_io.specs.Windows.{WindowState}
+use Rattle.journal_records.specs.Formats.{records_of}
+use Rattle.market_rules.specs.Market.{Market}
+use Rattle.market_rules.specs.Journal.{Follows}
+use Rattle.market_history.specs.Histories.{Start}
+use Rattle.disk_edge.specs.Disks.{DiskState, IsDisk}
+use Rattle.input_lines.specs.Finding.{FindsNextWithin, FindsNoFeed}
+use Rattle.input_lines.specs.declared.lines.Next.{Next}
+use Rattle.input_lines.specs.declared.lines.Next.TheVariants as next
+use Rattle.journal_disk.specs.Entries.{entries, IsNewDisk, Holds, Keeps}
+use Rattle.journal_disk.specs.Recovering.{IsForeign}
+use Rattle.journal_disk.specs.Ahead.{AheadState}
+use Rattle.journal_disk.specs.Stepping.{IsDamagedAt}
+use Rattle.journal_keeping.specs.Starts.{head_of}
+use Rattle.journal_keeping.specs.Outputs.{Output, Gains}
+use Rattle.journal_keeping.proofs.Gaining.{gains_more}
+use Rattle.desk_lines.specs.Hearing.{most_envelope}
+use Rattle.desk_opening.specs.declared.book.Book.{Book}
+use Rattle.desk_opening.specs.declared.book.Book.TheVariants.{Kept, Open}
+use Rattle.desk_opening.specs.Books.{IsReadAlong, Continues}
+use Rattle.desk_keeping.specs.declared.fault.HostFault.{HostFault}
+use Rattle.desk_keeping.specs.declared.fault.HostFault.TheVariants.{Read, Write, Disk, Memory, NotDisk, Damaged, Rejected, NotFlow, BadCheckpoint, TooLong, Differs}
+use Rattle.desk_keeping.specs.Hosting.{Entries, Texts, HasFirstLines, IsReadTo, HasEntriesOf, HasAnswered, StopsAtEntry, IsEntryInvalid, IsEntryOther, ComesTo}
+use Rattle.desk_keeping.specs.Private.{HostState, IsFileAt, IsAt, HasGone, WhyNot, StopsWithin, BreaksLine, BreaksGroup, BreaksEnd, StopsHere, IsAtEntry}
+use Rattle.desk_keeping.proofs.Leaving.{none_stored}
+use Rattle.desk_keeping.proofs.Stopped.{served_into, left_within, along_first, along_then}
+use Rattle.desk_keeping.proofs.Reaching.{all_lines, limit_lines, read_lines}
+
+module _ (begin : Start) (start : DiskState) (held : List ℕ) (told : start.content ≡ Some held) where
+  known_so : (P : List ℕ → Type 0) → IfSome start.content P → P held
+  known_so P is = subst (λ (o : Option (List ℕ)). IfSome o P) told is
+
+  -- a file that is read along begins with the entries that were read
+  pub read_to : (place : ℕ) (ahead : AheadState) (now : DiskState) (pairs : Entries) (market : Market) → IsReadAlong begin place ahead start now pairs market → IsReadTo held begin pairs market place now
+  read_to place ahead now pairs market along =
+      let same : now.content ≡ Some held = along.looks.content ∙ told in
+      let (rest, has) = subst (λ (o : Option (List ℕ)). IfSome o (λ _. (left : List ℕ) × Holds (head_of begin) (map records_of pairs) place left now)) same along.holds in
+      let known = known_so (λ bytes. (¬ IsNewDisk bytes) × (¬ IsForeign bytes)) along.known in
+      let both : Some held ≡ Some (entries (head_of begin) (map records_of pairs) ++ rest) = sym same ∙ has.content in
+      record {
+        is_old = known.0;
+        is_file = known.1;
+        legal = record { lawful = has.lawful; journal = along.journal; rest = rest; encoded = cc; begins = has.begins };
+        same = same;
+      }
+
+  -- the file has the entries, if none waits
+  pub entries_of : (b : Book) (now : DiskState) (safe waiting : Entries) (market : Market) → IsFileAt begin start b now safe waiting market → waiting ≡ [] → HasEntriesOf held begin safe market now
+  entries_of (Kept place ahead) now safe waiting market (none, along) empty = inl (place, read_to place ahead now safe market along)
+  entries_of (Open place) now safe waiting market file empty =
+      let last : market ≡ file.between = subst (λ (l : Entries). Follows IsReadAs IsCanonicalOutcome file.between l market) empty file.steps in
+      let keeps : Keeps (head_of begin) (map records_of (file.old ++ file.kept)) place now = known_so (λ _. Keeps (head_of begin) (map records_of (file.old ++ file.kept)) place now) file.keeps in
+      inr (record {
+        old = file.old;
+        before = file.opened;
+        continues = known_so (λ bytes. Continues bytes begin file.old file.opened) file.continues;
+        new = file.kept;
+        parts = file.parts;
+        steps = subst (λ (n : Market). Follows IsReadAs IsCanonicalOutcome file.opened file.kept n) (sym last) file.goes_on.steps;
+        keeps = (place, subst (λ (l : Entries). Keeps (head_of begin) (map records_of l) place now) (sym file.parts) keeps);
+      })
+
+  module _ (first : Output) (read : List (List ℕ)) (h : HostState) (now : DiskState) (out : Output) (at : IsAt begin start first read h now out) where
+    -- all lines were answered, if nothing waits
+    pub has_answered : (Are : Start → List (List ℕ) → Type 0) → Are begin read → h.group ≡ [] → drop h.written h.session.talk.texts ≡ [] → HasAnswered Are held now first out
+    has_answered Are are none written =
+        let empty : at.waiting ≡ [] = none_stored at.waiting (sym at.group ∙ none) in
+        let same : at.pairs ≡ at.safe = at.parts ∙ ap (λ (l : Entries). at.safe ++ l) empty ∙ append-nil at.safe in
+        let all : at.texts ≡ at.gone = at.said ∙ ap (λ (l : Texts). at.gone ++ l) written ∙ append-nil at.gone in
+        record {
+          begin = begin;
+          lines = read;
+          are = are;
+          pairs = at.pairs;
+          texts = at.texts;
+          market = h.session.market;
+          desks = h.session.talk.desks;
+          hosted = at.hosted;
+          gained = subst (λ (l : Texts). Gains ⊥ first out l) (sym all) at.gained;
+          file = subst (λ (l : Entries). HasEntriesOf held begin l h.session.market now) (sym same) (entries_of h.book now at.safe at.waiting h.session.market at.file empty);
+        }
+
+    module _ (limit : ℕ) (w : WindowState) (content left : Option (List ℕ)) (gone : HasGone begin limit w content left read) (none : h.group ≡ []) (written : drop h.written h.session.talk.texts ≡ []) (new : WindowState) (rest : Option (List ℕ)) where
+      -- the input ended
+      pub comes_ended : (found : Next) → (found ≡ next.Last) ⊎ ((found ≡ next.LongLast) ⊎ (found ≡ next.End)) → FindsNextWithin most_envelope w new left rest found → ComesTo limit held content rest now first out (Ok tt)
+      comes_ended found which finds = has_answered _ (all_lines begin limit w content left read gone new rest found which finds) none written
+
+      -- it has more than the limit
+      pub comes_limit : FindsNextWithin most_envelope w new left rest next.Limit → ComesTo limit held content rest now first out (Err TooLong)
+      comes_limit finds = has_answered _ (limit_lines begin limit w content left read gone new rest finds) none written
+
+      -- a read failed
+      pub comes_unread : FindsNoFeed w left rest → ComesTo limit held content rest now first out (Err Read)
+      comes_unread finds = inl (has_answered _ (read_lines begin limit w content left read gone new rest finds) none written)
+
+    -- ---- it stopped at an entry of the file
+
+    module _ (limit : ℕ) (content rest : Option (List ℕ)) (then : DiskState) (is_disk : IsDisk now) (line : List ℕ) (are : IfSome content (λ bytes. HasFirstLines (take limit bytes) begin (read ++ line ∷ []))) (mid : HostState)
+        (One : Type 0) (after : Output) (SameOut : Type 0) where
+      why_known : (Why : ℕ → Market → List Command → ℕ → List ℕ → Type 0) (s : StopsWithin line h mid now then Why) → Why (length (at.pairs ++ s.taken) + 1) mid.session.market s.next s.later held
+      why_known Why s =
+          let along = (along_first begin start first read h now then out at line mid Why s).1 in
+          let same : h.session.entries + (length s.taken + 1) ≡ length (at.pairs ++ s.taken) + 1 = omega (arith, at.entries, length-append at.pairs s.taken) in
+          subst (λ (n : ℕ). Why n mid.session.market s.next s.later held) same
+          (subst (λ (o : Option (List ℕ)). IfSome o (Why (h.session.entries + (length s.taken + 1)) mid.session.market s.next s.later)) (along.looks.content ∙ told) s.why)
+
+      stops_at : (Why : ℕ → Market → List Command → ℕ → List ℕ → Type 0) (s : StopsWithin line h mid now then Why) (Because : ℕ → Entries → Market → List Command → Type 0) → Because s.later (at.pairs ++ s.taken) mid.session.market s.next
+          → Gains ⊥ out after (drop mid.written mid.session.talk.texts) → StopsAtEntry limit held content then first after Because
+      stops_at Why s Because why gained = record {
+        begin = begin;
+        lines = read;
+        line = line;
+        are = are;
+        next = s.next;
+        pairs = at.pairs ++ s.taken;
+        texts = at.texts ++ s.texts;
+        market = mid.session.market;
+        desks = mid.session.talk.desks;
+        hosted = served_into begin start first read h now then out at line mid Why s;
+        gained = subst (λ (l : Texts). Gains ⊥ first after l) (sym (left_within begin start first read h now then out at line mid Why s))
+            (gains_more ⊥ first out after at.gone (drop mid.written mid.session.talk.texts) at.gained gained);
+        place = s.later;
+        file = read_to s.later s.piece then (at.pairs ++ s.taken) mid.session.market (along_then begin start first read h now then out at line mid Why s is_disk);
+        why = why;
+      }
+
+      abbrev Comes : HostFault → Type 0
+      Comes result = ComesTo limit held content rest then first after (Err result)
+
+      -- at an entry of the file all texts were written, or a write failed
+      from_here : (fault result : HostFault) → IsAtEntry fault → StopsHere fault result mid out after SameOut → (Gains ⊥ out after (drop mid.written mid.session.talk.texts) → Comes fault) → Comes result
+      from_here fault result at_entry (inl (not, same, quiet)) f = absurd (not at_entry)
+      from_here fault result at_entry (inr (is, inl (same, gained))) f = subst Comes (sym same) (f gained)
+      from_here fault result at_entry (inr (is, inr (write, count, gained))) f = subst Comes (sym write) tt
+
+      -- why a line wasn't heard to its end
+      pub comes_stopped : (fault result : HostFault) → BreaksLine fault line h mid now then One → StopsHere fault result mid out after SameOut → ComesTo limit held content rest then first after (Err result)
+      comes_stopped Memory result breaks (inl (not, same, quiet)) = subst Comes (sym same) tt
+      comes_stopped Memory result breaks (inr (never, how)) = absurd never
+      comes_stopped Disk result breaks (inl (not, same, quiet)) = subst Comes (sym same) tt
+      comes_stopped Disk result breaks (inr (never, how)) = absurd never
+      comes_stopped (Damaged place) result breaks here =
+          let why = why_known (WhyNot (Damaged place)) breaks in
+          let because : (breaks.later ≡ place) × IsDamagedAt place held = (why.0, subst (λ (n : ℕ). IsDamagedAt n held) why.0 why.1) in
+          from_here (Damaged place) result tt here (λ gained. inr (stops_at (WhyNot (Damaged place)) breaks (λ at pairs market next. (at ≡ place) × IsDamagedAt place held) because gained))
+      comes_stopped (Rejected number) result breaks here =
+          let why = why_known (WhyNot (Rejected number)) breaks in
+          from_here (Rejected number) result tt here
+          (λ gained. stops_at (WhyNot (Rejected number)) breaks (λ at pairs market next. (number ≡ length pairs + 1) × IsEntryInvalid held at market) why gained)
+      comes_stopped (Differs number) result breaks here =
+          let why = why_known (WhyNot (Differs number)) breaks in
+          from_here (Differs number) result tt here
+          (λ gained. inr (stops_at (WhyNot (Differs number)) breaks (λ at pairs market next. (number ≡ length pairs + 1) × IsEntryOther held at market next) why gained))
+      comes_stopped Read result breaks here = absurd (why_known (WhyNot Read) breaks)
+      comes_stopped Write result breaks here = absurd (why_known (WhyNot Write) breaks)
+      comes_stopped NotDisk result breaks here = absurd (why_known (WhyNot NotDisk) breaks)
+      comes_stopped NotFlow result breaks here = absurd (why_known (WhyNot NotFlow) breaks)
+      comes_stopped BadCheckpoint result breaks here = absurd (why_known (WhyNot BadCheckpoint) breaks)
+      comes_stopped TooLong result breaks here = absurd (why_known (WhyNot TooLong) breaks)
+
+-- ---- a failed call, or no memory, says nothing of what was hosted
+
+module _ (limit : ℕ) (held : List ℕ) (content rest : Option (List ℕ)) (end : DiskState) (first last : Output) (host next : HostState) (mid later : DiskState) (out after : Output) (Same : Type 0) where
+  -- entries that wait weren't kept, or texts not written
+  pub comes_broken : (fault : HostFault) → BreaksGroup fault host next mid later out after Same → ComesTo limit held content rest end first last (Err fault)
+  comes_broken Disk breaks = tt
+  comes_broken Write breaks = tt
+  comes_broken Read never = absurd never
+  comes_broken Memory never = absurd never
+  comes_broken NotDisk never = absurd never
+  comes_broken (Damaged place) never = absurd never
+  comes_broken (Rejected number) never = absurd never
+  comes_broken NotFlow never = absurd never
+  comes_broken BadCheckpoint never = absurd never
+  comes_broken TooLong never = absurd never
+  comes_broken (Differs number) never = absurd never
+
+  -- a line wasn't ended
+  pub comes_unended : (SameOut : Type 0) (fault : HostFault) → BreaksEnd fault host next mid later out after Same SameOut → ComesTo limit held content rest end first last (Err fault)
+  comes_unended SameOut Memory breaks = tt
+  comes_unended SameOut Disk breaks = tt
+  comes_unended SameOut Write breaks = tt
+  comes_unended SameOut Read never = absurd never
+  comes_unended SameOut NotDisk never = absurd never
+  comes_unended SameOut (Damaged place) never = absurd never
+  comes_unended SameOut (Rejected number) never = absurd never
+  comes_unended SameOut NotFlow never = absurd never
+  comes_unended SameOut BadCheckpoint never = absurd never
+  comes_unended SameOut TooLong never = absurd never
+  comes_unended SameOut (Differs number) never = absurd never

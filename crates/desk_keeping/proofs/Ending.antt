@@ -1,0 +1,165 @@
+-- Where hosting ends between lines: what a crash leaves, and which texts were written.
+use Rattle.std.proofs.Common.{◌≡◌, ◌≢◌, ◌⊎◌, inl, inr, ℕ, ◌+◌, ◌≤◌, ◌<◌, List, [], ◌∷◌, ◌++◌, Option, IfSome, length, length-append, take, refl, sym, ap, subst, ◌∙◌, arith, append_assoc}
+use Rattle.std.proofs.lemmas.Bool.{cases_lt}
+use Rattle.std.proofs.lemmas.List.{append-nil, take_all}
+use Rattle.std.proofs.Math.Seq.{take-append_seam, take-append-add}
+use Rattle.flow_orders.specs.Outcomes.{IsAdmissibleOutcome}
+use Rattle.journal_records.specs.Formats.{records_of}
+use Rattle.market_rules.specs.Market.{Market}
+use Rattle.market_history.specs.Histories.{Start, market_of}
+use Rattle.disk_edge.specs.Disks.{DiskState, IsDisk}
+use Rattle.journal_disk.specs.Entries.{entry, most_unkept}
+use Rattle.journal_disk.proofs.GoingOn.{looks_none}
+use Rattle.journal_keeping.specs.Keeping.{HoldsLegal}
+use Rattle.journal_keeping.specs.Outputs.{Output, Gains}
+use Rattle.journal_keeping.proofs.Begun.{looks_alone}
+use Rattle.desk_messages.specs.Desks.{Desks}
+use Rattle.desk_session.proofs.Going.{first_all, first_texts}
+use Rattle.desk_opening.specs.declared.book.Book.{Book}
+use Rattle.desk_opening.specs.declared.book.Book.TheVariants.{Kept, Open}
+use Rattle.desk_opening.specs.Books.{AddsTo, LeavesWithOrWithout}
+use Rattle.desk_opening.specs.Openings.{BeginsAlone}
+use Rattle.desk_keeping.specs.Hosting.{Entries, Texts, desks_of, AreHosted, AreFirstHosted, HasFirstLines, HostsIn}
+use Rattle.desk_keeping.specs.Private.{HostState, stored, IsFileAt, AreToldOf, KeepsWaiting}
+use Rattle.desk_keeping.proofs.Leaving.{EndsFile, along_ends, open_stays, open_fails, kept_since, none_stored}
+
+-- the first lines of an input are these
+abbrev pub AreFirst : ℕ → Option (List ℕ) → Start → List (List ℕ) → Type 0
+AreFirst limit content begin lines = (lines ≡ []) ⊎ IfSome content (λ bytes. HasFirstLines (take limit bytes) begin lines)
+
+-- what lines, their entries and texts, and what became of the file say together
+pub hosts_so : (limit : ℕ) (content : Option (List ℕ)) (Cut : Type 0) (begin was : Start) (start end : DiskState) (old : Entries) (m : Market) (lines : List (List ℕ)) (pairs : Entries) (texts : Texts) (safe count : ℕ) (told : Texts) (out later : Output)
+    → AreFirstHosted begin lines pairs texts → EndsFile begin was start end old m pairs safe → AreFirst limit content begin lines → count ≤ safe → AreFirstHosted begin lines (take count pairs) told → Gains Cut out later told
+    → HostsIn limit content Cut was start end old m out later
+hosts_so limit content Cut begin was start end old m lines pairs texts safe count told out later asked file are within answered gained = record {
+  begin = begin;
+  from = file.from;
+  continues = file.continues;
+  new = file.new;
+  acknowledged = file.acknowledged;
+  runs = file.runs;
+  lines = lines;
+  are = are;
+  pairs = pairs;
+  texts = texts;
+  asked = asked;
+  parts = file.parts;
+  count = count;
+  within = omega (arith, within, file.within);
+  told = told;
+  answered = answered;
+  gained = gained;
+}
+
+-- all of these lines were served
+pub all_hosted : (begin : Start) (lines : List (List ℕ)) (pairs : Entries) (texts : Texts) (market : Market) (desks : Desks) → AreHosted begin lines pairs texts market desks → AreFirstHosted begin lines pairs texts
+all_hosted begin lines pairs texts market desks served =
+    subst (λ (l : List (List ℕ)). AreFirstHosted begin l pairs texts) (append-nil lines) (first_all IsAdmissibleOutcome (market_of begin) market (desks_of begin) desks 0 lines [] pairs texts served)
+
+-- the texts that were written are those of first entries of the file
+pub told_first : (begin : Start) (read : List (List ℕ)) (gone : Texts) (safe waiting pairs : Entries) → pairs ≡ safe ++ waiting → AreToldOf begin read gone safe → (count : ℕ) × (count ≤ length safe) × AreFirstHosted begin read (take count pairs) gone
+told_first begin read gone safe waiting pairs parts (done, rest, read_is, first, others, safe_is, market, desks, hosted) =
+    let first_are : take (length first) pairs ≡ first =
+    ap (take (length first)) (parts ∙ ap (λ (l : Entries). l ++ waiting) safe_is ∙ append_assoc first others waiting) ∙ take-append_seam first (others ++ waiting)
+    in
+    let served : AreFirstHosted begin (done ++ rest) first gone = first_all IsAdmissibleOutcome (market_of begin) market (desks_of begin) desks 0 done rest first gone hosted in (
+      length first,
+      omega (arith, ap length safe_is, length-append first others),
+      subst (λ (l : Entries). AreFirstHosted begin read l gone) (sym first_are) (subst (λ (l : List (List ℕ)). AreFirstHosted begin l first gone) (sym read_is) served),
+    )
+
+-- so many texts are some of these
+pub take_within : (count : ℕ) (texts : Texts) → (k : ℕ) × (k ≤ length texts) × (take count texts ≡ take k texts)
+take_within count texts = by (cases_lt (length texts) count)
+  where
+    by : (length texts < count) ⊎ (count ≤ length texts) → (k : ℕ) × (k ≤ length texts) × (take count texts ≡ take k texts)
+    by (inl more) = (length texts, omega arith, take_all count texts (omega (arith, more)) ∙ sym (take_all (length texts) texts (omega arith)))
+    by (inr few) = (count, few, refl)
+
+-- the first of the texts that follow those that were written are those of first entries of the lines
+pub more_first : (begin : Start) (read : List (List ℕ)) (pairs : Entries) (texts gone others : Texts) (market : Market) (desks : Desks) → AreHosted begin read pairs texts market desks → texts ≡ gone ++ others → (some : ℕ)
+    → (count : ℕ) × (count ≤ length pairs) × AreFirstHosted begin read (take count pairs) (gone ++ take some others)
+more_first begin read pairs texts gone others market desks served said some =
+    let (k, within, same) = take_within some others in
+    let (count, few, first) = first_texts IsAdmissibleOutcome read pairs texts (market_of begin) market (desks_of begin) desks 0 served (length gone + k) (omega (arith, within, ap length said, length-append gone others)) in
+    let texts_are : take (length gone + k) texts ≡ gone ++ take some others = ap (take (length gone + k)) said ∙ take-append-add gone others k ∙ ap (λ (l : Texts). gone ++ l) (sym same) in
+    (count, few, subst (λ (l : Texts). AreFirstHosted begin read (take count pairs) l) texts_are first)
+
+-- ---- what becomes of the file while entries that wait are kept
+
+-- What becomes of a file from a state on, if nothing is done, if the entries that wait are kept, or if they aren't: `safe` of the entries are in the file before.
+pub record MayEnd (begin was : Start) (start : DiskState) (old : Entries) (m : Market) (pairs : Entries) (safe : ℕ) (host next : HostState) (mid later : DiskState) (Same : Type 0) : Type 0 where
+  pub stays : Same → EndsFile begin was start later old m pairs safe
+  pub kept : KeepsWaiting host next mid later Same → EndsFile begin was start later old m pairs (length pairs)
+  pub fails : host.group ≢ [] → LeavesWithOrWithout host.group host.book mid later → EndsFile begin was start later old m pairs safe
+
+-- entries are at most as many as their bytes
+pub few_stored : (waiting : Entries) → length waiting ≤ length (stored waiting)
+few_stored [] = omega arith
+few_stored (pair ∷ waiting) = omega (arith, few_stored waiting, length-append (entry (records_of pair)) (stored waiting))
+
+-- fewer of them are told to be in the file
+ends_fewer : (begin was : Start) (start end : DiskState) (old : Entries) (m : Market) (pairs : Entries) (safe less : ℕ) → less ≤ safe → EndsFile begin was start end old m pairs safe → EndsFile begin was start end old m pairs less
+ends_fewer begin was start end old m pairs safe less few file = record {
+  from = file.from;
+  continues = file.continues;
+  new = file.new;
+  acknowledged = file.acknowledged;
+  runs = file.runs;
+  parts = file.parts;
+  within = omega (arith, few, file.within);
+}
+
+module _ (begin was : Start) (start : DiskState) (old : Entries) (m : Market) (holds : HoldsLegal start was old m) (alone : IfSome start.content (BeginsAlone begin)) where
+  abbrev Ends : DiskState → Entries → ℕ → Type 0
+  Ends end pairs safe = EndsFile begin was start end old m pairs safe
+
+  module _ (safe waiting : Entries) (market : Market) (few : length waiting ≤ most_unkept) where
+    -- nothing was done
+    pub stays_file : (b : Book) (mid : DiskState) → IsFileAt begin start b mid safe waiting market → IsDisk mid → Ends mid (safe ++ waiting) (length safe)
+    stays_file (Kept place ahead) mid (none, along) is_disk =
+        subst (λ (l : Entries). Ends mid l (length safe)) (sym (ap (λ (l : Entries). safe ++ l) none ∙ append-nil safe))
+        (along_ends begin was start old m holds place ahead mid safe market along alone mid is_disk (looks_alone begin old mid mid (looks_none mid is_disk)))
+    stays_file (Open place) mid file is_disk = open_stays begin was start old m holds place mid safe waiting market file is_disk few
+
+    module _ (mid later : DiskState) (is_later : IsDisk later) (group : List ℕ) (same : group ≡ stored waiting) where
+      -- the entries that wait weren't kept
+      pub fails_file : (b : Book) → IsFileAt begin start b mid safe waiting market → LeavesWithOrWithout group b mid later → Ends later (safe ++ waiting) (length safe)
+      fails_file (Kept place ahead) file never = absurd never
+      fails_file (Open place) file leaves = open_fails begin was start old m holds place mid safe waiting market file group later same is_later few leaves.1
+
+      module _ (Same : Type 0) (carry : Same → (P : DiskState → Type 0) → P mid → P later) where
+        -- they were, or there are none
+        pub kept_file : (b c : Book) → IsFileAt begin start b mid safe waiting market → ((group ≡ []) × (c ≡ b) × Same) ⊎ ((group ≢ []) × AddsTo group b c mid later × LeavesWithOrWithout group b mid later)
+            → Ends later (safe ++ waiting) (length (safe ++ waiting))
+        kept_file b c file (inl (none, is, still)) =
+            let empty : waiting ≡ [] = none_stored waiting (sym same ∙ none) in
+            let size : length safe ≡ length (safe ++ waiting) = omega (arith, length-append safe waiting, ap length empty) in
+            subst (λ (n : ℕ). Ends later (safe ++ waiting) n) size (stays_file b later (carry still (λ s. IsFileAt begin start b s safe waiting market) file) is_later)
+        kept_file (Open place) (Open to) file (inr (some, (moved, told, adds), leaves)) =
+            let since = kept_since begin start place mid safe waiting market file to later (adds waiting file.fits same) told in
+            subst (λ (l : Entries). Ends later l (length (safe ++ waiting))) (append-nil (safe ++ waiting)) (open_stays begin was start old m holds to later (safe ++ waiting) [] market since is_later (omega arith))
+        kept_file (Open place) (Kept to ahead) file (inr (some, never, leaves)) = absurd never
+        kept_file (Kept place ahead) c file (inr (some, never, leaves)) = absurd never
+
+  module _ (mid later : DiskState) (is_later : IsDisk later) (Same : Type 0) (carry : Same → (P : DiskState → Type 0) → P mid → P later) (host next : HostState) where
+    -- from a file between lines
+    pub may_end : (pairs safe waiting : Entries) (market : Market) → pairs ≡ safe ++ waiting → length waiting ≤ most_unkept → host.group ≡ stored waiting → IsFileAt begin start host.book mid safe waiting market
+        → MayEnd begin was start old m pairs (length safe) host next mid later Same
+    may_end pairs safe waiting market parts few same file = record {
+      stays = λ still. subst (λ (l : Entries). Ends later l (length safe)) (sym parts) (stays_file safe waiting market few host.book later (carry still (λ s. IsFileAt begin start host.book s safe waiting market) file) is_later);
+      kept = λ keeps. subst (λ (l : Entries). Ends later l (length l)) (sym parts) (kept_file safe waiting market few mid later is_later host.group same Same carry host.book next.book file keeps);
+      fails = λ some leaves. subst (λ (l : Entries). Ends later l (length safe)) (sym parts) (fails_file safe waiting market few mid later is_later host.group same host.book file leaves);
+    }
+
+    -- from a file in which all of the entries are, if none waits
+    pub may_end_all : (pairs : Entries) (safe : ℕ) → safe ≤ length pairs → host.group ≡ [] → Ends mid pairs (length pairs) → MayEnd begin was start old m pairs safe host next mid later Same
+    may_end_all pairs safe within none file = record {
+      stays = λ still. ends_fewer begin was start later old m pairs (length pairs) safe within (carry still (λ s. Ends s pairs (length pairs)) file);
+      kept = λ keeps. by keeps;
+      fails = λ some leaves. absurd (some none);
+    }
+      where
+        by : KeepsWaiting host next mid later Same → Ends later pairs (length pairs)
+        by (inl (is, same, still)) = carry still (λ s. Ends s pairs (length pairs)) file
+        by (inr (some, adds, leaves)) = absurd (some none)

@@ -1,0 +1,138 @@
+-- Hosting that ends before its first line: the file or the input wasn't opened, or no session was made.
+use Rattle.std.proofs.Common.{◌≡◌, ◌⊎◌, inl, inr, ℕ, ◌+◌, ◌-◌, ◌≤◌, List, [], ◌++◌, length-append, Option, Some, None, IfSome, Err, length, take, refl, sym, ap, subst, ◌∙◌, arith, append_assoc}
+use Rattle.std.proofs.lemmas.List.Elements.{All-nil}
+use Rattle.std.proofs.Math.Seq.{take-append-add}
+use Rattle.flow_io.specs.Streams.{Takes}
+use Rattle.flow_io.specs.Windows.{WindowState}
+use Rattle.flow_orders.specs.Outcomes.{IsAdmissibleOutcome}
+use Rattle.line_records.specs.Lines.{HasNoFeed}
+use Rattle.market_rules.specs.Market.{Market}
+use Rattle.market_history.specs.Histories.{Start, market_of}
+use Rattle.disk_edge.specs.Disks.{DiskState, IsDisk}
+use Rattle.journal_disk.specs.Entries.{IsNewDisk, most_unkept}
+use Rattle.journal_disk.specs.Looking.{OnlyLooks}
+use Rattle.journal_keeping.specs.Keeping.{IsKeptJournal, HoldsLegal, Runs}
+use Rattle.journal_keeping.specs.Openings.{IsOpening}
+use Rattle.journal_keeping.specs.Openings as opening
+use Rattle.journal_keeping.specs.Outputs.{Output}
+use Rattle.journal_keeping.specs.declared.fault.OpenFault.TheVariants as unopened
+use Rattle.journal_keeping.specs.declared.fault.InputFault.TheVariants as unread
+use Rattle.journal_keeping.proofs.Auditing.{none_read}
+use Rattle.journal_keeping.proofs.Begun.{looks_alone, new_again}
+use Rattle.journal_keeping.proofs.Gaining.{gains_none}
+use Rattle.journal_keeping.proofs.Serving.{unbegun}
+use Rattle.desk_session.proofs.Going.{first_all}
+use Rattle.desk_opening.specs.declared.book.Book.{Book}
+use Rattle.desk_opening.specs.declared.book.Book.TheVariants.{Kept, Open}
+use Rattle.desk_opening.specs.declared.opening.StartFault.{StartFault}
+use Rattle.desk_opening.specs.declared.opening.StartFault.TheVariants as start
+use Rattle.desk_opening.specs.Beginnings.{bytes_before}
+use Rattle.desk_opening.specs.Books.{IsBookAfter}
+use Rattle.desk_opening.specs.Openings.{HasOpened, HasNotOpened, WasMaking, BeginsOtherwise, TakesBeginning}
+use Rattle.desk_keeping.specs.Faults.{of_start}
+use Rattle.desk_keeping.specs.Hosting.{Entries, desks_of, AreFirstHosted, HasFirstLines, IsAsBefore, ComesTo, HostsIn}
+use Rattle.desk_keeping.proofs.Leaving.{continued_old}
+
+module _ (limit : ℕ) (content : Option (List ℕ)) (was : Start) (first : DiskState) (old : Entries) (m : Market) (holds : HoldsLegal first was old m) (now : DiskState) (is_disk : IsDisk now) (out : Output) where
+  -- no line was heard, and nothing was added
+  hosts_none : (Cut : Type 0) (begin : Start) (from : Market) → ((begin ≡ was) × (from ≡ m)) ⊎ (IfSome first.content IsNewDisk × (from ≡ market_of begin)) → Runs most_unkept begin first now old from [] 0
+      → HostsIn limit content Cut was first now old m out out
+  hosts_none Cut begin from continues runs =
+      let none : AreFirstHosted begin [] [] [] = first_all IsAdmissibleOutcome (market_of begin) (market_of begin) (desks_of begin) (desks_of begin) 0 [] [] [] [] (refl, refl, refl, refl) in
+      record {
+        begin = begin;
+        from = from;
+        continues = continues;
+        new = [];
+        acknowledged = 0;
+        runs = runs;
+        lines = [];
+        are = inl refl;
+        pairs = [];
+        texts = [];
+        asked = none;
+        parts = inr (refl, old, refl);
+        count = 0;
+        within = omega arith;
+        told = [];
+        answered = none;
+        gained = gains_none Cut out;
+      }
+
+  -- the file was only looked at
+  hosts_looked : (Cut : Type 0) → OnlyLooks first now → HostsIn limit content Cut was first now old m out out
+  hosts_looked Cut looks = hosts_none Cut was m (inl (refl, refl)) (unbegun was most_unkept first now old m holds.journal is_disk (looks_alone was old first now looks))
+
+  -- a new file was being made
+  hosts_making : (Cut : Type 0) (begin : Start) (rest : Option (List ℕ)) → TakesBeginning limit begin content rest → WasMaking begin first now → HostsIn limit content Cut was first now old m out out
+  hosts_making Cut begin rest takes making =
+      let is_new : IsOpening holds.bytes opening.New = subst (λ (o : Option (List ℕ)). IfSome o (λ held. IsOpening held opening.New)) holds.told making.is_new in
+      let none = new_again first was old m holds holds.bytes holds.told is_new.0 in
+      let journal : IsKeptJournal begin old (market_of begin) = subst (λ (l : Entries). IsKeptJournal begin l (market_of begin)) (sym none) (none_read begin (market_of begin) takes.0 refl) in
+      hosts_none Cut begin (market_of begin) (inr (subst (λ (o : Option (List ℕ)). IfSome o IsNewDisk) (sym holds.told) is_new.0, refl))
+      (unbegun begin most_unkept first now old (market_of begin) journal is_disk (making.moments was old m holds))
+
+  -- the file and the input weren't opened
+  pub hosts_not_opened : (Cut : Type 0) (rest : Option (List ℕ)) (fault : StartFault) → HasNotOpened limit first now content rest fault → HostsIn limit content Cut was first now old m out out
+  hosts_not_opened Cut rest (start.Open fault) (why, looks) = hosts_looked Cut looks
+  hosts_not_opened Cut rest (start.Input fault) (why, looks) = hosts_looked Cut looks
+  hosts_not_opened Cut rest start.Differs (looks, begin, takes, otherwise) = hosts_looked Cut looks
+  hosts_not_opened Cut rest start.Make (begin, takes, making) = hosts_making Cut begin rest takes making
+
+  -- they were, and no session was made
+  pub hosts_opened : (Cut : Type 0) (most : ℕ) (market : Market) (book : Book) (window : WindowState) (rest : Option (List ℕ)) → HasOpened most limit first now market book window content rest → HostsIn limit content Cut was first now old m out out
+  hosts_opened Cut most market book window rest opened = by book opened.file
+    where
+      by : (b : Book) → IsBookAfter opened.begin b first now [] market → HostsIn limit content Cut was first now old m out out
+      by (Kept place ahead) along = hosts_looked Cut along.looks
+      by (Open place) gets =
+          let is = continued_old opened.begin was first old m holds [] market gets.continues in
+          let journal : IsKeptJournal opened.begin old market = subst (λ (l : Entries). IsKeptJournal opened.begin l market) (sym is.0) gets.journal in
+          hosts_none Cut opened.begin market is.1 (unbegun opened.begin most_unkept first now old market journal is_disk (gets.moments was old m holds))
+
+-- ---- what it comes to
+
+-- what was taken of an input whose bytes are known
+pub of_known : (content left : Option (List ℕ)) (taken : List ℕ) → Takes content left taken → (P : List ℕ → Type 0) → ((bytes after : List ℕ) → left ≡ Some after → bytes ≡ taken ++ after → P bytes) → IfSome content P
+of_known None left taken takes P f = tt
+of_known (Some bytes) None taken takes P f = absurd takes
+of_known (Some bytes) (Some after) taken takes P f = f bytes after refl takes
+
+-- the first bytes within the limit
+pub take_taken : (limit : ℕ) (bytes taken after : List ℕ) → bytes ≡ taken ++ after → length taken ≤ limit → take limit bytes ≡ taken ++ take (limit - length taken) after
+take_taken limit bytes taken after is few =
+    let spare : limit ≡ length taken + (limit - length taken) = omega (arith, few) in
+    ap (take limit) is ∙ ap (λ (n : ℕ). take n (taken ++ after)) spare ∙ take-append-add taken after (limit - length taken)
+
+module _ (limit : ℕ) (content left : Option (List ℕ)) (first now : DiskState) (held : List ℕ) (told : first.content ≡ Some held) (out : Output) where
+  known_so : (P : List ℕ → Type 0) → IfSome first.content P → P held
+  known_so P is = subst (λ (o : Option (List ℕ)). IfSome o P) told is
+
+  as_before : OnlyLooks first now → IsAsBefore held now out out
+  as_before looks = (looks.content ∙ told, refl)
+
+  -- the beginning of the input was taken, within the limit
+  begins_so : (begin : Start) → TakesBeginning limit begin content left → IfSome content (λ bytes. HasFirstLines (take limit bytes) begin [])
+  begins_so begin (starts, taken, takes, few) = of_known content left (bytes_before begin ++ taken) takes (λ bytes. HasFirstLines (take limit bytes) begin []) by
+    where
+      by : (bytes after : List ℕ) → left ≡ Some after → bytes ≡ (bytes_before begin ++ taken) ++ after → HasFirstLines (take limit bytes) begin []
+      by bytes after so is = (
+        take (limit - length (bytes_before begin)) (taken ++ after),
+        record { starts = starts; pieces = All-nil HasNoFeed; whole = take_taken limit bytes (bytes_before begin) (taken ++ after) (is ∙ append_assoc (bytes_before begin) taken after) (omega (arith, few, length-append (bytes_before begin) taken)) },
+      )
+
+  -- why nothing was hosted
+  pub comes_not_opened : (fault : StartFault) → HasNotOpened limit first now content left fault
+      → ComesTo limit held content left now out out (Err (of_start fault))
+  comes_not_opened (start.Open unopened.Disk) not = tt
+  comes_not_opened (start.Open unopened.Memory) not = tt
+  comes_not_opened (start.Open unopened.NotDisk) (why, looks) = (known_so (λ bytes. IsOpening bytes opening.Foreign) why, as_before looks)
+  comes_not_opened (start.Open (unopened.Damaged place)) (why, looks) = inl (known_so (λ bytes. IsOpening bytes (opening.Damaged place)) why.0, as_before looks)
+  comes_not_opened (start.Open (unopened.Rejected number)) (why, looks) = absurd why
+  comes_not_opened (start.Input unread.Read) (why, looks) = inr (why, as_before looks)
+  comes_not_opened (start.Input unread.Memory) not = tt
+  comes_not_opened (start.Input unread.NotFlow) (why, looks) = (why, as_before looks)
+  comes_not_opened (start.Input unread.BadCheckpoint) (why, looks) = (why, as_before looks)
+  comes_not_opened start.Differs (looks, begin, takes, otherwise) =
+      inl (refl, as_before looks, begin, begins_so begin takes, known_so (λ bytes. BeginsOtherwise begin bytes now) otherwise)
+  comes_not_opened start.Make not = tt
