@@ -19,3 +19,4 @@ IsOwn (answer.NoAccount number) = Unit {0}
 IsOwn answer.DiskFault = ⊥
 IsOwn answer.NotDisk = ⊥
 IsOwn (answer.Damaged place) = ⊥
+IsOwn (answer.Differs number) = ⊥

@@ -21,6 +21,7 @@ exit_of (status.NoAccount number) = 11
 exit_of status.DiskFault = 12
 exit_of status.NotDisk = 13
 exit_of (status.Damaged place) = 14
+exit_of (status.Differs number) = 15
 
 -- the line on standard error, with its line feed
 abbrev pub line_of : Status → List ℕ
@@ -39,6 +40,7 @@ line_of (status.NoAccount number) = codes "flow: no account " ++ decimal number 
 line_of status.DiskFault = codes "flow: disk failed\n"
 line_of status.NotDisk = codes "flow: not a flow disk\n"
 line_of (status.Damaged place) = codes "flow: disk damaged at byte " ++ decimal place ++ codes "\n"
+line_of (status.Differs number) = codes "flow: entry " ++ decimal number ++ codes " is not what the lines ask for\n"
 
 -- the status of an ending
 abbrev pub ending_status : ℕ → Ending → Status

@@ -35,6 +35,8 @@ pub enum Status {
     NotDisk,
     /// At this byte of the file, from 0, an entry should be and none is.
     Damaged(u64),
+    /// The entry of this number, counted from 1, isn't what the lines ask for; 0 if the file begins otherwise.
+    Differs(u64),
 }
 
 // What the program exits with and prints at a status: its number, and its line, of which a number may be a part.
@@ -100,6 +102,12 @@ impl Status {
             Status::DiskFault => plain(12, b"flow: disk failed\n"),
             Status::NotDisk => plain(13, b"flow: not a flow disk\n"),
             Status::Damaged(place) => counted(14, b"flow: disk damaged at byte ", place, b"\n"),
+            Status::Differs(number) => counted(
+                15,
+                b"flow: entry ",
+                number,
+                b" is not what the lines ask for\n",
+            ),
         }
     }
 

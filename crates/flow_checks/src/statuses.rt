@@ -4,7 +4,7 @@ use flow_exchange::Status;
 use memory_io::SteadySink;
 use std::alloc::Global;
 
-const STATUSES: [Status; 15] = [
+const STATUSES: [Status; 16] = [
     Status::Done,
     Status::Usage,
     Status::NotFlow,
@@ -20,6 +20,7 @@ const STATUSES: [Status; 15] = [
     Status::DiskFault,
     Status::NotDisk,
     Status::Damaged(1),
+    Status::Differs(1),
 ];
 
 // Appends the number and the line of a status.

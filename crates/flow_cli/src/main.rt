@@ -1,10 +1,10 @@
-//! The program `flow`: gives its words and standard streams to the exchange, and for the words `keep FILE` and `serve FILE` that file too.
+//! The program `flow`: gives its words and standard streams to the exchange, and for the words `keep FILE`, `serve FILE` and `host FILE` that file too.
 #![tactic(auto)]
 
 use disk_edge::PathDisk;
 use flow_exchange::{Status, flow};
 use flow_io::{StdSink, StdSource};
-use kept_exchange::{flow_disk, flow_lines, kept_file, served_file};
+use kept_exchange::{flow_disk, flow_host, flow_lines, hosted_file, kept_file, served_file};
 use std::fs::File;
 use std::io::ErrorKind;
 use std::process::ExitCode;
@@ -38,18 +38,23 @@ fn main(rt: HostRuntime) -> ExitCode {
     let mut out = StdSink::new(rt.stdout());
     let mut notes = StdSink::new(rt.stderr());
     let status = match words(&rt) {
-        Ok(words) => match (kept_file(&words), served_file(&words)) {
-            (Some(path), _) => {
+        Ok(words) => match (kept_file(&words), served_file(&words), hosted_file(&words)) {
+            (Some(path), _, _) => {
                 let _held = hold_places(&rt);
                 let mut disk = PathDisk::open(&rt, path);
                 flow_disk(alloc, &mut source, &mut disk, &mut out, &mut notes)
             }
-            (None, Some(path)) => {
+            (None, Some(path), _) => {
                 let _held = hold_places(&rt);
                 let mut disk = PathDisk::open(&rt, path);
                 flow_lines(alloc, &mut source, &mut disk, &mut out, &mut notes)
             }
-            (None, None) => flow(alloc, &words, &mut source, &mut out, &mut notes),
+            (None, None, Some(path)) => {
+                let _held = hold_places(&rt);
+                let mut disk = PathDisk::open(&rt, path);
+                flow_host(alloc, &mut source, &mut disk, &mut out, &mut notes)
+            }
+            (None, None, None) => flow(alloc, &words, &mut source, &mut out, &mut notes),
         },
         Err(status) => {
             let _ = status.write_line(&mut notes);

@@ -66,6 +66,7 @@ module _ (limit : ℕ) (held : List ℕ) (end : DiskState) (source : Change) (ou
   asks status.Usage x r w d m = absurd x
   asks (status.BadText number) x r w d m = absurd x
   asks (status.NoAccount number) x r w d m = absurd x
+  asks (status.Differs number) x r w d m = absurd x
 
 module _ (limit : ℕ) (end : DiskState) (source : Change) (out later : Output) (ends : Status) where
   -- if no call failed and memory was there, the bytes determine the status of keeping a journal
@@ -112,6 +113,7 @@ module _ (limit : ℕ) (held : List ℕ) (content left : Option (List ℕ)) (end
   lines_ask status.Usage x r w d m = absurd x
   lines_ask (status.BadText number) x r w d m = absurd x
   lines_ask (status.NoAccount number) x r w d m = absurd x
+  lines_ask (status.Differs number) x r w d m = absurd x
 
 module _ (limit : ℕ) (content left : Option (List ℕ)) (end : DiskState) (out later : Output) (ends : Status) where
   -- if no call failed and memory was there, the bytes determine the status of serving lines

@@ -67,6 +67,7 @@ module _ (limit : ℕ) (held : Option (List ℕ)) (end : DiskState) (source : Ch
   by_status status.Usage x paced allocates = absurd x
   by_status (status.BadText number) x paced allocates = absurd x
   by_status (status.NoAccount number) x paced allocates = absurd x
+  by_status (status.Differs number) x paced allocates = absurd x
 
 pub keep_ends : (end : DiskState) → KeepEndsByResult end
 keep_ends end limit held source out later ends = (
@@ -111,6 +112,7 @@ module _ (limit : ℕ) (held : List ℕ) (content left : Option (List ℕ)) (end
   lines_by_status status.Usage x = absurd x
   lines_by_status (status.BadText number) x = absurd x
   lines_by_status (status.NoAccount number) x = absurd x
+  lines_by_status (status.Differs number) x = absurd x
 
 pub lines_end : (end : DiskState) → LinesEndByResult end
 lines_end end limit held content left out later ends = (

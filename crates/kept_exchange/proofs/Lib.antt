@@ -10,3 +10,4 @@ mod Refusing
 mod Determined
 mod Following
 mod TwoWords
+mod HostedLines

@@ -18,7 +18,7 @@ use Rattle.journal_keeping.specs.Openings as opening
 use Rattle.journal_keeping.specs.Pacing.{ReadsAll, IsNear}
 use Rattle.journal_keeping.specs.Ended.{IsRefused, HasKeptAll, StaysNew, HasLeftAll}
 use Rattle.exit_status.specs.declared.status.Status.{Status}
-use Rattle.exit_status.specs.declared.status.Status.TheVariants.{Done, Usage, NotFlow, Torn, ReadFault, WriteFault, NoMemory, Rejected, TooLong, BadText, BadCheckpoint, NoAccount, DiskFault, NotDisk, Damaged}
+use Rattle.exit_status.specs.declared.status.Status.TheVariants.{Done, Usage, NotFlow, Torn, ReadFault, WriteFault, NoMemory, Rejected, TooLong, BadText, BadCheckpoint, NoAccount, DiskFault, NotDisk, Damaged, Differs}
 use Rattle.exit_status.specs.Statuses.{line_of}
 
 -- How a call that keeps a journal ends. `held` is what the disk held at the start, if that is known.
@@ -47,6 +47,7 @@ module _ (limit : ℕ) (held : Option (List ℕ)) (end : DiskState) (source : Ch
   EndsWith Usage = ⊥
   EndsWith (BadText number) = ⊥
   EndsWith (NoAccount number) = ⊥
+  EndsWith (Differs number) = ⊥
 
 -- the disk was refused
 abbrev pub IsRefusal : Status → Type 0

@@ -2,4 +2,5 @@ pub mod Words
 pub mod Statuses
 pub mod Keeping
 pub mod Lines
+pub mod Hosts
 pub mod Laws

@@ -56,6 +56,7 @@ module _ (limit : ℕ) (held : List ℕ) (content left : Option (List ℕ)) (end
   LinesEndWith status.Usage = ⊥
   LinesEndWith (status.BadText number) = ⊥
   LinesEndWith (status.NoAccount number) = ⊥
+  LinesEndWith (status.Differs number) = ⊥
 
 -- What a call does that serves lines and keeps a journal on a disk, with a limit of its input. `out` and `later` are the output before and after it.
 pub record ServesLines (limit : ℕ) (ends : Status) (start end : DiskState) (source : Change) (out later : Output) (notes : Change) : Type 0 where

@@ -8,3 +8,7 @@ AskKeep words file = words ≡ codes "keep" ∷ file ∷ []
 -- the words of the command line, each as its bytes, are `serve` and this file
 abbrev pub AskServe : List (List ℕ) → List ℕ → Type 0
 AskServe words file = words ≡ codes "serve" ∷ file ∷ []
+
+-- the words of the command line, each as its bytes, are `host` and this file
+abbrev pub AskHost : List (List ℕ) → List ℕ → Type 0
+AskHost words file = words ≡ codes "host" ∷ file ∷ []

@@ -6,11 +6,13 @@
 #![tactic(auto)]
 
 mod ending;
+mod hosting;
 pub mod laws;
 mod lines;
 mod top;
 mod words;
 
+pub use hosting::{flow_host, flow_host_limited};
 pub use lines::{flow_lines, flow_lines_limited};
 pub use top::{flow_disk, flow_disk_limited};
-pub use words::{kept_file, served_file};
+pub use words::{hosted_file, kept_file, served_file};
