@@ -14,6 +14,7 @@ is_form() {
     1:resume:*) true ;;
     2:keep:*) true ;;
     2:serve:*) true ;;
+    2:host:*) true ;;
     3:sample:*) true ;;
     1:prove:*) true ;;
     *) false ;;
@@ -35,6 +36,7 @@ help_on() {
   resume                a journal or a checkpoint, and commands: write their entries
   keep FILE             a command file: keep its journal in a file
   serve FILE            lines of JSON: keep their journal in a file, and answer in text
+  host FILE             lines of many senders: keep their journal in a file, and answer each
   sample NUMBER ORDERS  a number, and how many orders: try a large market
 
   help [SUBCOMMAND]     this text, or what a subcommand reads and writes and how it ends
@@ -229,6 +231,28 @@ ends     0  Done
         12  DiskFault      flow: disk failed
         13  NotDisk        flow: not a flow disk
         14  Damaged        flow: disk damaged at byte N
+
+The manual says more: man docs/flow.1' ;;
+    host) printf '%s\n' './flow host FILE < ENVELOPES > ANSWERS
+
+lines of many senders: keep their journal in a file, and answer each
+
+reads   the lines of many senders, from the beginning of FILE on
+writes  answers in JSON, each for one recipient, once FILE, made if it isn'"'"'t
+        there, keeps their entries
+ends     0  Done
+         1  Usage          flow: usage
+         2  NotFlow        flow: not a flow file
+         4  ReadFault      flow: read failed
+         5  WriteFault     flow: write failed
+         6  NoMemory       flow: no memory
+         7  Rejected       flow: pair N is not legal
+         8  TooLong        flow: more than 1099511627776 bytes
+        10  BadCheckpoint  flow: checkpoint is not sound
+        12  DiskFault      flow: disk failed
+        13  NotDisk        flow: not a flow disk
+        14  Damaged        flow: disk damaged at byte N
+        15  Differs        flow: entry N is not what the lines ask for
 
 The manual says more: man docs/flow.1' ;;
     sample) printf '%s\n' './flow sample NUMBER ORDERS > LINE

@@ -1,4 +1,4 @@
-"""A reader of the files that `flow keep` writes, and files that it may write, by the formats alone."""
+"""A reader of the files that `flow keep`, `flow serve` and `flow host` write, and files that they may write, by the formats alone."""
 import os
 import struct
 from collections import namedtuple
@@ -25,6 +25,9 @@ LONGEST = MOST_ASKED + MOST_ANSWERED + 2 * HEAD
 # The most bytes that one write of an entry has: its length, the entry and the next commit byte. A stop leaves no more after the commit byte
 # that ends the entries, but where a checkpoint was being written.
 MOST_WRITTEN = 4 + LONGEST + 1
+
+# The most bytes that one write of a group of entries has, as `flow host` keeps them: of each entry its length, the entry and the next commit byte.
+MOST_GROUP = 2 ** 20
 
 # How a file begins that isn't new: its version, and the checkpoint in its first entry, or no bytes.
 Head = namedtuple("Head", "version checkpoint")
@@ -92,7 +95,7 @@ def next_pair(file):
 
 def stored(file, commit, place, count):
     """At most this many bytes of an open file from a place on, which comes after a commit byte that wasn't set. None if it is set by now:
-    then a writer is at work, and the entries go on there. While it isn't set, no writer has stored more than one entry after it."""
+    then a writer is at work, and the entries go on there. While it isn't set, no writer has stored more than one entry after it, or one group."""
     held = os.pread(file.fileno(), count, place)
     return b"" if os.pread(file.fileno(), 1, commit) == OPEN else held
 
@@ -146,10 +149,15 @@ def is_followed(file, place, held):
     return has_entry(held)
 
 
-def refuse_uncut(file, place):
+def refuse_uncut(file, place, in_groups=False):
     """Refuses an open file of which the entries end at this commit byte, if more follows than a stop leaves, which is one entry with the
-    next commit byte, or a part of that. If a commit byte or a block was changed, a start would cut off all that follows it."""
+    next commit byte, or a part of that. If a commit byte or a block was changed, a start would cut off all that follows it. Where entries
+    are kept in groups, it is a group, or a part of that."""
     held = stored(file, place, place + 1, MOST_UNKEPT + 1)
+    if in_groups:
+        if len(held) > MOST_GROUP and place > FIRST_COMMIT:
+            raise NotCut(f"more than {MOST_GROUP} bytes follow byte {place}")
+        return
     if is_followed(file, place, held):
         raise NotCut(f"entries follow byte {place}")
     # (at the first one a checkpoint may have been written)
@@ -161,16 +169,16 @@ def refuse_uncut(file, place):
 NO_VERSION_YET = Head(2, b"")
 
 
-def put_history(file, out):
+def put_history(file, out, in_groups=False):
     """Writes the history that an open file keeps: its checkpoint, or the magic of a journal, and its entries, and says how many these are.
-    Refuses a file of which a start would cut off entries, after it has written the others."""
+    Refuses a file of which a start would cut off entries, after it has written the others. They may be kept in groups."""
     begun, count = begin(file), 0
     head = begun or NO_VERSION_YET
     out.write(head.checkpoint or b"FLOWJNL%d" % head.version)
     for pair in pairs_from(file) if begun else ():
         out.write(pair)
         count += 1
-    refuse_uncut(file, file.tell() - 1 if begun else FIRST_COMMIT)
+    refuse_uncut(file, file.tell() - 1 if begun else FIRST_COMMIT, in_groups)
     return count
 
 

@@ -8,11 +8,11 @@ from collections import namedtuple
 
 # The statuses, by their numbers, and the line that each but Done writes to standard error.
 STATUSES = ("Done Usage NotFlow Torn ReadFault WriteFault NoMemory Rejected TooLong BadText BadCheckpoint NoAccount DiskFault NotDisk "
-            "Damaged").split()
+            "Damaged Differs").split()
 SAID = ["", *(f"flow: {line}" for line in (
     "usage", "not a flow file", "torn at byte N", "read failed", "write failed", "no memory", "pair N is not legal",
     "more than 1099511627776 bytes", "line N is no command", "checkpoint is not sound", "no account N", "disk failed", "not a flow disk",
-    "disk damaged at byte N"))]
+    "disk damaged at byte N", "entry N is not what the lines ask for"))]
 
 # A subcommand: what may follow it on the command line, with the names of values in capitals; what it reads and writes, each the
 # name of a file in capitals, if there is one, and words on it, with links within docs/FORMATS.md; how it ends but for Done,
@@ -70,6 +70,11 @@ WORDS = [
          "TEXT", "the [answer to each line](#answers-to-lines), once [FILE](#kept-files), made if it isn't there, keeps its entries",
          "NotFlow Rejected TooLong BadCheckpoint DiskFault NotDisk Damaged",
          "lines of JSON: keep their journal in a file, and answer in text"),
+    Word("host", ["FILE"],
+         "ENVELOPES", "the [lines of many senders](#lines-of-many-senders), from the beginning of FILE on",
+         "ANSWERS", "[answers](#answers-to-many-senders) in JSON, each for one recipient, once [FILE](#kept-files), made if it isn't there, keeps their entries",
+         "NotFlow Rejected TooLong BadCheckpoint DiskFault NotDisk Damaged Differs",
+         "lines of many senders: keep their journal in a file, and answer each"),
     Word("sample", ["NUMBER ORDERS"],
          "", "nothing",
          "LINE", "[one line](#samples-of-large-markets) on a large market, drawn, run and audited",
