@@ -118,6 +118,7 @@ module _ (begin : Start) (start : DiskState) (held : List ℕ) (told : start.con
         line = line;
         are = are;
         next = s.next;
+        asks = s.asks;
         pairs = at.pairs ++ s.taken;
         texts = at.texts ++ s.texts;
         market = mid.session.market;

@@ -133,6 +133,7 @@ module _ (sender : Recipient) (line : ℕ) (commands : List Command) (h m : Host
             record {
               first = commands;
               next = command ∷ next;
+              asks = λ none. absurd (omega (arith, ap length none));
               parts = refl;
               taken = all.taken;
               texts = all.texts;

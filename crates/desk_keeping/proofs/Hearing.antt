@@ -79,6 +79,7 @@ module _ (line : List ℕ) (h : HostState) (s : State) (sender : Recipient) (num
     stops_within : (Why : (number : ℕ) → Market → List Command → (place : ℕ) → List ℕ → Type 0) → StopsAmong sender number (commands_of asked) (record h { session = s }) n disk now Why → StopsWithin line h n disk now Why
     stops_within Why stops = record {
       next = stops.next;
+      asks = stops.asks;
       taken = stops.taken;
       texts = stops.texts;
       sender = sender;

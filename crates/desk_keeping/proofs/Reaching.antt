@@ -3,12 +3,13 @@ use Rattle.std.proofs.Common.{◌≡◌, ◌⊎◌, inl, inr, ℕ, ◌+◌, ◌-
 use Rattle.std.proofs.lemmas.List.{append-nil}
 use Rattle.std.proofs.lemmas.Grind.{flat_map-append}
 use Rattle.std.proofs.Math.Seq.{take-append_seam}
-use Rattle.flow_io.specs.Streams.{Takes}
+use Rattle.flow_io.specs.Streams.{Takes, TakesAtMost}
 use Rattle.flow_io.specs.Windows.{WindowState}
 use Rattle.flow_io.proofs.Reading.{Takes-more}
 use Rattle.line_records.specs.Lines.{HasNoFeed, ended_by_feeds}
 use Rattle.word_driver.specs.Does.{IsTaken}
 use Rattle.market_history.specs.Histories.{Start}
+use Rattle.journal_keeping.proofs.Magic.{at_most}
 use Rattle.input_lines.specs.Finding.{FindsNextWithin, FindsNoFeed}
 use Rattle.input_lines.specs.declared.lines.Next.{Next}
 use Rattle.input_lines.specs.declared.lines.Next.TheVariants as next
@@ -62,7 +63,29 @@ module _ (begin : Start) (limit : ℕ) (w : WindowState) (content left : Option 
       let spare : List ℕ = take (limit - length gone.taken) after in
       ((w.held ++ []) ++ spare, has_lines [] (take limit bytes) spare (take_taken limit bytes gone.taken after is taken_few ∙ ap (λ (l : List ℕ). l ++ spare) (sym (append-nil gone.taken)))))
 
+  -- at most one byte past the limit was taken
+  pub few_at : TakesAtMost content left (limit + 1)
+  few_at = at_most content left gone.taken (limit + 1) gone.takes (omega (arith, taken_few))
+
   module _ (new : WindowState) (now : Option (List ℕ)) where
+    past_few : (found : Next) (finds : FindsNextWithin most_envelope w new left now found) → length finds.past ≤ 1
+    past_few (next.Line size) finds = omega (arith, ap length finds.is.6)
+    past_few next.Long finds = omega (arith, ap length finds.is.5)
+    past_few next.Last finds = omega (arith, ap length finds.is.5)
+    past_few next.LongLast finds = omega (arith, ap length finds.is.2)
+    past_few next.End finds = omega (arith, ap length finds.is.1)
+    past_few next.Limit finds = omega (arith, finds.is.1)
+
+    pub few_found : (found : Next) → FindsNextWithin most_envelope w new left now found → TakesAtMost content now (limit + 1)
+    few_found found finds =
+        at_most content now (gone.taken ++ (finds.joined ++ finds.past)) (limit + 1) (Takes-more content left now gone.taken (finds.joined ++ finds.past) gone.takes finds.takes)
+        (omega (arith, joined_size finds.joined, finds.within, gone.limited, past_few found finds, length-append gone.taken finds.joined, length-append gone.taken (finds.joined ++ finds.past), length-append finds.joined finds.past))
+
+    pub few_unread : FindsNoFeed w left now → TakesAtMost content now (limit + 1)
+    few_unread none =
+        at_most content now (gone.taken ++ none.joined) (limit + 1) (Takes-more content left now gone.taken none.joined gone.takes none.takes)
+        (omega (arith, joined_size none.joined, none.within, gone.limited))
+
     module _ (found : Next) (finds : FindsNextWithin most_envelope w new left now found) where
       found_takes : Takes content now (gone.taken ++ (finds.joined ++ finds.past))
       found_takes = Takes-more content left now gone.taken (finds.joined ++ finds.past) gone.takes finds.takes

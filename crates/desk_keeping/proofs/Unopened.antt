@@ -1,5 +1,5 @@
 -- Hosting that ends before its first line: the file or the input wasn't opened, or no session was made.
-use Rattle.std.proofs.Common.{◌≡◌, ◌⊎◌, inl, inr, ℕ, ◌+◌, ◌-◌, ◌≤◌, List, [], ◌++◌, length-append, Option, Some, None, IfSome, Err, length, take, refl, sym, ap, subst, ◌∙◌, arith, append_assoc}
+use Rattle.std.proofs.Common.{◌≡◌, ◌⊎◌, inl, inr, ℕ, ◌+◌, ◌-◌, ◌≤◌, List, [], ◌++◌, length-append, Option, Some, None, IfSome, Result, Ok, Err, length, take, refl, sym, ap, subst, ◌∙◌, arith, append_assoc}
 use Rattle.std.proofs.lemmas.List.Elements.{All-nil}
 use Rattle.std.proofs.Math.Seq.{take-append-add}
 use Rattle.flow_io.specs.Streams.{Takes}
@@ -15,10 +15,12 @@ use Rattle.journal_keeping.specs.Keeping.{IsKeptJournal, HoldsLegal, Runs}
 use Rattle.journal_keeping.specs.Openings.{IsOpening}
 use Rattle.journal_keeping.specs.Openings as opening
 use Rattle.journal_keeping.specs.Outputs.{Output}
+use Rattle.journal_keeping.specs.declared.fault.OpenFault.{OpenFault}
 use Rattle.journal_keeping.specs.declared.fault.OpenFault.TheVariants as unopened
 use Rattle.journal_keeping.specs.declared.fault.InputFault.TheVariants as unread
 use Rattle.journal_keeping.proofs.Auditing.{none_read}
 use Rattle.journal_keeping.proofs.Begun.{looks_alone, new_again}
+use Rattle.journal_keeping.proofs.Counts.{if_some}
 use Rattle.journal_keeping.proofs.Gaining.{gains_none}
 use Rattle.journal_keeping.proofs.Serving.{unbegun}
 use Rattle.desk_session.proofs.Going.{first_all}
@@ -28,9 +30,9 @@ use Rattle.desk_opening.specs.declared.opening.StartFault.{StartFault}
 use Rattle.desk_opening.specs.declared.opening.StartFault.TheVariants as start
 use Rattle.desk_opening.specs.Beginnings.{bytes_before}
 use Rattle.desk_opening.specs.Books.{IsBookAfter}
-use Rattle.desk_opening.specs.Openings.{HasOpened, HasNotOpened, WasMaking, BeginsOtherwise, TakesBeginning}
+use Rattle.desk_opening.specs.Openings.{HasOpened, HasNotOpened, WasMaking, BeginsOtherwise, TakesBeginning, IsNoBook}
 use Rattle.desk_keeping.specs.Faults.{of_start}
-use Rattle.desk_keeping.specs.Hosting.{Entries, desks_of, AreFirstHosted, HasFirstLines, IsAsBefore, ComesTo, HostsIn}
+use Rattle.desk_keeping.specs.Hosting.{Entries, desks_of, AreFirstHosted, HasFirstLines, IsAsBefore, ComesTo, IsOfFile, HostsIn}
 use Rattle.desk_keeping.proofs.Leaving.{continued_old}
 
 module _ (limit : ℕ) (content : Option (List ℕ)) (was : Start) (first : DiskState) (old : Entries) (m : Market) (holds : HoldsLegal first was old m) (now : DiskState) (is_disk : IsDisk now) (out : Output) where
@@ -136,3 +138,29 @@ module _ (limit : ℕ) (content left : Option (List ℕ)) (first now : DiskState
   comes_not_opened start.Differs (looks, begin, takes, otherwise) =
       inl (refl, as_before looks, begin, begins_so begin takes, known_so (λ bytes. BeginsOtherwise begin bytes now) otherwise)
   comes_not_opened start.Make not = tt
+
+-- ---- a file that is refused by its bytes
+
+same_start : {T : Type 0} (a b : StartFault) → ◌≡◌ {A = Result T StartFault} (Err a) (Err b) → a ≡ b
+same_start a b e = cc
+
+-- it ends at the opening of the file
+of_file : (limit : ℕ) (first now : DiskState) (before after : Option (List ℕ)) (fault : StartFault) → HasNotOpened limit first now before after fault → (why : OpenFault) → fault ≡ start.Open why → IsOfFile (Err (of_start fault))
+of_file limit first now before after fault not unopened.Disk is = rw is tt
+of_file limit first now before after fault not unopened.Memory is = rw is tt
+of_file limit first now before after fault not unopened.NotDisk is = rw is tt
+of_file limit first now before after fault not (unopened.Damaged place) is = rw is tt
+of_file limit first now before after fault not (unopened.Rejected number) is = absurd (subst (HasNotOpened limit first now before after) is not).0
+
+pub refused_unopened : (T : Type 0) (limit : ℕ) (first now : DiskState) (before after : Option (List ℕ)) (fault : StartFault) (Same SameOut : Type 0) → HasNotOpened limit first now before after fault → SameOut
+    → IfSome first.content (λ held. IsNoBook held → ((why : OpenFault) × ◌≡◌ {A = Result T StartFault} (Err fault) (Err (start.Open why))) × Same) → IfSome first.content (λ held. IsNoBook held → IsOfFile (Err (of_start fault)) × Same × SameOut)
+refused_unopened T limit first now before after fault Same SameOut not quiet refuses =
+    if_some first.content _ _ (λ (held : List ℕ) why no. let it = why no in (of_file limit first now before after fault not it.0.0 (same_start fault (start.Open it.0.0) it.0.1), it.1, quiet)) refuses
+
+-- a file that was opened isn't refused
+pub refused_opened : (T : Type 0) (content : Option (List ℕ)) (opened : T) (Same P : Type 0) → IfSome content (λ held. IsNoBook held → ((why : OpenFault) × ◌≡◌ {A = Result T StartFault} (Ok opened) (Err (start.Open why))) × Same)
+    → IfSome content (λ held. IsNoBook held → P)
+refused_opened T content opened Same P refuses = if_some content _ _ (λ (held : List ℕ) why no. absurd (ok_no_err (why no).0.0 (why no).0.1)) refuses
+  where
+    ok_no_err : (why : OpenFault) → ◌≡◌ {A = Result T StartFault} (Ok opened) (Err (start.Open why)) → ⊥
+    ok_no_err why e = absurd cc

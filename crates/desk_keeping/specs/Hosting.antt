@@ -110,13 +110,15 @@ pub record HasAnswered (Are : Start → List (List ℕ) → Type 0) (held : List
   pub gained : Gains ⊥ out later texts
   pub file : HasEntriesOf held begin pairs market end
 
--- It stopped at an entry of the file. The lines before were answered, and of the line that asks for this entry the first commands.
+-- It stopped at an entry of the file. The lines before were answered, and of the line that asks for this entry the commands before the one that does,
+-- which is the first of `next`.
 pub record StopsAtEntry (limit : ℕ) (held : List ℕ) (content : Option (List ℕ)) (end : DiskState) (out later : Output) (Why : (place : ℕ) → Entries → Market → List Command → Type 0) : Type 0 where
   pub begin : Start
   pub lines : List (List ℕ)
   pub line : List ℕ
   pub are : IfSome content (λ bytes. HasFirstLines (take limit bytes) begin (lines ++ line ∷ []))
   pub next : List Command
+  pub asks : next ≢ []
   pub pairs : Entries
   pub texts : Texts
   pub market : Market
@@ -164,6 +166,15 @@ ComesTo limit held content left end out later (Err (Differs number)) =
 ComesTo limit held content left end out later (Err Write) = ⊤
 ComesTo limit held content left end out later (Err Disk) = ⊤
 ComesTo limit held content left end out later (Err Memory) = ⊤
+
+-- it ended at the opening of the file
+abbrev pub IsOfFile : Result ⊤ HostFault → Type 0
+IsOfFile (Ok done) = ⊥
+IsOfFile (Err Disk) = ⊤
+IsOfFile (Err Memory) = ⊤
+IsOfFile (Err NotDisk) = ⊤
+IsOfFile (Err (Damaged place)) = ⊤
+IsOfFile (Err fault) = ⊥
 
 -- ---- a crash at any moment
 

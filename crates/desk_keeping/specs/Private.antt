@@ -218,6 +218,7 @@ pub record AnswersAll (sender : Recipient) (line : ℕ) (commands : List Command
 pub record StopsAmong (sender : Recipient) (line : ℕ) (commands : List Command) (old new : HostState) (disk now : DiskState) (Why : (number : ℕ) → Market → List Command → (place : ℕ) → List ℕ → Type 0) : Type 0 where
   pub first : List Command
   pub next : List Command
+  pub asks : next ≢ []
   pub parts : commands ≡ first ++ next
   pub taken : Entries
   pub texts : Texts
@@ -253,6 +254,7 @@ pub record HearsLine (line : List ℕ) (old new : HostState) (disk now : DiskSta
 -- A line was heard, and it stopped at an entry of the file: the first commands of the line got entries, which were taken from the file.
 pub record StopsWithin (line : List ℕ) (old new : HostState) (disk now : DiskState) (Why : (number : ℕ) → Market → List Command → (place : ℕ) → List ℕ → Type 0) : Type 0 where
   pub next : List Command
+  pub asks : next ≢ []
   pub taken : Entries
   pub texts : Texts
   pub sender : Recipient

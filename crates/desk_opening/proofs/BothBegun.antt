@@ -1,6 +1,7 @@
 -- A file and an input that are opened together: the file was only looked at before the input was read.
-use Rattle.std.proofs.Common.{◌≡◌, ◌⊎◌, inl, inr, ℕ, ◌+◌, ◌*◌, ◌≤◌, ◌^◌, List, [], Option, IfSome, IsSome, Result, Err, length, length-append, ap, subst, arith, ⊎_elim}
+use Rattle.std.proofs.Common.{◌≡◌, ◌⊎◌, inl, inr, ℕ, ◌+◌, ◌*◌, ◌≤◌, ◌^◌, List, [], ◌++◌, Option, IfSome, IsSome, Result, Err, length, length-append, ap, subst, arith, ⊎_elim}
 use Rattle.flow_io.specs.Faults.{Blames}
+use Rattle.flow_io.specs.Streams.{TakesAtMost}
 use Rattle.flow_io.specs.Windows.{WindowState}
 use Rattle.market_rules.specs.Market.{Market}
 use Rattle.market_history.specs.Histories.{Start, Empty, Kept, market_of, CanStart}
@@ -12,17 +13,19 @@ use Rattle.journal_disk.specs.Looking.{OnlyLooks}
 use Rattle.journal_disk.specs.Recovering.{IsForeign}
 use Rattle.journal_disk.proofs.GoingOn.{looks_more}
 use Rattle.journal_keeping.specs.declared.fault.OpenFault.TheVariants.{Disk, Memory, NotDisk, Damaged, Rejected}
-use Rattle.journal_keeping.specs.declared.fault.InputFault.TheVariants.{Read}
+use Rattle.journal_keeping.specs.declared.fault.InputFault.{InputFault}
+use Rattle.journal_keeping.specs.declared.fault.InputFault.TheVariants.{Read, Memory as NoMemory, NotFlow, BadCheckpoint}
 use Rattle.journal_keeping.specs.Starts.{head_of}
 use Rattle.journal_keeping.specs.Openings.{IsOpening}
 use Rattle.journal_keeping.specs.Openings as opening
 use Rattle.journal_keeping.proofs.Begun.{looks_first, looked_legal}
 use Rattle.journal_keeping.proofs.Counts.{blames_alike}
+use Rattle.journal_keeping.proofs.Magic.{at_most}
 use Rattle.desk_opening.specs.declared.book.Book.{Book}
 use Rattle.desk_opening.specs.declared.book.Book.TheVariants as book
 use Rattle.desk_opening.specs.declared.opening.StartFault.{StartFault}
 use Rattle.desk_opening.specs.declared.opening.StartFault.TheVariants as fault
-use Rattle.desk_opening.specs.Beginnings.{bytes_before, IsBeginning, HasBegun}
+use Rattle.desk_opening.specs.Beginnings.{bytes_before, IsBeginning, HasBegun, NotBegun}
 use Rattle.desk_opening.specs.Books.{IsBookAfter, Continues}
 use Rattle.desk_opening.specs.Openings.{GrowsBy, BeginsAlone, HasOpened, HasNotOpened, BeginsOtherwise, WasMaking, TakesBeginning}
 use Rattle.desk_opening.specs.Private.{MakesBook, MakesNoBook}
@@ -104,6 +107,21 @@ module _ (start mid now : DiskState) (looks : OnlyLooks start mid) (is_disk : Is
         by_cases (fault.Input input) never = absurd never
         by_cases fault.Differs on = (looks_more start mid now looks on.0, begun.begin, takes_so, before (λ held. BeginsOtherwise begun.begin held now) on.1)
         by_cases fault.Make was_making = (begun.begin, takes_so, making_first begun.begin was_making)
+
+-- ---- how much was taken
+
+-- at most one byte past the limit, where no beginning was found
+pub unbegun_few : (limit : ℕ) (before after : Option (List ℕ)) (why : InputFault) → NotBegun limit before after why → TakesAtMost before after (limit + 1)
+unbegun_few limit before after Read (taken, takes, few, lacks) = at_most before after taken (limit + 1) takes (omega (arith, few))
+unbegun_few limit before after NoMemory (taken, takes, few, magic) = at_most before after taken (limit + 1) takes (omega (arith, few))
+unbegun_few limit before after NotFlow (taken, takes, few, neither) = at_most before after taken (limit + 1) takes few
+unbegun_few limit before after BadCheckpoint (taken, takes, few, unsound) = at_most before after taken (limit + 1) takes few
+
+-- and where one was
+pub begun_few : (most limit : ℕ) (market : Market) (stored : List ℕ) (window : WindowState) (before after : Option (List ℕ)) → HasBegun most limit market stored window before after → TakesAtMost before after (limit + 1)
+begun_few most limit market stored window before after begun =
+    at_most before after (bytes_before begun.begin ++ window.held) (limit + 1) begun.takes
+    (omega (arith, begun.place, begun.limited, begun.is_open.within, length-append (bytes_before begun.begin) window.held))
 
 -- ---- whose fault it is
 

@@ -1,5 +1,5 @@
 -- A file and an input that are opened together: with what a market of many senders begins, or why it wasn't opened.
-use Rattle.std.specs.Prelude.{◌≡◌, ℕ, ◌+◌, ◌*◌, ◌^◌, ◌≤◌, List, [], ◌++◌, length, Option, IfSome, IsSome, ⊤}
+use Rattle.std.specs.Prelude.{◌≡◌, ◌⊎◌, ℕ, ◌+◌, ◌*◌, ◌^◌, ◌≤◌, List, [], ◌++◌, length, Option, IfSome, IsSome, ⊤}
 use Rattle.wire_records.specs.Records.{Record}
 use Rattle.wire_records.specs.Commands.{Pair}
 use Rattle.wire_records.specs.declared.version.Version.{Version}
@@ -66,6 +66,10 @@ IsUnopened content (unopened.Damaged place) = IfSome content (λ held. IsOpening
 IsUnopened content (unopened.Rejected number) = ⊥
 IsUnopened content unopened.Disk = ⊤
 IsUnopened content unopened.Memory = ⊤
+
+-- a file that holds these bytes is refused by them alone, whatever the input is: it is none of a journal, or damaged at its first entry
+abbrev pub IsNoBook : List ℕ → Type 0
+IsNoBook held = IsOpening held opening.Foreign ⊎ IsOpening held (opening.Damaged 8)
 
 -- a file that held these bytes, and is of a version, begins otherwise than so
 abbrev pub BeginsOtherwise : Start → List ℕ → DiskState → Type 0

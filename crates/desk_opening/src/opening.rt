@@ -1,12 +1,15 @@
 //! Opens a file and an input, and compares how they begin.
-ghost use Rattle.std.specs.Prelude.{◌≡◌, ◌⊎◌, ◌≤◌, ◌+◌, ◌^◌, ℕ, Some, None, Err, IfSome, IfOk, IfErr, length};
+ghost use Rattle.std.specs.Prelude.{◌≡◌, ◌⊎◌, ◌≤◌, ◌+◌, ◌^◌, ℕ, Some, None, Err, IfSome, IfOk, IfErr, OnOk, length};
 ghost use Rattle.flow_io.specs.Faults.{Blames};
+ghost use Rattle.flow_io.specs.Streams.{TakesAtMost};
 ghost use Rattle.market_history.specs.Histories.{Start};
+ghost use Rattle.journal_disk.specs.Ahead.{IsPiece};
 ghost use Rattle.journal_disk.specs.Looking.{OnlyLooks};
 ghost use Rattle.journal_disk.specs.Recovering.{IsFound};
+ghost use Rattle.journal_disk.specs.Stepping.{IsDamagedAt};
 ghost use Rattle.journal_keeping.specs.Lengths.{most_input};
 ghost use Rattle.desk_opening.specs.Beginnings.{IsBeginning};
-ghost use Rattle.desk_opening.specs.Openings.{HasOpened, HasNotOpened, IsUnopened};
+ghost use Rattle.desk_opening.specs.Openings.{HasOpened, HasNotOpened, IsUnopened, IsNoBook};
 ghost use Rattle.desk_opening.specs.Private.{first_fault_of, IsFile, MakesBook, MakesNoBook};
 
 use crate::beginning::{Beginning, read_beginning};
@@ -67,11 +70,40 @@ fn first_fault(fault: OpenFault) -> OpenFault
     }
 }
 
-// Opens a file of a version, up to its first entry that is one of the journal.
+// Looks whether the first entry of a file is complete, or there is none, unless the reading is past it.
+fn see_first<D: Disk>(
+    disk: &mut D,
+    ahead: &mut Ahead,
+    journal: &DiskJournal,
+) -> Result<(), OpenFault>
+    requires piece { IfSome (D.state disk.old).content (IsPiece ahead.old) }
+    ensures piece { IfSome (D.state disk.new).content (IsPiece ahead.new) }
+    ensures whole { OnOk result (journal.now ≡ 8 → IfSome (D.state disk.old).content (λ held. ¬ IsDamagedAt 8 held)) }
+    ensures refused { IfErr result (λ fault. (fault ≡ OpenFault.Disk) ⊎ ((fault ≡ OpenFault.Memory)
+        ⊎ ((fault ≡ OpenFault.Damaged 8) × (journal.now ≡ 8) × IfSome (D.state disk.old).content (IsDamagedAt 8)))) }
+    ensures looks { OnlyLooks (D.state disk.old) (D.state disk.new) }
+    ensures cause { Blames (result ≡ Err OpenFault.Disk) (D.state disk.old).faults (D.state disk.new).faults }
+{
+    if !journal.is_first() {
+        return Ok(());
+    }
+    let mut first = DiskJournal::after_magic();
+    match first.find(disk, ahead) {
+        Ok(Some(count)) => match first.take(ahead, count) {
+            Ok(_) => Ok(()),
+            Err(fault) => Err(OpenFault::from(fault)),
+        },
+        Ok(None) => Ok(()),
+        Err(fault) => Err(OpenFault::from(fault)),
+    }
+}
+
+// Opens a file of a version, up to its first entry that is one of the journal, which is complete if there is one.
 fn kept_file<D: Disk>(alloc: Global, disk: &mut D, version: Version) -> Result<File, OpenFault>
     requires found { IfSome (D.state disk.old).content (λ held. IsFound (Some version) held (D.state disk.old)) }
     ensures found { IfOk result (λ file. IsFile file (D.state disk.new)) }
     ensures refused { IfErr result (IsUnopened (D.state disk.old).content) }
+    ensures sound { OnOk result (IfSome (D.state disk.old).content (λ held. ¬ IsNoBook held)) }
     ensures looks { OnlyLooks (D.state disk.old) (D.state disk.new) }
     ensures cause { Blames (result ≡ Err OpenFault.Disk) (D.state disk.old).faults (D.state disk.new).faults }
 {
@@ -81,8 +113,12 @@ fn kept_file<D: Disk>(alloc: Global, disk: &mut D, version: Version) -> Result<F
     };
     let mut journal = DiskJournal::after_magic();
     match first_market(alloc, &mut journal, disk, &mut ahead, version) {
-        Ok(_) => Ok(File::Kept(version, journal, ahead)),
-        Err(fault) => Err(first_fault(fault)),
+        Ok(_) => {}
+        Err(fault) => return Err(first_fault(fault)),
+    }
+    match see_first(disk, &mut ahead, &journal) {
+        Ok(()) => Ok(File::Kept(version, journal, ahead)),
+        Err(fault) => Err(fault),
     }
 }
 
@@ -90,6 +126,7 @@ fn kept_file<D: Disk>(alloc: Global, disk: &mut D, version: Version) -> Result<F
 fn open_file<D: Disk>(alloc: Global, disk: &mut D) -> Result<File, OpenFault>
     ensures found { IfOk result (λ file. IsFile file (D.state disk.new)) }
     ensures refused { IfErr result (IsUnopened (D.state disk.old).content) }
+    ensures sound { OnOk result (IfSome (D.state disk.old).content (λ held. ¬ IsNoBook held)) }
     ensures looks { OnlyLooks (D.state disk.old) (D.state disk.new) }
     ensures cause { Blames (result ≡ Err OpenFault.Disk) (D.state disk.old).faults (D.state disk.new).faults }
 {
@@ -135,10 +172,12 @@ fn book_of<D: Disk>(disk: &mut D, file: File, beginning: &Beginning) -> Result<B
 
 /// Opens a file and an input for a market of many senders. The file is opened first, up to its first entry that is one of the journal. Then the
 /// beginning of the input is read, through a window for lines of at most `most` bytes, and of at most `limit` bytes in all. A file that isn't new
-/// has to begin as the input does, and its entries are read along with the lines then; a new one is made one that begins so.
+/// has to begin as the input does, and its entries are read along with the lines then; a new one is made one that begins so. At most one byte past
+/// the limit is taken.
 ///
 /// After each error but `Make` the file was only looked at. `Open` with `NotDisk` or `Damaged` comes before the input is read; `Damaged` has the
-/// place 8, and says that the first entry is neither one of a journal nor the checkpoint of a consistent market of the file's version. `Open` with
+/// place 8, and says that the first entry is neither a complete one of a journal nor the checkpoint of a consistent market of the file's version.
+/// Nothing is read of the input of a file that is so. `Open` with
 /// `Disk`, and `Make`, come only if the disk's count of faults rose, and `Input` with `Read` only if the source's did. Costs what reading a
 /// checkpoint costs, once for the file and once for the input; the file's market is dropped before the input is read.
 pub fn open_desk<S: Source, D: Disk>(
@@ -153,8 +192,10 @@ pub fn open_desk<S: Source, D: Disk>(
     requires few { limit ≤ most_input }
     ensures begun { IfOk result (λ o. HasOpened most limit (D.state disk.old) (D.state disk.new) o.market o.book o.window (S.rest source.old) (S.rest source.new)) }
     ensures fails { IfErr result (HasNotOpened limit (D.state disk.old) (D.state disk.new) (S.rest source.old) (S.rest source.new)) }
+    ensures refuses { IfSome (D.state disk.old).content (λ held. IsNoBook held → ((fault : OpenFault) × (result ≡ Err (StartFault.Open fault))) × (source.new ≡ source.old)) }
     ensures unread { (result ≡ Err (StartFault.Open OpenFault.NotDisk)) ⊎ ((place : ℕ) × (result ≡ Err (StartFault.Open (OpenFault.Damaged place)))) →
         source.new ≡ source.old }
+    ensures taken { TakesAtMost (S.rest source.old) (S.rest source.new) (limit + 1) }
     ensures disk_cause { Blames ((result ≡ Err (StartFault.Open OpenFault.Disk)) ⊎ (result ≡ Err StartFault.Make)) (D.state disk.old).faults (D.state disk.new).faults }
     ensures source_cause { Blames (result ≡ Err (StartFault.Input InputFault.Read)) (S.faults source.old) (S.faults source.new) }
 {

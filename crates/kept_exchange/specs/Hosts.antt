@@ -1,7 +1,7 @@
 -- What the program does when asked to `host FILE`: what a crash may leave on the disk, what the output gains, and which status comes.
-use Rattle.std.specs.Prelude.{◌≡◌, ℕ, List, IfSome, Result, Ok, Err, ⊤}
+use Rattle.std.specs.Prelude.{◌≡◌, ◌+◌, ℕ, List, IfSome, Result, Ok, Err, ⊤}
 use Rattle.flow_io.specs.Faults.{Rose, Blames}
-use Rattle.flow_io.specs.Streams.{Grows, GrowsByPrefix}
+use Rattle.flow_io.specs.Streams.{TakesAtMost, Grows, GrowsByPrefix}
 use Rattle.flow_io.specs.Changes.{Change}
 use Rattle.wire_records.specs.Records.{Record}
 use Rattle.wire_records.specs.Commands.{Pair}
@@ -11,7 +11,8 @@ use Rattle.market_history.specs.Histories.{Start}
 use Rattle.disk_edge.specs.Disks.{DiskState}
 use Rattle.journal_keeping.specs.Keeping.{HoldsLegal}
 use Rattle.journal_keeping.specs.Outputs.{Output}
-use Rattle.desk_keeping.specs.Hosting.{ComesTo, HostsIn}
+use Rattle.desk_opening.specs.Openings.{IsNoBook}
+use Rattle.desk_keeping.specs.Hosting.{ComesTo, IsOfFile, HostsIn}
 use Rattle.desk_keeping.specs.declared.fault.HostFault.{HostFault}
 use Rattle.desk_keeping.specs.declared.fault.HostFault.TheVariants as host
 use Rattle.exit_status.specs.declared.status.Status.{Status}
@@ -46,6 +47,10 @@ pub record HostsLines (limit : ℕ) (ends : Status) (start end : DiskState) (sou
   pub result : Result ⊤ HostFault
   pub ends_so : ends ≡ host_status limit result
   pub comes : IfSome start.content (λ held. ComesTo limit held source.before source.after end out later result)
+  -- Of a file that is refused by its bytes alone, as one of no journal, or damaged at its first entry, nothing is read or written, and nothing of the source.
+  pub refuses : IfSome start.content (λ held. IsNoBook held → IsOfFile result × (source.after ≡ source.before) × (later ≡ out))
+  -- At most one byte past the limit is taken of the source.
+  pub taken : TakesAtMost source.before source.after (limit + 1)
   -- A fault is answered only if its count rose; otherwise the count stays.
   pub disks : Blames (ends ≡ status.DiskFault) start.faults end.faults
   pub reads : Blames (ends ≡ status.ReadFault) source.faults source.faults_after

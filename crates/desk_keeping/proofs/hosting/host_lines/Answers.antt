@@ -1,11 +1,12 @@
-use Rattle.std.proofs.Common.{◌≡◌, [], Err, sym, ap, subst, ◌∙◌}
+use Rattle.std.proofs.Common.{◌≡◌, List, ℕ, [], IfSome, Err, refl, sym, ap, subst, ◌∙◌}
 use Rattle.journal_keeping.specs.Outputs.{output}
 use Rattle.desk_session.specs.States.{State, CountsAccounts}
-use Rattle.desk_keeping.specs.Hosting.{ComesTo}
+use Rattle.desk_opening.specs.Openings.{IsNoBook}
+use Rattle.desk_keeping.specs.Hosting.{ComesTo, IsOfFile}
 use Rattle.desk_keeping.specs.Private.{HostState, IsHosting}
 use Rattle.desk_keeping.specs.declared.fault.HostFault.{HostFault}
 use Rattle.desk_keeping.proofs.Steps.{first_host}
-use Rattle.desk_keeping.proofs.Unopened.{hosts_not_opened, hosts_opened, comes_not_opened}
+use Rattle.desk_keeping.proofs.Unopened.{hosts_not_opened, hosts_opened, comes_not_opened, refused_unopened, refused_opened}
 use Rattle.desk_keeping.proofs.Loop.{hosting_begins, always, blames_from, neither}
 use Rattle.desk_keeping.proofs.hosting.host_lines.Goals as goal
 
@@ -60,6 +61,34 @@ returns-clause-comes g c =
     c.host_on.ensures.comes c.args.disk.now (g.S.Source.rest c.args.source.now) c.args.out.now (subst (λ (h : HostState). IsHosting c.args.limit (g.S.Source.rest c.args.source.now) (g.S.Source.rest c.open_desk.new.source) (g.D.Disk.state c.args.disk.now) (g.D.Disk.state c.open_desk.new.disk)
     (output g.K.Sink.held g.K.Sink.calls g.K.Sink.faults c.args.out.now) (output g.K.Sink.held g.K.Sink.calls g.K.Sink.faults c.args.out.now) c.in-Ok.opened.window h) (sym same) x)
 
+pub returns-clause-taken : goal.returns-clause-taken
+returns-clause-taken g c =
+    let same : c.new-host.result ≡ first_host c.in-Ok.opened.market c.in-Ok.opened.book =
+    c.new-host.ensures ∙ ap (λ (s : State). record { session = s; book = c.in-Ok.opened.book; group = []; fresh = []; told = 0; written = 0 }) c.in-Ok-over.ensures.value in
+    let counted : CountsAccounts (first_host c.in-Ok.opened.market c.in-Ok.opened.book).session = subst CountsAccounts c.in-Ok-over.ensures.value c.in-Ok-over.ensures.counted in
+    let x = hosting_begins c.args.limit (g.S.Source.rest c.args.source.now) (g.D.Disk.state c.args.disk.now) (output g.K.Sink.held g.K.Sink.calls g.K.Sink.faults c.args.out.now) (g.D.Disk.state c.open_desk.new.disk) c.in-Ok.opened.market c.in-Ok.opened.book
+    c.in-Ok.opened.window (g.S.Source.rest c.open_desk.new.source) c.in-Ok.ensures.begun counted in
+    c.host_on.ensures.taken c.args.disk.now (g.S.Source.rest c.args.source.now) c.args.out.now (subst (λ (h : HostState). IsHosting c.args.limit (g.S.Source.rest c.args.source.now) (g.S.Source.rest c.open_desk.new.source) (g.D.Disk.state c.args.disk.now) (g.D.Disk.state c.open_desk.new.disk)
+    (output g.K.Sink.held g.K.Sink.calls g.K.Sink.faults c.args.out.now) (output g.K.Sink.held g.K.Sink.calls g.K.Sink.faults c.args.out.now) c.in-Ok.opened.window h) (sym same) x)
+
 pub returns-clause-disk_cause : goal.returns-clause-disk_cause
 returns-clause-disk_cause g c =
     blames_from _ _ (g.D.Disk.state c.args.disk.now).faults (g.D.Disk.state c.open_desk.new.disk).faults (g.D.Disk.state c.host_on.new.disk).faults (c.in-Ok.ensures.disk_cause.quiet (neither _ _ (λ is. cc is) (λ is. cc is))) (λ e. e) (λ e. e) c.host_on.ensures.disk_cause
+
+pub returns-in-Err-clause-taken : goal.returns-in-Err-clause-taken
+returns-in-Err-clause-taken g c = c.in-Err.ensures.taken
+
+pub returns-in-Err-over-clause-taken : goal.returns-in-Err-over-clause-taken
+returns-in-Err-over-clause-taken g c = c.in-Ok.ensures.taken
+
+pub returns-in-Err-clause-refuses : goal.returns-in-Err-clause-refuses
+returns-in-Err-clause-refuses g c =
+    subst (λ (f : HostFault). IfSome (g.D.Disk.state c.args.disk.now).content (λ (held : List ℕ). IsNoBook held → IsOfFile (Err f) × (c.open_desk.new.source ≡ c.args.source.now) × (c.args.out.now ≡ c.args.out.now))) (sym c.from.ensures)
+    (refused_unopened _ c.args.limit (g.D.Disk.state c.args.disk.now) (g.D.Disk.state c.open_desk.new.disk) (g.S.Source.rest c.args.source.now) (g.S.Source.rest c.open_desk.new.source) c.in-Err.fault
+    (c.open_desk.new.source ≡ c.args.source.now) (c.args.out.now ≡ c.args.out.now) c.in-Err.ensures.fails refl c.in-Err.ensures.refuses)
+
+pub returns-in-Err-over-clause-refuses : goal.returns-in-Err-over-clause-refuses
+returns-in-Err-over-clause-refuses g c = refused_opened _ (g.D.Disk.state c.args.disk.now).content c.in-Ok.opened (c.open_desk.new.source ≡ c.args.source.now) _ c.in-Ok.ensures.refuses
+
+pub returns-clause-refuses : goal.returns-clause-refuses
+returns-clause-refuses g c = refused_opened _ (g.D.Disk.state c.args.disk.now).content c.in-Ok.opened (c.open_desk.new.source ≡ c.args.source.now) _ c.in-Ok.ensures.refuses

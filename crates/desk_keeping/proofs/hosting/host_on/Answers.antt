@@ -8,6 +8,7 @@ use Rattle.journal_keeping.specs.Outputs.{output}
 use Rattle.desk_keeping.specs.declared.fault.HostFault.{HostFault}
 use Rattle.desk_keeping.specs.declared.fault.HostFault.TheVariants.{Read, Write, Disk}
 use Rattle.desk_keeping.specs.Private.{HearsLine, BreaksLine}
+use Rattle.desk_keeping.proofs.Reaching.{few_at, few_found, few_unread}
 use Rattle.desk_keeping.proofs.Loop.{is_ordered, can_settle, has_room, can_read, hosting_settled, all_settled, hosting_long, settle_broken, out_of_memory, ended, limited, unread, line_broken, stops_ordered, heard_ordered, heard_keeps, unended, hosting_line, none_found, unread_piece, empty_held, same_result, blames_from, blames_none, stops_disk, settle_own, end_own}
 use Rattle.desk_keeping.proofs.hosting.host_on.Goals as goal
 
@@ -411,3 +412,57 @@ lines-preserved g c = (
   (c.in-Ok.ensures.out_cause.quiet (λ is. cc is) ∙ c.lines.invariant.2),
   (c.in-Ok-next_line_within.ensures.cause.quiet (λ is. cc is) ∙ c.lines.invariant.3),
 )
+
+pub returns-in-Err-clause-taken : goal.returns-in-Err-clause-taken
+returns-in-Err-clause-taken g c =
+    λ was content first is.
+    let x = c.lines.invariant.0 was content first is in
+    few_at x.begin c.args.limit c.lines.window content (g.S.Source.rest c.lines.source) x.read x.gone
+
+pub returns-in-Err-next_line_within-clause-taken : goal.returns-in-Err-next_line_within-clause-taken
+returns-in-Err-next_line_within-clause-taken g c =
+    λ was content first is.
+    let x = c.lines.invariant.0 was content first is in
+    few_unread x.begin c.args.limit c.lines.window content (g.S.Source.rest c.lines.source) x.read x.gone c.next_line_within.new.window (g.S.Source.rest c.next_line_within.new.source) c.in-Err-next_line_within.ensures.none
+
+pub returns-in-Err-hear-clause-taken : goal.returns-in-Err-hear-clause-taken
+returns-in-Err-hear-clause-taken g c =
+    λ was content first is.
+    let x = c.lines.invariant.0 was content first is in
+    few_found x.begin c.args.limit c.lines.window content (g.S.Source.rest c.lines.source) x.read x.gone c.next_line_within.new.window (g.S.Source.rest c.next_line_within.new.source) c.in-Ok-next_line_within.next c.in-Ok-next_line_within.ensures.finds
+
+pub returns-in-Err-end_line-clause-taken : goal.returns-in-Err-end_line-clause-taken
+returns-in-Err-end_line-clause-taken g c =
+    λ was content first is.
+    let x = c.lines.invariant.0 was content first is in
+    few_found x.begin c.args.limit c.lines.window content (g.S.Source.rest c.lines.source) x.read x.gone c.next_line_within.new.window (g.S.Source.rest c.next_line_within.new.source) c.in-Ok-next_line_within.next c.in-Ok-next_line_within.ensures.finds
+
+pub returns-in-Err-answer_long-clause-taken : goal.returns-in-Err-answer_long-clause-taken
+returns-in-Err-answer_long-clause-taken g c =
+    λ was content first is.
+    let x = c.lines.invariant.0 was content first is in
+    few_found x.begin c.args.limit c.lines.window content (g.S.Source.rest c.lines.source) x.read x.gone c.next_line_within.new.window (g.S.Source.rest c.next_line_within.new.source) c.in-Ok-next_line_within.next c.in-Ok-next_line_within.ensures.finds
+
+pub returns-in-Limit-clause-taken : goal.returns-in-Limit-clause-taken
+returns-in-Limit-clause-taken g c =
+    λ was content first is.
+    let x = c.lines.invariant.0 was content first is in
+    few_found x.begin c.args.limit c.lines.window content (g.S.Source.rest c.lines.source) x.read x.gone c.next_line_within.new.window (g.S.Source.rest c.next_line_within.new.source) c.in-Ok-next_line_within.next c.in-Ok-next_line_within.ensures.finds
+
+pub returns-in-Last-clause-taken : goal.returns-in-Last-clause-taken
+returns-in-Last-clause-taken g c =
+    λ was content first is.
+    let x = c.lines.invariant.0 was content first is in
+    few_found x.begin c.args.limit c.lines.window content (g.S.Source.rest c.lines.source) x.read x.gone c.next_line_within.new.window (g.S.Source.rest c.next_line_within.new.source) c.in-Ok-next_line_within.next c.in-Ok-next_line_within.ensures.finds
+
+pub returns-in-LongLast-clause-taken : goal.returns-in-LongLast-clause-taken
+returns-in-LongLast-clause-taken g c =
+    λ was content first is.
+    let x = c.lines.invariant.0 was content first is in
+    few_found x.begin c.args.limit c.lines.window content (g.S.Source.rest c.lines.source) x.read x.gone c.next_line_within.new.window (g.S.Source.rest c.next_line_within.new.source) c.in-Ok-next_line_within.next c.in-Ok-next_line_within.ensures.finds
+
+pub returns-in-End-clause-taken : goal.returns-in-End-clause-taken
+returns-in-End-clause-taken g c =
+    λ was content first is.
+    let x = c.lines.invariant.0 was content first is in
+    few_found x.begin c.args.limit c.lines.window content (g.S.Source.rest c.lines.source) x.read x.gone c.next_line_within.new.window (g.S.Source.rest c.next_line_within.new.source) c.in-Ok-next_line_within.next c.in-Ok-next_line_within.ensures.finds
