@@ -1,0 +1,7 @@
+mod ReadBack
+mod Names
+mod Legs
+mod Escapes
+mod Echoes
+pub mod TheEcho
+pub mod InTheMarket

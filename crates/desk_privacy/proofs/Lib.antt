@@ -1,0 +1,12 @@
+mod Written
+mod Viewed
+mod Learning
+mod Numbering
+mod Crediting
+mod Hearing
+mod Named
+mod Entries
+mod Counting
+mod Asking
+mod Lines
+mod Private

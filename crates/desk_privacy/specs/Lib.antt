@@ -1,0 +1,4 @@
+pub mod Letters
+pub mod Observing
+pub mod Knowing
+pub mod Laws
