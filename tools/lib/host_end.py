@@ -4,7 +4,7 @@ import re
 
 from checkpoint_file import MAGIC, checkpoint_of, consistent_market
 from host_rules import Differs, Host
-from kept_file import MOST_UNKEPT, OPEN, Damaged, Foreign, begin, file_of, is_new, next_pair
+from kept_file import FIRST_COMMIT, MOST_UNKEPT, OPEN, Damaged, Foreign, begin, file_of, is_new, next_pair
 from second_opinion import second_end
 
 DONE, NOT_FLOW, REJECTED, BAD_CHECKPOINT, NOT_DISK, DAMAGED, DIFFERS = 0, 2, 7, 10, 13, 14, 15
@@ -16,7 +16,7 @@ class Stopped(Exception):
 
 
 class KeptFile:
-    """The entries that a file keeps, its beginning, and where it is damaged, which is told once the lines come there."""
+    """The entries that a file keeps, its beginning, and where it is damaged: at its first entry that is told at once, and else once the lines come there."""
 
     def __init__(self, held):
         self.head, self.pairs, self.damage, self.invalid = None, [], None, None
@@ -30,6 +30,8 @@ class KeptFile:
         except Damaged as at:
             raise Stopped(DAMAGED, at.args[0]) from None
         self.read(file, len(held))
+        if self.damage == FIRST_COMMIT:
+            raise Stopped(DAMAGED, FIRST_COMMIT)
         start = self.head.checkpoint or b"FLOWJNL%d" % self.head.version
         (status, line), _ = second_end(start + b"".join(self.pairs))
         self.invalid = int(line.split()[2]) if status == REJECTED else None
