@@ -28,19 +28,23 @@ class Settings:
 
 
 def first_values(encoded, at):
-    """Headers, of which the first with a name counts, up to one that can't be read. The broker puts its own first, and a sender may put in
-    others of these names, and values on which pika fails."""
+    """Headers, of which the first with a name counts: that is the one that the broker has set, and a sender may add others. A value on which
+    pika fails, as a time beyond its range or tables within tables, is passed over; else one message would end each adapter for ever."""
     end, found = at + 4 + struct.unpack_from(">I", encoded, at)[0], {}
     at += 4
-    try:
-        while at < end:
-            name, at = pika.data.decode_short_string(encoded, at)
+    while at < end:
+        name, at = pika.data.decode_short_string(encoded, at)
+        try:
             value, at = pika.data.decode_value(encoded, at)
-            found.setdefault(name, value)
-    except Exception:  # (as a time beyond its range, a number that is none, or tables within tables)
-        pass
+        except Exception:
+            value, at = None, at + 1 + (WIDTHS.get(encoded[at:at + 1]) or 4 + struct.unpack_from(">I", encoded, at + 1)[0])
+        found.setdefault(name, value)
     return found, end
 
 
+# Of the values that have no length before them.
+WIDTHS = {b"T": 8, b"d": 8, b"f": 4, b"D": 5}
+TROUBLE = (OSError,)
 if pika:
     pika.data.decode_table = first_values
+    TROUBLE = (OSError, pika.exceptions.AMQPError, pika.adapters.utils.connection_workflow.AMQPConnectorException)

@@ -21,7 +21,7 @@ from contextlib import suppress
 sys.dont_write_bytecode = True
 sys.path[:0] = [os.path.realpath(f"{__file__}/{up}") for up in ("..", "../..", "../../lib")]
 import client
-from carrier import Settings, pika
+from carrier import TROUBLE, Settings, pika
 from tool_run import Usage, run_tool
 
 PATIENCE, MOST_PATIENCE = 5, 60
@@ -111,7 +111,7 @@ class Desk(client.Desk):
             if self.out:
                 self.hand_over()
             self.connection.process_data_events(seconds)
-        except (pika.exceptions.AMQPError, OSError) as why:
+        except TROUBLE as why:
             self.leave(why)
             time.sleep(min(seconds, 0.2))
         came, self.came = self.came, []

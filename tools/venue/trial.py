@@ -90,6 +90,7 @@ class Trial:
 
     def __init__(self, desks, nodes, built=None):
         self.program, self.services, self.running = os.path.abspath(built) if built else program(), [], []
+        self.is_over, self.turn = False, threading.Lock()
         self.room = tempfile.mkdtemp(prefix="venue-")
         try:
             broker.write(f"{self.room}/broker", desks, [str(nodes)])
@@ -106,6 +107,8 @@ class Trial:
         return self
 
     def __exit__(self, *_):
+        with self.turn:
+            self.is_over = True
         for service in self.services:
             service.is_over = True
         for service in self.services:
@@ -131,9 +134,12 @@ class Trial:
     def desk(self, number):
         """A desk whose lines are written to it, and whose messages are in its own file and in one that ends with .out."""
         own = f"{self.room}/desk{number}"
-        with open(f"{own}.out", "ab") as out, open(f"{own}.err", "ab") as said:
-            ran = subprocess.Popen([f"{HERE}/desk.py", self.settings, str(number), own], stdin=subprocess.PIPE, stdout=out, stderr=said, start_new_session=True)
-        self.running.append(ran)
+        with self.turn:
+            if self.is_over:
+                sys.exit()
+            with open(f"{own}.out", "ab") as out, open(f"{own}.err", "ab") as said:
+                ran = subprocess.Popen([f"{HERE}/desk.py", self.settings, str(number), own], stdin=subprocess.PIPE, stdout=out, stderr=said, start_new_session=True)
+            self.running.append(ran)
         return ran
 
     def lines(self, number, lines, seconds=120):
