@@ -1,4 +1,4 @@
-"""Connections to the broker of a venue, by the settings.json that tools/venue/broker wrote."""
+"""What the adapter, desks and clocks of a venue share: connections to its broker, and messages on their way through it."""
 import json
 import os
 import ssl
@@ -10,8 +10,12 @@ try:
 except ImportError:
     pika = None
 
+MOST_BYTES = 32_768  # of a message, which the broker sees to
+
 
 class Settings:
+    """The settings.json that tools/venue/broker wrote."""
+
     def __init__(self, place):
         with open(place, encoding="utf-8") as file:
             told = json.load(file)
@@ -25,6 +29,33 @@ class Settings:
         tls.load_cert_chain(f"{self.keys}/{user}.pem", f"{self.keys}/{user}.key")
         return pika.ConnectionParameters(node, self.port, heartbeat=10, blocked_connection_timeout=20, socket_timeout=5, stack_timeout=10,
                                          credentials=pika.credentials.ExternalCredentials(), ssl_options=pika.SSLOptions(tls, node))
+
+
+def pieces_of(number, text):
+    """A message, in as many pieces as it takes, each with its name; one that fits is whole, and has none."""
+    if len(text) <= MOST_BYTES:
+        return [(text, None)]
+    cut = [text[at:at + MOST_BYTES] for at in range(0, len(text), MOST_BYTES)]
+    return [(piece, f"{number}.{at}.{len(cut)}") for at, piece in enumerate(cut, 1)]
+
+
+class Pieces:
+    """Puts messages together, of which several adapters may have told the pieces."""
+
+    def __init__(self):
+        self.held = {}
+
+    def whole(self, method, properties, body):
+        """A whole message, or None while pieces of it are lacking."""
+        if not properties.message_id:
+            return body
+        number, at, count = map(int, properties.message_id.split("."))
+        found = self.held.setdefault((method.routing_key, number), {})
+        found[at] = body
+        if len(found) < count:
+            return None
+        del self.held[method.routing_key, number]
+        return b"".join(found[at] for at in range(1, count + 1))
 
 
 def first_values(encoded, at):

@@ -21,7 +21,7 @@ from contextlib import suppress
 sys.dont_write_bytecode = True
 sys.path[:0] = [os.path.realpath(f"{__file__}/{up}") for up in ("..", "../..", "../../lib")]
 import client
-from carrier import TROUBLE, Settings, pika
+from carrier import TROUBLE, Pieces, Settings, pika
 from tool_run import Usage, run_tool
 
 PATIENCE, MOST_PATIENCE = 5, 60
@@ -33,7 +33,7 @@ class Desk(client.Desk):
 
     def __init__(self, settings, number, own):
         self.settings, self.number, self.user = Settings(settings), number, f"desk{number}" if number else "operator"
-        self.out, self.came, self.connection, self.node, self.gap, self.trouble = {}, [], None, number, False, None
+        self.out, self.came, self.connection, self.node, self.gap, self.trouble, self.pieces = {}, [], None, number, False, None, Pieces()
         self.heard = self.moved = time.monotonic()
         self.patience = PATIENCE
         super().__init__(number, own, lambda text, at: self.out.update({at: text}))
@@ -59,7 +59,11 @@ class Desk(client.Desk):
 
     def delivered(self, channel, method, properties, body):
         channel.basic_ack(method.delivery_tag)
-        self.heard, self.place, message = time.monotonic(), properties.headers["x-stream-offset"] + 1, json.loads(body)
+        self.heard, body = time.monotonic(), self.pieces.whole(method, properties, body)
+        self.place = self.place if self.pieces.held else properties.headers["x-stream-offset"] + 1
+        if body is None:
+            return
+        message = json.loads(body)
         if message["number"] > self.told.get(message["to"], 0) + 1:
             self.gap = True  # (what is missing was lost on its way from an adapter, which tells it again, and then this one too)
             return
@@ -87,7 +91,7 @@ class Desk(client.Desk):
         with suppress(Exception):
             self.connection.close()
         self.connection, self.patience = None, min(2 * self.patience, MOST_PATIENCE)
-        self.place = 0 if self.gap else self.place
+        self.place, self.pieces = 0 if self.gap else self.place, Pieces()
 
     def hand_over(self):
         self.file.flush()
