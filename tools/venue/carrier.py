@@ -19,7 +19,7 @@ class Settings:
     def __init__(self, place):
         with open(place, encoding="utf-8") as file:
             told = json.load(file)
-        self.nodes, self.port, self.keys = told["nodes"], told["port"], os.path.join(os.path.dirname(place), told["keys"])
+        self.nodes, self.port, self.log, self.keys = told["nodes"], told["port"], told["log"], os.path.join(os.path.dirname(place), told["keys"])
         if not pika:
             sys.exit(f"{os.path.basename(sys.argv[0])}: there is no pika for {sys.executable}: apt install python3-pika")
 
@@ -27,7 +27,7 @@ class Settings:
         """How a user connects to a node; those after the last one are the first again."""
         node, tls = self.nodes[at % len(self.nodes)], ssl.create_default_context(cafile=f"{self.keys}/ca.pem")
         tls.load_cert_chain(f"{self.keys}/{user}.pem", f"{self.keys}/{user}.key")
-        return pika.ConnectionParameters(node, self.port, heartbeat=10, blocked_connection_timeout=20, socket_timeout=5, stack_timeout=10,
+        return pika.ConnectionParameters(node, self.port, self.log, heartbeat=10, blocked_connection_timeout=20, socket_timeout=5, stack_timeout=10,
                                          credentials=pika.credentials.ExternalCredentials(), ssl_options=pika.SSLOptions(tls, node))
 
 

@@ -28,7 +28,7 @@ def lacking():
 
 
 def end_at_signals(seconds, name):
-    """Lets what ends a trial leave nothing behind: the usual signals, and a limit of time."""
+    """Lets a trial end all that it started, and its files, at the usual signals and after a limit of time."""
     def over(number, _):
         sys.exit(f"{name}: not done within {seconds} s" if number == signal.SIGALRM else 128 + number)
     for number in (signal.SIGTERM, signal.SIGHUP, signal.SIGINT, signal.SIGALRM):
@@ -46,7 +46,7 @@ def until(what, seconds, is_so, every=0.05):
 
 
 class Service:
-    """A process that is started again when it ends, as a service manager does, until it is to end."""
+    """A process that is started again when it ends, as a service manager does, until that is over."""
 
     def __init__(self, words, room, name):
         self.words, self.room, self.name, self.starts, self.is_over, self.ran = words, room, name, 0, False, None
