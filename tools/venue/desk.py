@@ -34,8 +34,7 @@ class Desk(client.Desk):
     def __init__(self, settings, number, own):
         self.settings, self.number, self.user = Settings(settings), number, f"desk{number}" if number else "operator"
         self.out, self.came, self.connection, self.node, self.gap, self.trouble, self.pieces = {}, [], None, number, False, None, Pieces()
-        self.heard = self.moved = time.monotonic()
-        self.patience = PATIENCE
+        self.patience, self.heard, self.moved = PATIENCE, time.monotonic(), time.monotonic()
         super().__init__(number, own, lambda text, at: self.out.update({at: text}))
         self.at = os.open(f"{own}.at", os.O_RDWR | os.O_CREAT, 0o600)  # a place in its stream, up to which OWN has all
         with open(own, "rb") as file:
@@ -87,11 +86,10 @@ class Desk(client.Desk):
         self.moved = self.heard = time.monotonic()
 
     def leave(self, why):
-        self.trouble = why
         with suppress(Exception):
             self.connection.close()
-        self.connection, self.patience = None, min(2 * self.patience, MOST_PATIENCE)
-        self.place, self.pieces = 0 if self.gap else self.place, Pieces()
+        self.connection, self.pieces, self.place, self.trouble = None, Pieces(), 0 if self.gap else self.place, why
+        self.patience = min(2 * self.patience, MOST_PATIENCE)
 
     def hand_over(self):
         self.file.flush()

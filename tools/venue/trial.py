@@ -90,6 +90,8 @@ class Trial:
 
     def __init__(self, desks, nodes, built=None):
         self.program, self.services, self.running = os.path.abspath(built) if built else program(), [], []
+        if not os.path.isfile(self.program) or not os.access(self.program, os.X_OK):
+            sys.exit(f"{os.path.basename(sys.argv[0])}: {self.program} is no program")
         self.is_over, self.turn = False, threading.Lock()
         self.room = tempfile.mkdtemp(prefix="venue-")
         try:
