@@ -33,7 +33,7 @@ class Desk(client.Desk):
 
     def __init__(self, settings, number, own):
         self.settings, self.number, self.user = Settings(settings), number, f"desk{number}" if number else "operator"
-        self.out, self.came, self.connection, self.node, self.gap, self.trouble, self.pieces = {}, [], None, number, False, None, Pieces()
+        self.out, self.came, self.connection, self.node, self.trouble, self.pieces, self.ahead = {}, [], None, number, None, Pieces(), {}
         self.patience, self.heard, self.moved = PATIENCE, time.monotonic(), time.monotonic()
         super().__init__(number, own, lambda text, at: self.out.update({at: text}))
         self.at = os.open(f"{own}.at", os.O_RDWR | os.O_CREAT, 0o600)  # a place in its stream, up to which OWN has all
@@ -59,20 +59,21 @@ class Desk(client.Desk):
     def delivered(self, channel, method, properties, body):
         channel.basic_ack(method.delivery_tag)
         self.heard, body = time.monotonic(), self.pieces.whole(method, properties, body)
-        self.place = self.place if self.pieces.held else properties.headers["x-stream-offset"] + 1
-        if body is None:
-            return
-        message = json.loads(body)
-        if message["number"] > self.told.get(message["to"], 0) + 1:
-            self.gap = True  # (what is missing was lost on its way from an adapter, which tells it again, and then this one too)
-            return
+        message = json.loads(body or b'{"to":"all","number":0}')
+        to = message["to"]
+        if message["number"] > self.told[to]:
+            self.ahead[to, message["number"]] = message, body  # (when a leader changes, messages may change places or be told anew)
+        while (to, self.told[to] + 1) in self.ahead:
+            self.accept(*self.ahead.pop((to, self.told[to] + 1)))
+        self.place = self.place if self.ahead or self.pieces.held else properties.headers["x-stream-offset"] + 1
+
+    def accept(self, message, body):
         if not self.is_known and "expected" in message:
             self.last, self.question = max(self.last, message["expected"] - 1), self.heard
         if self.take(body):
             self.came.append(body)
-            self.gap = False
-            if "line" in message or "expected" in message:
-                self.moved, self.patience = self.heard, PATIENCE
+        if "line" in message or "expected" in message:
+            self.moved, self.patience = self.heard, PATIENCE
 
     def connect(self):
         self.node += 1
@@ -88,7 +89,7 @@ class Desk(client.Desk):
     def leave(self, why):
         with suppress(Exception):
             self.connection.close()
-        self.connection, self.pieces, self.place, self.trouble = None, Pieces(), 0 if self.gap else self.place, why
+        self.connection, self.pieces, self.place, self.trouble = None, Pieces(), 0 if self.ahead else self.place, why
         self.patience = min(2 * self.patience, MOST_PATIENCE)
 
     def hand_over(self):
@@ -100,7 +101,7 @@ class Desk(client.Desk):
             self.channel.basic_publish("commands", f"from.{self.number}", text.encode(), pika.BasicProperties(message_id=str(at), delivery_mode=2))
 
     def messages(self, seconds):
-        now, is_due = time.monotonic(), bool(self.unanswered or self.gap or not self.is_known)
+        now, is_due = time.monotonic(), bool(self.unanswered or self.ahead or not self.is_known)
         self.moved = self.moved if is_due else now
         self.is_known = self.is_known or self.question and now > max(self.question, self.heard) + 1
         try:
@@ -133,8 +134,7 @@ def follow(desk):
     threading.Thread(target=read_into, args=(lines,), daemon=True).start()
     while is_open or desk.unanswered:
         while is_open and not desk.is_full() and not lines.empty():
-            line = lines.get()
-            is_open = line is not None
+            is_open = (line := lines.get()) is not None
             if is_open and line.strip(b" \t\r\n"):
                 desk.send(line.removesuffix(b"\n").decode())
         for message in desk.messages(0.1 if desk.is_full() or not is_open else 0.01):
