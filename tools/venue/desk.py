@@ -56,9 +56,8 @@ class Desk(client.Desk):
         super().count(message)
         self.last = max(self.last, line)
 
-    def delivered(self, channel, method, properties, body):
-        channel.basic_ack(method.delivery_tag)
-        self.heard, body = time.monotonic(), self.pieces.whole(method, properties, body)
+    def delivered(self, _, method, properties, body):
+        self.heard, self.tag, body = time.monotonic(), method.delivery_tag, self.pieces.whole(method, properties, body)
         message = json.loads(body or b'{"to":"all","number":0}')
         to = message["to"]
         if message["number"] > self.told[to]:
@@ -77,7 +76,7 @@ class Desk(client.Desk):
 
     def connect(self):
         self.node += 1
-        self.connection = pika.BlockingConnection(self.settings.parameters(self.user, self.node))
+        self.connection, self.tag = pika.BlockingConnection(self.settings.parameters(self.user, self.node)), None
         self.channel = self.connection.channel()
         self.channel.basic_qos(prefetch_count=200)
         self.channel.basic_consume(f"answers.{self.number or 'operator'}", self.delivered, arguments={"x-stream-offset": self.place})
@@ -114,6 +113,7 @@ class Desk(client.Desk):
             if self.out:
                 self.hand_over()
             self.connection.process_data_events(seconds)
+            self.tag = self.tag and self.channel.basic_ack(self.tag, multiple=True)
         except TROUBLE as why:
             self.leave(why)
             time.sleep(min(seconds, 0.2))
