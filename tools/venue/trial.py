@@ -18,6 +18,7 @@ from scripts import script
 broker = script(f"{HERE}/broker")
 BEGINNING = b'{"version":4}\n'
 PYTHON = "/usr/bin/python3"
+NUMBERS = (signal.SIGTERM, signal.SIGHUP, signal.SIGINT, signal.SIGALRM)
 
 
 def lacking():
@@ -30,8 +31,11 @@ def lacking():
 def end_at_signals(seconds, name):
     """Lets a trial end all that it started, and its files, at the usual signals and after a limit of time."""
     def over(number, _):
+        # (a second one doesn't break off what ends all)
+        for each in NUMBERS:
+            signal.signal(each, signal.SIG_IGN)
         sys.exit(f"{name}: not done within {seconds} s" if number == signal.SIGALRM else 128 + number)
-    for number in (signal.SIGTERM, signal.SIGHUP, signal.SIGINT, signal.SIGALRM):
+    for number in NUMBERS:
         signal.signal(number, over)
     signal.alarm(seconds)
 
