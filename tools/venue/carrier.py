@@ -158,15 +158,25 @@ class DeskLink:
     def __init__(self, settings, number, node, place):
         self.settings, self.number, self.user = Settings(settings), number, f"desk{number}" if number else "operator"
         self.node, self.place, self.connection, self.trouble, self.pieces, self.out = node, place, None, None, Pieces(), {}
-        self.patience, self.heard, self.moved = PATIENCE, time.monotonic(), time.monotonic()
+        self.patience, self.heard, self.moved, self.live = PATIENCE, time.monotonic(), time.monotonic(), float("inf")
 
     def connect(self):
         self.node += 1
         self.connection = pika.BlockingConnection(self.settings.parameters(self.user, self.node))
-        self.channel, self.tag, self.pieces = self.connection.channel(), None, Pieces()
-        self.channel.basic_qos(prefetch_count=200)
-        self.channel.basic_consume(f"answers.{self.number or 'operator'}", self.delivered, arguments={"x-stream-offset": self.place})
+        self.channel, self.tag, self.pieces = self.read(self.place, 200, self.delivered), None, Pieces()
         self.heard = self.moved = time.monotonic()
+
+    def read(self, place, most_unread, delivered):
+        """Reads the stream on a channel of its own."""
+        channel = self.connection.channel()
+        channel.basic_qos(prefetch_count=most_unread)
+        channel.basic_consume(f"answers.{self.number or 'operator'}", delivered, arguments={"x-stream-offset": place})
+        return channel
+
+    def find_end(self):
+        """Sets `live` to the offset of the next message that is told; more aren't read on this channel, since it isn't acknowledged."""
+        self.live = float("inf")
+        self.read("next", 1, lambda _, method, properties, body: setattr(self, "live", properties.headers["x-stream-offset"]))
 
     def leave(self, why):
         with suppress(Exception):

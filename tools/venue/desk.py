@@ -26,7 +26,7 @@ class Desk(DeskLink, client.Desk):
 
     def __init__(self, settings, number, own):
         DeskLink.__init__(self, settings, number, number, 0)
-        self.taken, self.ahead, self.question = [], {}, None
+        self.taken, self.ahead, self.answered = [], {}, -1
         client.Desk.__init__(self, number, own, lambda text, at: self.out.update({at: text}))
         self.at = os.open(f"{own}.at", os.O_RDWR | os.O_CREAT, 0o600)  # a place in its stream, up to which OWN has all
         with open(own, "rb") as file:
@@ -52,14 +52,14 @@ class Desk(DeskLink, client.Desk):
         message = json.loads(text or b'{"to":"all","number":0}')
         to = message["to"]
         if message["number"] > self.told[to]:
-            self.ahead[to, message["number"]] = message, text  # (when a leader changes, messages may change places or be told anew)
+            self.ahead[to, message["number"]] = message, text, at  # (when a leader changes, messages may change places or be told anew)
         while (to, self.told[to] + 1) in self.ahead:
             self.accept(*self.ahead.pop((to, self.told[to] + 1)))
         self.place = self.place if self.ahead or self.pieces.held else at + 1
 
-    def accept(self, message, text):
+    def accept(self, message, text, at):
         if not self.is_known and "expected" in message:
-            self.last, self.question = max(self.last, message["expected"] - 1), self.heard
+            self.last, self.answered = max(self.last, message["expected"] - 1), at
         if self.take(text):
             self.taken.append(text)
         if "line" in message or "expected" in message:
@@ -70,12 +70,13 @@ class Desk(DeskLink, client.Desk):
         super().connect()
         self.again()
         if not self.is_known:
+            self.find_end()
             self.out[0] = ""  # (no line has this number, so that the answer is the one that is expected)
 
     def messages(self, seconds):
         now = time.monotonic()
         self.moved = self.moved if self.unanswered or self.ahead or not self.is_known else now
-        self.is_known = self.is_known or self.question and now > max(self.question, self.heard) + 1
+        self.is_known = self.is_known or self.answered >= self.live
         if self.missing and now > self.moved + 1:
             self.again()
         if self.out:
