@@ -98,11 +98,12 @@ fn host_on<S: Source, D: Disk, K: Sink>(
 /// group or none of it: whole lines.
 ///
 /// The disk is opened first, up to its first entry: `NotDisk`, and `Damaged` at byte 8, say that it is none of a journal, or that this entry is neither complete
-/// nor the checkpoint of a consistent market, and of such a disk nothing is read of the input. `NotFlow` and `BadCheckpoint` say how the input begins, and `Differs` with 0 that the disk begins otherwise. None of them changes the disk or writes anything. `Damaged`,
-/// `Rejected` and `Differs` with an entry's number come where a command asks for that entry; all that was taken from the entries before it is answered then, and
-/// the disk isn't changed. At `Ok` and `TooLong` all lines of the first `limit` bytes are answered, and at `Read` all that were complete in what was taken. At
-/// most one byte past the limit is taken, which says that there are more. `Disk`, `Read` and `Write` come only if the count of faults of the disk, the input or
-/// `out` rose. `Memory` may come at any time. The limit is at most 2^40 bytes.
+/// nor the checkpoint of a consistent market, and of such a disk nothing is read of the input. `NotFlow` and `BadCheckpoint` say how the input begins, and
+/// `Differs` with 0 that the disk begins otherwise. None of them changes the disk or writes anything. `Damaged`, `Rejected` and `Differs` with an entry's number
+/// come where a command asks for that entry; all that was taken from the entries before it is answered then, and the disk isn't changed. At `Ok` and `TooLong`
+/// all lines of the first `limit` bytes are answered, and at `Read` all that were complete in what was taken. At most one byte past the limit is taken, which
+/// says that there are more. `Disk`, `Read` and `Write` come only if the count of faults of the disk, the input or `out` rose. `Memory` may come at any time.
+/// The limit is at most 2^40 bytes.
 ///
 /// Costs the reading of each line, for each command what serving it or auditing its entry costs, its texts, and for each group two syncs. Holds a window of
 /// 262,145 bytes, the entries of a group and of a line, and their texts.

@@ -47,7 +47,8 @@ pub record HostsLines (limit : ℕ) (ends : Status) (start end : DiskState) (sou
   pub result : Result ⊤ HostFault
   pub ends_so : ends ≡ host_status limit result
   pub comes : IfSome start.content (λ held. ComesTo limit held source.before source.after end out later result)
-  -- Of a file that is refused by its bytes alone, as one of no journal, or damaged at its first entry, nothing is read or written, and nothing of the source.
+  -- If the file's bytes alone refuse it, as one of no journal, or damaged at its first entry, the call ends at its opening: nothing is read of the source, and
+  -- nothing written to the output.
   pub refuses : IfSome start.content (λ held. IsNoBook held → IsOfFile result × (source.after ≡ source.before) × (later ≡ out))
   -- At most one byte past the limit is taken of the source.
   pub taken : TakesAtMost source.before source.after (limit + 1)
