@@ -21,6 +21,7 @@ use Rattle.flow_orders.specs.Outcomes.{Fill, Clearing, Outcome, Cleared, trades_
 use Rattle.flow_orders.specs.Trades.{Trade, trader, paid, received}
 use Rattle.flow_orders.proofs.TradeFacts.{All-trades}
 use Rattle.order_book.specs.Book.{HasOrder}
+use Rattle.ticker_table.specs.Tickers.{ticker_limit}
 use Rattle.ticker_table.specs.Adding.{IsAddable}
 use Rattle.market_rules.specs.Market.{Market, IsConsistent, IsLiveOrder, start_prices}
 use Rattle.market_rules.specs.Step.{FirstRefusal, Accepts, Serves}
@@ -223,7 +224,7 @@ module _ (account : ℕ) (m n : Market) (h : Holding) (consistent : IsConsistent
       let two = past_when one.1 in
       let three = past_when two.1 in
       subst (MayTake account h) (one_event (Adds ticker) e (seen_as (AddAsset ticker) answer (reply.Asset (length m.tickers)) e is accepts.0))
-      (subst (λ l. IsAddable l ticker) (sym held.tickers) (record { valid = one.0; absent = two.0; place = not_least _ _ three.0 }))
+      (subst (λ l. IsAddable ticker_limit l ticker) (sym held.tickers) (record { valid = one.0; absent = two.0; place = not_least _ _ three.0 }))
   accepted_may OpenAccount answer e none accepts is next =
       subst (MayTake account h) (event_is _ (Opens account) e (seen_as OpenAccount answer (reply.Account (account_count m.balances + 1)) e is accepts.0)).1 tt
   accepted_may (Deposit named kind count) answer e none accepts is next =

@@ -3,6 +3,7 @@ use Rattle.std.specs.Prelude.{◌≡◌, ℕ, ◌<◌, ◌≤◌, ◌==◌, if�
 use Rattle.list_sums.specs.Sums.{int_sum_by}
 use Rattle.weight_rows.specs.Rows.{IsWeightVector, IsPrice, IsPricedBy}
 use Rattle.demand_curve.specs.Demand.{most_rate}
+use Rattle.ticker_table.specs.Tickers.{ticker_limit}
 use Rattle.ticker_table.specs.Adding.{IsAddable}
 use Rattle.wire_records.specs.Commands.{Request, Command, Answer, Plain, Batch}
 use Rattle.wire_records.specs.Views.{command_of}
@@ -130,7 +131,7 @@ MayChange h (Some asset) amount = (asset < length h.tickers) × IsUnitBalance (h
 
 -- an event that may be taken: its ticker can be added, its amount fits, its order may be added or is there; of a batch see `MayClear`
 abbrev pub MayTake : ℕ → Holding → Event → Type 0
-MayTake account h (Adds ticker) = IsAddable h.tickers ticker
+MayTake account h (Adds ticker) = IsAddable ticker_limit h.tickers ticker
 MayTake account h (Opens number) = ⊤
 MayTake account h (Deposits kind count) = MayChange h kind (value_of kind count)
 MayTake account h (Withdraws kind count) = MayChange h kind (neg_ℤ (value_of kind count))

@@ -1,6 +1,7 @@
 //! What entries change in what a statement holds.
 ghost use Rattle.std.specs.Prelude.{◌≡◌, ℕ, ◌<◌, ◌≤◌, ◌++◌, ◌^◌, ◌+ℤ◌, ◌-ℤ◌, [], ◌∷◌, length, unsigned_abs, Some, All, OnOk, OnErr};
 ghost use Rattle.list_sums.specs.Sums.{int_sum_by};
+ghost use Rattle.ticker_table.specs.Tickers.{ticker_limit};
 ghost use Rattle.ticker_table.specs.Adding.{IsAddable};
 ghost use Rattle.flow_accounts.specs.Balances.{value_of as amount_of};
 ghost use Rattle.flow_accounts.specs.Lawful.{IsMoneyBalance, IsUnitBalance};
@@ -142,7 +143,7 @@ impl Statement {
 
     // Adds an asset, of which the account has nothing.
     pub(crate) fn add_asset(&mut self, ticker: &[u8]) -> Result<(), Memory>
-        requires { IsAddable self.old.tickers ticker.now }
+        requires { IsAddable ticker_limit self.old.tickers ticker.now }
         ensures account { self.new.account ≡ self.old.account }
         ensures after { OnOk result (AreAlike (holding_of self.new) (after (holding_of self.old) (Adds ticker.now))) }
         ensures stays { OnErr result (self.new ≡ self.old) }

@@ -11,7 +11,7 @@ use Rattle.canonical_rule.specs.Canonical.{IsCanonicalOutcome}
 use Rattle.market_rules.specs.Market.{Market, empty_market}
 use Rattle.market_rules.specs.Journal.{Follows}
 use Rattle.market_rules.proofs.Versions.{step_version}
-use Rattle.order_text.specs.Lines.{Leave}
+use Rattle.order_text.specs.Lines.{Leave, Leaves}
 use Rattle.order_text.proofs.OneAnswers.{one_table}
 use Rattle.line_records.proofs.Saying.{lines_leave}
 use Rattle.encode_word.specs.declared.stop.EncodeStop.{EncodeStop}
@@ -29,7 +29,7 @@ module _ (Rule : BatchRule) where
   heads a b x y e = (cc, cc)
 
   -- steps of commands' records lead to the tickers that the commands leave
-  pub steps_tickers : (version : Version) (commands : List Command) (after : List (List ℕ)) (m market : Market) (pairs : List (Pair Record Outcome)) → m.version ≡ version → Leave m.tickers commands after → All IsCommand commands → All (IsOfVersion version) commands
+  pub steps_tickers : (version : Version) (commands : List Command) (after : List (List ℕ)) (m market : Market) (pairs : List (Pair Record Outcome)) → m.version ≡ version → Leave version m.tickers commands after → All IsCommand commands → All (IsOfVersion version) commands
       → map (λ (pair : Pair Record Outcome). pair.asked) pairs ≡ map record_of commands → Follows IsReadAs Rule m pairs market → market.tickers ≡ after
   steps_tickers version [] after m market [] of leaves fit own asked steps = made_tickers market m steps ∙ sym leaves
   steps_tickers version [] after m market (pair ∷ pairs) of leaves fit own asked steps = absurd cc
@@ -37,8 +37,8 @@ module _ (Rule : BatchRule) where
   steps_tickers version (command ∷ commands) after m market (pair ∷ pairs) of leaves fit own asked steps =
       let both = heads pair.asked (record_of command) (map (λ (p : Pair Record Outcome). p.asked) pairs) (map record_of commands) asked in
       let left = step_tickers Rule m command pair.asked pair.answer steps.0 (subst (λ (v : Version). IsOfVersion v command) (sym of) (All-head (IsOfVersion version) command commands own)) (record { fits = All-head IsCommand command commands fit; encoded = both.0 }) steps.1 in
-      let same : leaves.0 ≡ steps.0.tickers = one_table m.tickers (command ∷ []) leaves.0 steps.0.tickers (leaves.0, leaves.1, refl) (steps.0.tickers, left, refl) in
-      steps_tickers version commands after steps.0 market pairs (step_version Rule IsReadAs m pair.asked pair.answer steps.0 steps.1 ∙ of) (subst (λ tickers. Leave tickers commands after) same leaves.2) (All-tail IsCommand command commands fit) (All-tail (IsOfVersion version) command commands own) both.1 steps.2
+      let same : leaves.0 ≡ steps.0.tickers = one_table version m.tickers (command ∷ []) leaves.0 steps.0.tickers (leaves.0, leaves.1, refl) (steps.0.tickers, subst (λ v. Leaves v m.tickers command steps.0.tickers) of left, refl) in
+      steps_tickers version commands after steps.0 market pairs (step_version Rule IsReadAs m pair.asked pair.answer steps.0 steps.1 ∙ of) (subst (λ tickers. Leave version tickers commands after) same leaves.2) (All-tail IsCommand command commands fit) (All-tail (IsOfVersion version) command commands own) both.1 steps.2
 
 -- of what lines ask for, from the tickers on that are known before them
 lines_agree : (version : Version) (More : Type 0) (bytes text : List ℕ) (ended : Ended EncodeStop) (encoded : EncodesLines version More bytes ended text) (m market : Market) (pairs : List (Pair Record Outcome)) → m.version ≡ version → m.tickers ≡ known_after encoded.start
@@ -48,7 +48,7 @@ lines_agree version More bytes text ended encoded m market pairs of known asked 
     let cs = encoded.comes.commands in
     let fit = encoded_fit version More bytes text ended encoded in
     let leaves = lines_leave version reads.read cs (known_after encoded.start) reads.tickers reads.say in
-    steps_tickers IsCanonicalOutcome version cs reads.tickers m market pairs of (subst (λ (tickers : List (List ℕ)). Leave tickers cs reads.tickers) (sym known) leaves) fit.0 fit.2 asked steps
+    steps_tickers IsCanonicalOutcome version cs reads.tickers m market pairs of (subst (λ (tickers : List (List ℕ)). Leave version tickers cs reads.tickers) (sym known) leaves) fit.0 fit.2 asked steps
 
 pub tickers_agree : TickersAgree
 tickers_agree = record {

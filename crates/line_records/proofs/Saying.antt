@@ -18,17 +18,17 @@ no_more [] none = refl
 no_more (x ∷ xs) none = absurd (omega (arith, none))
 
 -- the tickers that commands and then more commands leave
-leaves_more : (first second third : List (List ℕ)) (commands more : List Command) → Leave first commands second → Leave second more third → Leave first (commands ++ more) third
-leaves_more first second third [] more a b = subst (λ t. Leave t more third) a b
-leaves_more first second third (command ∷ commands) more a b = (a.0, a.1, leaves_more a.0 second third commands more a.2 b)
+leaves_more : (version : Version) (first second third : List (List ℕ)) (commands more : List Command) → Leave version first commands second → Leave version second more third → Leave version first (commands ++ more) third
+leaves_more version first second third [] more a b = subst (λ t. Leave version t more third) a b
+leaves_more version first second third (command ∷ commands) more a b = (a.0, a.1, leaves_more version a.0 second third commands more a.2 b)
 
 module _ (version : Version) where
   -- the tickers after lines are those after their commands
-  pub lines_leave : (lines : List (List ℕ)) (commands : List Command) (tickers after : List (List ℕ)) → Say version tickers lines commands after → Leave tickers commands after
+  pub lines_leave : (lines : List (List ℕ)) (commands : List Command) (tickers after : List (List ℕ)) → Say version tickers lines commands after → Leave version tickers commands after
   lines_leave [] commands tickers after say = rw say.0 say.1
   lines_leave (line ∷ lines) commands tickers after (inl blank) = lines_leave lines commands tickers after blank.1
   lines_leave (line ∷ lines) commands tickers after (inr said) =
-      rw said.5 (leaves_more tickers said.2 after (commands_of said.0) said.1 said.3.leaves (lines_leave lines said.1 said.2 after said.4))
+      rw said.5 (leaves_more version tickers said.2 after (commands_of said.0) said.1 said.3.leaves (lines_leave lines said.1 said.2 after said.4))
 
   -- what lines and then more lines ask for
   pub say_more : (first second third : List (List ℕ)) (lines more : List (List ℕ)) (commands others : List Command) → Say version first lines commands second → Say version second more others third

@@ -31,7 +31,7 @@ FirstIsAPrefix version known More =
 -- the tickers after lines are those after the commands that the lines ask for
 abbrev pub LinesLeave : Version → Type 0
 LinesLeave version =
-    (lines : List (List ℕ)) (commands : List Command) (tickers after : List (List ℕ)) → Say version tickers lines commands after → Leave tickers commands after
+    (lines : List (List ℕ)) (commands : List Command) (tickers after : List (List ℕ)) → Say version tickers lines commands after → Leave version tickers commands after
 
 -- the commands that lines ask for fit their records and are of the version: fields are within their widths, and weight vectors
 -- aren't too long

@@ -2,7 +2,8 @@
 use Rattle.std.proofs.Common.{◌≡◌, ℕ, ◌+◌, ◌≤◌, ◌<◌, inl, inr, List, [], ◌∷◌, ◌++◌, length, Some, None, Result, Ok, Err, OnOk, OnErr, refl, ap, sym, subst, ◌∙◌, arith}
 use Rattle.std.specs.Prelude.{Contains, pos, ℤ}
 use Rattle.std.proofs.lemmas.Option.{slice_get_within, get_or_from_slice_get}
-use Rattle.ticker_table.specs.Tickers.{IsTicker, HasNumber, ticker_limit}
+use Rattle.wire_records.specs.Limits.{limits_of}
+use Rattle.ticker_table.specs.Tickers.{IsTicker, HasNumber}
 use Rattle.ticker_table.specs.Adding.{IsAddable}
 use Rattle.ticker_table.specs.declared.table.TickerFault.{TickerFault}
 use Rattle.ticker_table.specs.declared.table.TickerFault.TheVariants as tickers
@@ -21,12 +22,12 @@ use Rattle.market_core.specs.Private.{IsAnswered, refusal_for, ticker_refusal}
 use Rattle.market_core.proofs.Fitting.{consistent-served, of_each}
 
 -- a ticker that can be added is refused by nothing
-pub addable_is_accepted : (m : Market) (ticker : List ℕ) → IsAddable m.tickers ticker → FirstRefusal m (AddAsset ticker) None
+pub addable_is_accepted : (m : Market) (ticker : List ℕ) → IsAddable (limits_of m.version).assets m.tickers ticker → FirstRefusal m (AddAsset ticker) None
 addable_is_accepted m ticker addable = inr (addable.valid, inr (addable.absent, inr (λ full. let place = addable.place in omega (arith, full, place), refl)))
 
 module _ (Rule : BatchRule) where
   -- the asset is added
-  pub serves-add_asset : (m : Market) (now : Balances) (exchange : AccountOf) (prices : List ℤ) (ticker : List ℕ) → IsAddable m.tickers ticker
+  pub serves-add_asset : (m : Market) (now : Balances) (exchange : AccountOf) (prices : List ℤ) (ticker : List ℕ) → IsAddable (limits_of m.version).assets m.tickers ticker
       → now ≡ add_asset m.balances → exchange ≡ with_asset m.exchange → prices ≡ m.last_prices ++ pos 0 ∷ []
       → Serves Rule m (AddAsset ticker) (Plain (Asset (length m.tickers))) (record m { tickers = m.tickers ++ ticker ∷ []; balances = now; exchange = exchange; last_prices = prices })
   serves-add_asset m now exchange prices ticker addable balances_are exchange_is prices_are =
@@ -54,14 +55,14 @@ module _ (Rule : BatchRule) where
         record { first = Some TickerTaken; refused = inr (valid, inl (there, refl)); answered = (refl, same) }
 
     -- there are too many assets
-    pub refuses-full : IsTicker ticker → (Contains old.tickers ticker → ⊥) → ticker_limit ≤ length old.tickers → Serves Rule old (AddAsset ticker) (Plain (Refused AssetLimit)) new
+    pub refuses-full : IsTicker ticker → (Contains old.tickers ticker → ⊥) → (limits_of old.version).assets ≤ length old.tickers → Serves Rule old (AddAsset ticker) (Plain (Refused AssetLimit)) new
     refuses-full valid absent many = record { first = Some AssetLimit; refused = inr (valid, inr (absent, inl (many, refl))); answered = (refl, same) }
 
   -- the asset isn't added, for another cause than running out of memory
   pub refuses-ticker_fault : (old new : Market) (ticker : List ℕ) (why : TickerFault) → new ≡ old
       → (why ≡ tickers.BadTicker → IsTicker ticker → ⊥)
       → ((number : ℕ) → why ≡ tickers.Taken number → IsTicker ticker × HasNumber old.tickers number ticker)
-      → (why ≡ tickers.Full → IsTicker ticker × (Contains old.tickers ticker → ⊥) × (length old.tickers ≡ ticker_limit))
+      → (why ≡ tickers.Full → IsTicker ticker × (Contains old.tickers ticker → ⊥) × ((limits_of old.version).assets ≤ length old.tickers))
       → (why ≡ tickers.Memory → ⊥) → Serves Rule old (AddAsset ticker) (Plain (Refused (ticker_refusal why))) new
   refuses-ticker_fault old new ticker tickers.BadTicker same bad taken full answered = refuses-bad_ticker old new ticker same (bad refl)
   refuses-ticker_fault old new ticker (tickers.Taken number) same bad taken full answered =
@@ -69,7 +70,7 @@ module _ (Rule : BatchRule) where
       refuses-taken old new ticker same number there.0 there.1
   refuses-ticker_fault old new ticker tickers.Full same bad taken full answered =
       let there = full refl in
-      refuses-full old new ticker same there.0 there.1 (omega (arith, there.2))
+      refuses-full old new ticker same there.0 there.1 there.2
   refuses-ticker_fault old new ticker tickers.Memory same bad taken full answered = absurd (answered refl)
 
   -- an account is opened

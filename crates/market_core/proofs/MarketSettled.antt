@@ -13,7 +13,8 @@ use Rattle.flow_orders.proofs.TradeFacts.{All-trades, rates_back}
 use Rattle.batch_outcome.specs.declared.outcome.Cleared.{Cleared}
 use Rattle.batch_outcome.specs.Published.{clearing_of}
 use Rattle.fill_caps.specs.Settlement.{settled_balances, settled_exchange}
-use Rattle.market_rules.specs.Market.{Market, IsConsistent, IsLiveOrder, most_batches}
+use Rattle.market_rules.specs.Market.{Market, IsConsistent, IsLiveOrder}
+use Rattle.wire_records.specs.Limits.{limits_of}
 use Rattle.market_rules.specs.Step.{after_batch}
 use Rattle.market_rules.specs.Settling.{MaySettleAt}
 use Rattle.market_rules.proofs.ConsistentBatch.{consistent_settled}
@@ -50,5 +51,5 @@ module _ (m : Market) (c : Cleared) (consistent : IsConsistent m) (may : MaySett
       ∙ ap (λ x. changed m (settled_balances c.prices ts m.balances) (settled_exchange c.prices ts m.balances m.exchange) (going_on (m.batches + 1) (staying ts)) x) prices_are
       ∙ ap (λ us. changed m (settled_balances c.prices us m.balances) (settled_exchange c.prices us m.balances m.exchange) (going_on (m.batches + 1) (staying us)) c.prices) (sym back)
 
-  pub settled_is_consistent : m.batches < most_batches → IsConsistent (after_batch m (outcomes.Cleared (clearing_of m.orders c)))
+  pub settled_is_consistent : m.batches < (limits_of m.version).batches → IsConsistent (after_batch m (outcomes.Cleared (clearing_of m.orders c)))
   settled_is_consistent more = consistent_settled m (clearing_of m.orders c) (trades_of m.orders (clearing_of m.orders c).fills) refl consistent may.right more

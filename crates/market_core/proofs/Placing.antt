@@ -19,6 +19,8 @@ use Rattle.flow_orders.specs.Outcomes.{BatchRule}
 use Rattle.order_book.specs.Book.{Book, HasOrder, without}
 use Rattle.market_rules.specs.Market.{Market, IsConsistent, usable_balance}
 use Rattle.market_rules.proofs.ByKind.{affords}
+use Rattle.wire_records.specs.Limits.{limits_of}
+use Rattle.market_rules.proofs.VersionLimits.{orders_within}
 use Rattle.market_rules.specs.Step.{◌unless◌else◌, FirstRefusal, Serves, placed, IsAffordable}
 use Rattle.market_core.specs.Private.{cancel_reply, RefusesNumbers, RefusesRow, HasRightNumbers, no_other, IsFreeFor}
 use Rattle.market_rules.proofs.Accepted.{past_when, past_unless, not_least}
@@ -150,7 +152,7 @@ row_is_few : (m : Market) (o : Order) → RefusesRow m o None → length m.order
 row_is_few m o first =
     let row = past_unless first in
     let assets = past_unless row.1 in
-    not_least most_orders (length m.orders) (past_when assets.1).0
+    omega (arith, not_least (limits_of m.version).orders (length m.orders) (past_when assets.1).0, orders_within m.version)
 
 pub accepted_is_few : (m : Market) (last : Option ℕ) (r : Request) → FirstRefusal m (Place last r) None → length m.orders < most_orders
 accepted_is_few m last r first =

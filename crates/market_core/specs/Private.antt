@@ -1,11 +1,11 @@
 -- Definitions that only private functions of the market use.
 use Rattle.std.specs.Prelude.{Bool, true, false, Option, None, ◌≤◌, length, All}
-use Rattle.weight_rows.specs.Rows.{IsWeightVector}
 use Rattle.demand_curve.specs.Demand.{most_rate}
 use Rattle.flow_accounts.specs.Balances.{IsAccount, IsAsset}
-use Rattle.flow_orders.specs.Orders.{Order, most_cap, most_orders, AreLimits, IsFrom1To}
+use Rattle.flow_orders.specs.Orders.{Order, most_cap, AreLimits, IsFrom1To}
 use Rattle.wire_records.specs.Commands.{Request}
-use Rattle.market_rules.specs.Market.{Market}
+use Rattle.wire_records.specs.Limits.{limits_of}
+use Rattle.market_rules.specs.Market.{Market, IsRowOf}
 use Rattle.market_rules.specs.Step.{◌when◌else◌, ◌unless◌else◌, accept, IsAffordable, placed}
 use Rattle.ticker_table.specs.declared.table.TickerFault.{TickerFault}
 use Rattle.ticker_table.specs.declared.table.TickerFault.TheVariants as ticker
@@ -63,9 +63,9 @@ RefusesNumbers m r others =
 -- the refusals of an order whose numbers are within their limits: for its weight vector, for a full book, or for what it needs
 abbrev pub RefusesRow : Market → Order → Option Refusal → Type 0
 RefusesRow m o =
-    BadRow unless IsWeightVector o.row else
+    BadRow unless IsRowOf m.version o.row else
     NoAsset unless All (λ e. IsAsset m.balances e.asset) o.row else
-    OrderLimit when most_orders ≤ length m.orders else
+    OrderLimit when (limits_of m.version).orders ≤ length m.orders else
     NotFree unless IsAffordable m o else accept
 
 -- no refusal of an order for its account or its numbers holds

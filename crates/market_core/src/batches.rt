@@ -4,14 +4,14 @@ ghost use Rattle.demand_curve.specs.Demand.{IsWithin};
 ghost use Rattle.wire_records.specs.Commands.{RunBatch};
 ghost use Rattle.batch_outcome.specs.Published.{clearing_of, outcome_of};
 ghost use Rattle.flow_orders.specs.Outcomes.{Cleared as ClearedBatch};
-ghost use Rattle.market_rules.specs.Market.{IsConsistent, most_batches, start_prices, cut_price};
+ghost use Rattle.wire_records.specs.Limits.{limits_of};
+ghost use Rattle.market_rules.specs.Market.{IsConsistent, start_prices, cut_price};
 ghost use Rattle.market_rules.specs.Step.{FirstRefusal, after_batch};
 ghost use Rattle.market_rules.specs.Settling.{MaySettle, MaySettleAt};
 
 use crate::Market;
 use batch_outcome::{Cleared, Outcome, PriceList};
 use fill_caps::settle;
-use market_rules::MOST_BATCHES;
 use residual_account::ResidualAccount;
 use std::alloc::Global;
 use wire_records::{Memory, Refusal};
@@ -37,12 +37,12 @@ impl Market {
         ensures first { MatchResult result
             (λ _. FirstRefusal self.now (RunBatch budget) None)
             (λ refusal. FirstRefusal self.now (RunBatch budget) (Some refusal)) }
-        ensures more { OnOk result (self.now.batches < most_batches) }
+        ensures more { OnOk result (self.now.batches < (limits_of self.now.version).batches) }
     {
         if budget == 0 || budget > MOST_BUDGET {
             return Err(Refusal::BadBudget);
         }
-        if self.batches >= MOST_BATCHES {
+        if self.batches >= self.version.limits().batches {
             return Err(Refusal::BatchLimit);
         }
         Ok(())
@@ -87,9 +87,10 @@ impl Market {
     /// The outcome is admissible for the live orders and the start prices, and fewer than 2^24 batches were held. The
     /// call takes no memory and can't fail. It costs two passes over the legs of the live orders, however many accounts
     /// there are, and one over the orders and the legs of those that leave.
+    #[tactic(auto, using(market_rules::proofs::VersionLimits::batches_within))]
     pub fn settle(&mut self, outcome: &Outcome)
         requires right { MaySettle self.old outcome.now }
-        requires more { self.old.batches < most_batches }
+        requires more { self.old.batches < (limits_of self.old.version).batches }
         ensures { self.new ≡ after_batch self.old (outcome_of self.old.orders outcome.now) }
     {
         match outcome {
@@ -101,9 +102,10 @@ impl Market {
         }
     }
 
+    #[tactic(auto, using(market_rules::proofs::VersionLimits::batches_within))]
     fn settle_cleared(&mut self, cleared: &Cleared)
         requires right { MaySettleAt self.old cleared.now }
-        requires more { self.old.batches < most_batches }
+        requires more { self.old.batches < (limits_of self.old.version).batches }
         ensures { self.new ≡ after_batch self.old (ClearedBatch (clearing_of self.old.orders cleared.now)) }
     {
         let prices = cleared.prices.as_slice();

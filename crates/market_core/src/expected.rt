@@ -97,7 +97,7 @@ impl Market {
     {
         let mut bytes = [0u8; 8];
         bytes.copy_from_slice(ticker);
-        match self.tickers.fault(&bytes) {
+        match self.tickers.fault(&bytes, self.version.limits().assets) {
             Some(fault) => Reply::Refused(ticker_refusal(fault)),
             None => Reply::Asset(self.tickers.len()),
         }

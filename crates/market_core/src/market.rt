@@ -288,7 +288,7 @@ impl Market {
     {
         let mut bytes = [0u8; 8];
         bytes.copy_from_slice(ticker);
-        match self.tickers.add(bytes) {
+        match self.tickers.add_within(bytes, self.version.limits().assets) {
             Ok(number) => {
                 self.accounts.add_asset();
                 self.exchange.add_asset();

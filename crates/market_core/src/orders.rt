@@ -1,5 +1,5 @@
 //! Orders: placed if they can be paid and delivered, and cancelled.
-ghost use Rattle.std.specs.Prelude.{◌≡◌, ◌+◌, ◌*◌, ◌<◌, ◌≤◌, ◌^◌, ◌↔◌, ◌≤ℤ◌, pos, IsTrue, IfOk, IfSome, IfNone, Some, None, OnErr, All};
+ghost use Rattle.std.specs.Prelude.{◌≡◌, ◌+◌, ◌*◌, ◌<◌, ◌≤◌, ◌^◌, ◌↔◌, ◌≤ℤ◌, pos, IsTrue, IfOk, IfSome, IfNone, Some, None, OnErr, All, length};
 ghost use Rattle.demand_curve.specs.Numbers.{or_zero};
 ghost use Rattle.weight_rows.specs.Rows.{IsWeightVector, IsLawfulWeight};
 ghost use Rattle.flow_accounts.specs.Balances.{IsAccount, IsAsset, money_with_credit, units_with_credit};
@@ -7,7 +7,8 @@ ghost use Rattle.flow_orders.specs.Orders.{AreLimits, IsFrom1To, most_cap, price
 ghost use Rattle.wire_records.specs.Commands.{Place, CancelOrder, Plain};
 ghost use Rattle.wire_records.specs.Versions.{IsOfVersion};
 ghost use Rattle.wire_records.specs.CommandRecords.{IsCommand};
-ghost use Rattle.market_rules.specs.Market.{IsConsistent, usable_balance};
+ghost use Rattle.wire_records.specs.Limits.{limits_of};
+ghost use Rattle.market_rules.specs.Market.{IsConsistent, IsRowOf, usable_balance};
 ghost use Rattle.market_rules.specs.Step.{FirstRefusal, placed, ServesPlain};
 ghost use Rattle.market_rules.specs.Allocating.{MayAllocate};
 ghost use Rattle.market_core.specs.Private.{cancel_reply, RefusesNumbers, RefusesRow, HasRightNumbers, no_other, IsFreeFor};
@@ -17,9 +18,6 @@ use flow_accounts::grains_of;
 use flow_orders::{Order, OrderFault, money_need, order_fault, unit_need};
 use weight_rows::{Entry, WeightRow};
 use wire_records::{Memory, PlaceView, Refusal, Reply, RowView};
-
-// The most orders that are live at once.
-const MOST_ORDERS: usize = market_rules::MOST_ORDERS as usize;
 
 // Returns the reply to a cancel, by whether the order is live.
 pub(crate) fn cancel_reply(there: bool) -> Reply
@@ -141,19 +139,37 @@ impl Market {
         ensures { RefusesRow self.now (placed self.now None place.now) result }
     {
         let row = place.row();
-        if row.fault().is_some() {
+        if !self.is_row(&row) {
             return Some(Refusal::BadRow);
         }
         if !self.has_assets(&row) {
             return Some(Refusal::NoAsset);
         }
-        if self.book.len() >= MOST_ORDERS {
+        if self.is_full() {
             return Some(Refusal::OrderLimit);
         }
         if !self.is_affordable(place) {
             return Some(Refusal::NotFree);
         }
         None
+    }
+
+    // Returns whether the legs are a weight vector of no more than the version allows.
+    fn is_row(&self, row: &RowView<'_>) -> bool
+        ensures { IsTrue result ↔ IsRowOf self.now.version row.now }
+    {
+        if row.len() > usize::from(self.version.limits().legs) {
+            return false;
+        }
+        row.fault().is_none()
+    }
+
+    // Returns whether as many orders are live as the version allows.
+    #[tactic(auto, using(market_rules::proofs::VersionLimits::orders_within))]
+    fn is_full(&self) -> bool
+        ensures { IsTrue result ↔ ((limits_of self.now.version).orders ≤ length self.now.orders) }
+    {
+        self.book.len() >= self.version.limits().orders as usize
     }
 
     // Returns whether there is an asset for each leg.

@@ -65,9 +65,9 @@ module _ (v : Version) (p : Parts) (consistent : IsConsistent (market_of v p)) w
             };
       }
 
-  pub consistent_numbers : p.next_order < 2 ^ 63 → AreConsistentNumbers (most_credit_in v) p.balances p
+  pub consistent_numbers : p.next_order < 2 ^ 63 → AreConsistentNumbers v p.balances p
   consistent_numbers next = record {
-    counts = record { next = (consistent.next, next); few_batches = consistent.few_batches; few_orders = omega (arith, consistent.few_orders, length-map p.orders order_of) };
+    counts = record { next = (consistent.next, next); few_assets = omega (arith, consistent.few_assets, consistent.one_each.tickers); few_batches = consistent.few_batches; few_orders = omega (arith, consistent.few_orders, length-map p.orders order_of) };
     balances = consistent_balances;
     sums = record {
       exchange = consistent.widths.exchange_money;
@@ -96,7 +96,7 @@ module _ (v : Version) (p : Parts) (consistent : IsConsistent (market_of v p)) w
           account = live.account;
           in_time = live.in_time;
         };
-        row = record { lawful = live.order.row; there = live.assets };
+        row = record { lawful = live.order.row; few = live.legs; there = live.assets };
       }
 
   pub consistent_orders : AreConsistentOrders v p.balances p
@@ -174,7 +174,7 @@ is_order o consistent row =
       row = row;
     }
 
-module _ (v : Version) (p : Parts) (shape : IsInShape p.balances p) (numbers : AreConsistentNumbers (most_credit_in v) p.balances p) where
+module _ (v : Version) (p : Parts) (shape : IsInShape p.balances p) (numbers : AreConsistentNumbers v p.balances p) where
   no_credits : v ≡ One → All IsNoCredit p.balances.credits
   no_credits one k d inside =
       let none : most_credit_in v ≡ 0 = ap most_credit_in one in
@@ -193,6 +193,7 @@ module _ (v : Version) (p : Parts) (shape : IsInShape p.balances p) (numbers : A
     order = is_order o consistent.numbers.terms consistent.row.lawful;
     numbered = consistent.numbers.number;
     account = consistent.numbers.account;
+    legs = consistent.row.few;
     assets = consistent.row.there;
     in_time = consistent.numbers.in_time;
   }
@@ -222,6 +223,7 @@ module _ (v : Version) (p : Parts) (shape : IsInShape p.balances p) (numbers : A
           exchange_units = λ k d inside. subst (λ units. unsigned_abs units ≤ p.batches * 2 ^ 31) (get_or_default p.exchange.units k (pos 0) d inside) (numbers.sums.assets k (omega (arith, inside, shape.exchange))).exchange;
         };
         prices = λ k d inside. subst IsPrice (get_or_default p.last_prices k (pos 0) d inside) (numbers.sums.assets k (omega (arith, inside, shape.prices))).price;
+        few_assets = omega (arith, numbers.counts.few_assets, shape.tickers);
         few_accounts = numbers.balances.few_accounts;
         few_orders = omega (arith, numbers.counts.few_orders, counted);
         few_batches = numbers.counts.few_batches;
@@ -230,9 +232,8 @@ module _ (v : Version) (p : Parts) (shape : IsInShape p.balances p) (numbers : A
 
 -- the results above, for balances that are those of the parts
 module _ (p : Parts) (b : Balances) (v : Version) (same : p.balances ≡ b) (is : p.version ≡ number_of v) where
-  pub numbers_are_consistent : (most : ℕ) → most ≡ most_credit_in v → AreConsistent p → AreConsistentNumbers most b p
-  numbers_are_consistent most limit s =
-      subst (λ m. AreConsistentNumbers m b p) (sym limit) (subst (λ b. AreConsistentNumbers (most_credit_in v) b p) same (consistent_numbers v p (consistent_at p v is s) s.next))
+  pub numbers_are_consistent : AreConsistent p → AreConsistentNumbers v b p
+  numbers_are_consistent s = subst (λ b. AreConsistentNumbers v b p) same (consistent_numbers v p (consistent_at p v is s) s.next)
 
   pub tickers_are_consistent : AreConsistent p → AreTickers p.tickers
   tickers_are_consistent s = (consistent_at p v is s).tickers
@@ -243,8 +244,8 @@ module _ (p : Parts) (b : Balances) (v : Version) (same : p.balances ≡ b) (is 
   pub needs_are_covered : AreConsistent p → CoversNeeds b (map order_of p.orders)
   needs_are_covered s = subst (λ b. CoversNeeds b (map order_of p.orders)) same (consistent_at p v is s).covered
 
-  pub market_is_consistent : (most : ℕ) → most ≡ most_credit_in v → IsInShape b p → AreConsistentNumbers most b p → AreTickers p.tickers → AreConsistentOrders v b p → CoversNeeds b (map order_of p.orders) → IsConsistent (market_of v p)
-  market_is_consistent most limit shape numbers tickers orders covered =
+  pub market_is_consistent : IsInShape b p → AreConsistentNumbers v b p → AreTickers p.tickers → AreConsistentOrders v b p → CoversNeeds b (map order_of p.orders) → IsConsistent (market_of v p)
+  market_is_consistent shape numbers tickers orders covered =
       let here : IsInShape p.balances p = subst (λ b. IsInShape b p) (sym same) shape in
-      let numbers_here : AreConsistentNumbers (most_credit_in v) p.balances p = subst (λ m. AreConsistentNumbers m p.balances p) limit (subst (λ b. AreConsistentNumbers most b p) (sym same) numbers) in
+      let numbers_here : AreConsistentNumbers v p.balances p = subst (λ b. AreConsistentNumbers v b p) (sym same) numbers in
       consistent_from v p here numbers_here tickers (subst (λ b. AreConsistentOrders v b p) (sym same) orders) (subst (λ b. CoversNeeds b (map order_of p.orders)) (sym same) covered)

@@ -6,7 +6,7 @@ use Rattle.std.proofs.lemmas.List.{take_all, take_more, length_push, length-take
 use Rattle.std.proofs.lemmas.List.Elements.{All-push}
 use Rattle.std.proofs.lemmas.List.Quantifiers.{all_pairs_push}
 use Rattle.std.proofs.lemmas.Option.{get_or_from_slice_get, slice_get-get_or}
-use Rattle.ticker_table.specs.Tickers.{IsTicker, AreTickers}
+use Rattle.ticker_table.specs.Tickers.{IsTicker, AreTickers, ticker_limit}
 use Rattle.ticker_table.specs.Adding.{IsAddable}
 use Rattle.flow_accounts.specs.Balances.{Account, with_asset, units_in}
 use Rattle.market_parts.specs.Parts.{Parts, row_of}
@@ -18,7 +18,7 @@ element_more xs ys new k x read inside taken added =
     added ∙ ap (λ zs. zs ++ x ∷ []) taken ∙ ap (λ z. take k xs ++ z ∷ []) (sym (get_or_from_slice_get xs k x x read)) ∙ sym (take_more xs k x inside)
 
 -- the next ticker can be added
-pub next_is_addable : (tickers : List (List ℕ)) (k : ℕ) (ticker : List ℕ) → AreTickers tickers → k < length tickers → slice_get tickers k ≡ Some ticker → IsAddable (take k tickers) ticker
+pub next_is_addable : (tickers : List (List ℕ)) (k : ℕ) (ticker : List ℕ) → AreTickers tickers → k < length tickers → slice_get tickers k ≡ Some ticker → IsAddable ticker_limit (take k tickers) ticker
 next_is_addable tickers k ticker are inside read =
     let at = get_or_from_slice_get tickers k ticker ticker read in
     let counted = length-take-le k tickers (omega (arith, inside)) in
@@ -32,7 +32,7 @@ next_is_addable tickers k ticker are inside read =
     }
 
 -- the tickers so far, and one that can be added
-pub tickers_more : (old : List (List ℕ)) (ticker : List ℕ) → AreTickers old → IsAddable old ticker → AreTickers (old ++ ticker ∷ [])
+pub tickers_more : (old : List (List ℕ)) (ticker : List ℕ) → AreTickers old → IsAddable ticker_limit old ticker → AreTickers (old ++ ticker ∷ [])
 tickers_more old ticker are addable = record {
   valid = All-push IsTicker old ticker are.valid addable.valid;
   distinct = all_pairs_push ◌≢◌ old ticker are.distinct (λ k d inside same. addable.absent (k, inside, get_or_default old k ticker d inside ∙ same));

@@ -4,13 +4,14 @@ use Rattle.weight_rows.specs.declared.entries.Entry.{Entry}
 use Rattle.weight_rows.specs.Rows.{IsWeightVector, IsPrice, price_of}
 use Rattle.wire_records.specs.declared.version.Version.{Version}
 use Rattle.wire_records.specs.declared.version.Version.TheVariants.{One, Two, Three, Four}
+use Rattle.wire_records.specs.declared.limits.Limits.{Limits}
+use Rattle.wire_records.specs.Limits.{limits_of}
 use Rattle.demand_curve.specs.Demand.{most_rate}
 use Rattle.flow_accounts.specs.Balances.{Balances, IsAccount, IsAsset, account_count, asset_count, grains, money_of, units_of, units_in, money_with_credit, units_with_credit, money_credit_of, unit_credit_of, total_units_of}
 use Rattle.flow_accounts.specs.Lawful.{most_accounts, most_assets, most_credit, IsMoneyTotal, IsUnitTotal}
 use Rattle.flow_accounts.specs.Sums.{money_of_all, units_of_all}
 use Rattle.flow_accounts.specs.Parts.{HasOneOfEach}
-use Rattle.flow_orders.specs.Orders.{Order, AreLimits, IsFrom1To, most_cap, most_orders, needed_money, needed_units}
-use Rattle.market_rules.specs.Market.{most_batches}
+use Rattle.flow_orders.specs.Orders.{Order, AreLimits, IsFrom1To, most_cap, needed_money, needed_units}
 use Rattle.market_parts.specs.declared.order.OrderParts.{OrderParts}
 use Rattle.market_parts.specs.Parts.{ReadOrder, Parts, numbers_of}
 
@@ -76,11 +77,12 @@ pub record IsConsistentAsset (b : Balances) (p : Parts) (asset : ℕ) : Type 0 w
   pub exchange : unsigned_abs (units_in p.exchange asset) ≤ p.batches * 2 ^ 31
   pub held : AreUnitsHeld b asset (units_in p.exchange asset)
 
--- the number that the next order gets, and how many batches and orders there are, are within their limits
-pub record HasConsistentCounts (p : Parts) : Type 0 where
+-- the number that the next order gets, and how many assets, batches and orders there are, are within their limits
+pub record HasConsistentCounts (limits : Limits) (b : Balances) (p : Parts) : Type 0 where
   pub next : (1 ≤ p.next_order) × (p.next_order < 2 ^ 63)
-  pub few_batches : p.batches ≤ most_batches
-  pub few_orders : length p.orders ≤ most_orders
+  pub few_assets : asset_count b ≤ limits.assets
+  pub few_batches : p.batches ≤ limits.batches
+  pub few_orders : length p.orders ≤ limits.orders
 
 -- what the exchange holds is within its limits, and accounts and exchange hold the totals
 pub record HasConsistentSums (b : Balances) (p : Parts) : Type 0 where
@@ -88,10 +90,10 @@ pub record HasConsistentSums (b : Balances) (p : Parts) : Type 0 where
   pub held : IsMoneyHeld b p.exchange.money
   pub assets : (asset : ℕ) → IsAsset b asset → IsConsistentAsset b p asset
 
--- all parts but tickers and orders are within their limits, and the totals are held
-pub record AreConsistentNumbers (most : ℕ) (b : Balances) (p : Parts) : Type 0 where
-  pub counts : HasConsistentCounts p
-  pub balances : AreConsistentBalances most b
+-- all parts but tickers and orders are within their limits in a version, and the totals are held
+pub record AreConsistentNumbers (version : Version) (b : Balances) (p : Parts) : Type 0 where
+  pub counts : HasConsistentCounts (limits_of version) b p
+  pub balances : AreConsistentBalances (most_credit_in version) b
   pub sums : HasConsistentSums b p
 
 -- ---- orders
@@ -122,15 +124,16 @@ pub record HasConsistentNumbers (version : Version) (b : Balances) (p : Parts) (
   pub account : IsAccount b o.account
   pub in_time : IsStillToCome version p.batches o.last
 
--- a weight vector of assets that are there
-pub record IsConsistentRow (assets : ℕ) (row : List Entry) : Type 0 where
+-- a weight vector of at most so many legs, and of assets that are there
+pub record IsConsistentRow (legs assets : ℕ) (row : List Entry) : Type 0 where
   pub lawful : IsWeightVector row
+  pub few : length row ≤ legs
   pub there : All (λ (e : Entry). e.asset < assets) row
 
 -- an order is a live one
 pub record IsConsistentOrder (version : Version) (b : Balances) (p : Parts) (o : ReadOrder) : Type 0 where
   pub numbers : HasConsistentNumbers version b p (numbers_of o)
-  pub row : IsConsistentRow (asset_count b) o.row
+  pub row : IsConsistentRow (limits_of version).legs (asset_count b) o.row
 
 -- all orders are live ones, and their numbers ascend
 pub record AreConsistentOrders (version : Version) (b : Balances) (p : Parts) : Type 0 where

@@ -4,7 +4,6 @@ ghost use Rattle.market_parts.specs.Parts.{AreConsistent};
 ghost use Rattle.market_parts.specs.Made.{AreMadeOf};
 ghost use Rattle.market_parts.specs.Tests.{IsInShape};
 
-use crate::accounts::most_credit_of;
 use crate::assets::exchange_of;
 use crate::book::book_of;
 use crate::needs::covers_needs;
@@ -50,7 +49,7 @@ pub fn read_consistent<P: MarketParts>(
         Some(version) => version,
         None => return Err(RestoreFault::Unsound),
     };
-    if !are_consistent_numbers(parts, most_credit_of(version)) {
+    if !are_consistent_numbers(parts, version) {
         return Err(RestoreFault::Unsound);
     }
     let tickers = tickers_of(alloc, parts)?;

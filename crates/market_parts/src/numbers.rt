@@ -1,45 +1,46 @@
 //! All parts but tickers and orders.
 ghost use Rattle.std.specs.Prelude.{◌≡◌, ◌≤◌, ◌^◌, ◌*◌, ◌↔◌, unsigned_abs, IsTrue};
-ghost use Rattle.flow_accounts.specs.Lawful.{AreLawful, most_credit};
+ghost use Rattle.flow_accounts.specs.Lawful.{AreLawful};
 ghost use Rattle.market_rules.specs.Market.{most_batches};
 ghost use Rattle.market_parts.specs.Tests.{IsInShape, AreConsistentNumbers, AreConsistentBalances, HasConsistentCounts, HasConsistentSums};
 
 use crate::MarketParts;
-use crate::accounts::are_consistent_balances;
+use crate::accounts::{are_consistent_balances, most_credit_of};
 use crate::assets::are_consistent_assets;
 use crate::sums::is_money_held;
-use market_rules::{MOST_BATCHES, MOST_ORDERS};
+use wire_records::{Limits, Version};
 
 // The number that the next order gets is below this.
 const NEXT_WIDTH: u64 = 1 << 63;
 
-// Returns whether all numbers are within their limits, and the totals are held.
-pub(crate) fn are_consistent_numbers<P: MarketParts>(parts: &P, most: u64) -> bool
+// Returns whether all numbers are within their limits in a version, and the totals are held.
+pub(crate) fn are_consistent_numbers<P: MarketParts>(parts: &P, version: Version) -> bool
     requires shape { IsInShape (P.balances parts.now) (P.parts parts.now) }
-    requires most { most ≤ most_credit }
-    ensures { IsTrue result ↔ AreConsistentNumbers most (P.balances parts.now) (P.parts parts.now) }
+    ensures { IsTrue result ↔ AreConsistentNumbers version (P.balances parts.now) (P.parts parts.now) }
 {
-    if !has_consistent_counts(parts) {
+    if !has_consistent_counts(parts, version.limits()) {
         return false;
     }
-    if !are_consistent_balances(parts, most) {
+    if !are_consistent_balances(parts, most_credit_of(version)) {
         return false;
     }
     has_consistent_sums(parts)
 }
 
-#[tactic(auto, using(flow_orders::proofs::Limits::orders_are))]
-fn has_consistent_counts<P: MarketParts>(parts: &P) -> bool
-    ensures { IsTrue result ↔ HasConsistentCounts (P.parts parts.now) }
+fn has_consistent_counts<P: MarketParts>(parts: &P, limits: Limits) -> bool
+    ensures { IsTrue result ↔ HasConsistentCounts limits (P.balances parts.now) (P.parts parts.now) }
 {
     let next = parts.next_number();
     if next < 1 || next >= NEXT_WIDTH {
         return false;
     }
-    if parts.batches() > MOST_BATCHES {
+    if parts.asset_count() > limits.assets {
         return false;
     }
-    parts.order_count() <= MOST_ORDERS
+    if parts.batches() > limits.batches {
+        return false;
+    }
+    parts.order_count() <= limits.orders
 }
 
 fn has_consistent_sums<P: MarketParts>(parts: &P) -> bool

@@ -28,7 +28,8 @@ pub(crate) fn live_order<P: MarketParts>(
     if !has_consistent_numbers(parts, version, order) {
         return Err(RestoreFault::Unsound);
     }
-    let row = row_at(alloc, parts, place, order.entries)?;
+    let legs = version.limits().legs;
+    let row = row_at(alloc, parts, place, order.entries, legs)?;
     Ok(Order::restore(
         order.number,
         order.account,

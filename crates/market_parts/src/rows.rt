@@ -7,22 +7,24 @@ use crate::{MarketParts, RestoreFault};
 use std::alloc::{AllocError, Global};
 use weight_rows::{Entry, EntryList, WeightRow, row_fault};
 
-// Returns the weight vector of the order at a place, or `Unsound` if it breaks a rule or names an asset that isn't there.
+// Returns the weight vector of the order at a place, or `Unsound` if it breaks a rule, has more legs than this or names an asset
+// that isn't there.
 pub(crate) fn row_at<P: MarketParts>(
     alloc: Global,
     parts: &P,
     place: u32,
     entries: u8,
+    legs: u16,
 ) -> Result<WeightRow, RestoreFault>
     requires place { place < length (P.parts parts.now).orders }
     requires entries { entries ≡ length (order_at (P.parts parts.now) place).row }
     ensures row { IfOk result (λ row. row ≡ (order_at (P.parts parts.now) place).row) }
-    ensures consistent { OnOk result (IsConsistentRow (asset_count (P.balances parts.now)) (order_at (P.parts parts.now) place).row) }
+    ensures consistent { OnOk result (IsConsistentRow legs (asset_count (P.balances parts.now)) (order_at (P.parts parts.now) place).row) }
     ensures unsound { IsErrOf result RestoreFault.Unsound →
-        ¬ IsConsistentRow (asset_count (P.balances parts.now)) (order_at (P.parts parts.now) place).row }
+        ¬ IsConsistentRow legs (asset_count (P.balances parts.now)) (order_at (P.parts parts.now) place).row }
 {
     let list = entries_at(alloc, parts, place, entries)?;
-    if !is_consistent_row(list.as_slice(), parts.asset_count()) {
+    if !is_consistent_row(list.as_slice(), legs, parts.asset_count()) {
         return Err(RestoreFault::Unsound);
     }
     Ok(WeightRow::new(list))
@@ -46,11 +48,14 @@ fn entries_at<P: MarketParts>(
     Ok(EntryList::new(list))
 }
 
-// Returns whether legs are a weight vector of assets that are there.
-fn is_consistent_row(entries: &[Entry], assets: u16) -> bool
-    ensures { IsTrue result ↔ IsConsistentRow assets entries.now }
+// Returns whether the entries are a weight vector of at most so many legs, and of assets that are there.
+fn is_consistent_row(entries: &[Entry], legs: u16, assets: u16) -> bool
+    ensures { IsTrue result ↔ IsConsistentRow legs assets entries.now }
 {
     if row_fault(entries).is_some() {
+        return false;
+    }
+    if entries.len() > usize::from(legs) {
         return false;
     }
     are_assets(entries, assets)

@@ -1,6 +1,6 @@
 //! The table of the tickers.
 ghost use Rattle.std.specs.Prelude.{◌≡◌, ◌∷◌, [], ◌++◌, IfOk, OnOk, IsErrOf};
-ghost use Rattle.ticker_table.specs.Tickers.{AreTickers};
+ghost use Rattle.ticker_table.specs.Tickers.{AreTickers, ticker_limit};
 ghost use Rattle.ticker_table.specs.Adding.{IsAddable};
 ghost use Rattle.market_parts.specs.Tests.{IsInShape};
 
@@ -27,8 +27,8 @@ pub(crate) fn tickers_of<P: MarketParts>(
 
 fn add_ticker(tickers: &mut TickerTable, ticker: [u8; 8]) -> Result<(), RestoreFault>
     ensures added { OnOk result (tickers.new ≡ tickers.old ++ ticker ∷ []) }
-    ensures addable { OnOk result (IsAddable tickers.old ticker) }
-    ensures unsound { IsErrOf result RestoreFault.Unsound → ¬ IsAddable tickers.old ticker }
+    ensures addable { OnOk result (IsAddable ticker_limit tickers.old ticker) }
+    ensures unsound { IsErrOf result RestoreFault.Unsound → ¬ IsAddable ticker_limit tickers.old ticker }
 {
     match tickers.add(ticker) {
         Ok(_) => Ok(()),

@@ -3,11 +3,11 @@ use Rattle.std.proofs.Common.{ℕ, ◌*◌, ◌^◌, ℤ, pos, ◌+ℤ◌, ◌-�
 use Rattle.std.specs.Prelude.{◌<◌, neg_ℤ, IfSome}
 use Rattle.std.proofs.lemmas.Int.{ints}
 use Rattle.std.proofs.lemmas.List.Elements.{All-nil}
-use Rattle.ticker_table.specs.Tickers.{IsTicker, ticker_limit}
+use Rattle.ticker_table.specs.Tickers.{IsTicker}
 use Rattle.flow_accounts.specs.Balances.{grains, money_of, units_of, money_credit_of, money_with_credit, total_of, no_balances}
 use Rattle.flow_accounts.specs.Lawful.{most_credit}
 use Rattle.market_rules.proofs.ByKind.{holds_totals, within_limits}
-use Rattle.flow_orders.specs.Orders.{most_orders, needed_money, needed_units}
+use Rattle.flow_orders.specs.Orders.{needed_money, needed_units}
 use Rattle.flow_orders.specs.Outcomes.{IsAdmissibleOutcome, Outcome}
 use Rattle.wire_records.specs.Commands.{Request, Command, AddAsset, OpenAccount, Deposit, Withdraw, Place, CancelOrder, RunBatch, SetCredit, Answer, Pair}
 use Rattle.wire_records.specs.declared.reply.Refusal.{Refusal}
@@ -17,6 +17,7 @@ use Rattle.market_rules.proofs.ByFirst.{Answers}
 use Rattle.wire_records.specs.declared.command.BodyFault.{BodyFault}
 use Rattle.wire_records.specs.declared.version.Version.{Version}
 use Rattle.wire_records.specs.Versions.{IsOfVersion}
+use Rattle.wire_records.specs.Limits.{limits_of}
 use Rattle.market_rules.specs.Journal.{Step, Follows}
 use Rattle.market_rules.proofs.Accepted.{past_when, past_unless, not_below, not_least, not_above}
 use Rattle.market_rules.proofs.ConsistentBalances.{consistent-money, consistent-units, consistent-money_credit, consistent-unit_credit, consistent-opened}
@@ -35,7 +36,7 @@ consistent-accepted m (AddAsset ticker) a n of consistent none accepts =
     let one = past_unless none in
     let two = past_when one.1 in
     let three = past_when two.1 in
-    subst IsConsistent (sym accepts.1) (consistent-ticker m ticker consistent one.0 two.0 (not_least ticker_limit (length m.tickers) three.0))
+    subst IsConsistent (sym accepts.1) (consistent-ticker m ticker consistent one.0 two.0 (not_least (limits_of m.version).assets (length m.tickers) three.0))
 consistent-accepted m OpenAccount a n of consistent none accepts =
     let one = past_when none in
     subst IsConsistent (sym accepts.1) (consistent-opened m consistent (not_least 65536 (length m.balances.accounts) one.0))
@@ -78,7 +79,7 @@ consistent-accepted m (CancelOrder account number) a n of consistent none accept
 consistent-accepted m (RunBatch budget) a n of consistent none accepts =
     let one = past_unless none in
     let two = past_when one.1 in
-    subst IsConsistent (sym accepts.2.1) (consistent-batch m accepts.0 budget consistent (not_least (2 ^ 24) m.batches two.0) accepts.1)
+    subst IsConsistent (sym accepts.2.1) (consistent-batch m accepts.0 budget consistent (not_least (limits_of m.version).batches m.batches two.0) accepts.1)
 consistent-accepted m (Place last r) a n of consistent none accepts =
     let one = past_unless none in
     let two = past_unless one.1 in
@@ -89,7 +90,7 @@ consistent-accepted m (Place last r) a n of consistent none accepts =
     let six = past_unless five.1 in
     let seven = past_when six.1 in
     let eight = past_unless seven.1 in
-    subst IsConsistent (sym accepts.1) (consistent-order m (placed m last r) consistent (placed_is_order m last r two.0 three.0 four.0 five.0) refl one.0 six.0 (not_least most_orders (length m.orders) seven.0) eight.0
+    subst IsConsistent (sym accepts.1) (consistent-order m (placed m last r) consistent (placed_is_order m last r two.0 three.0 four.0 five.0.0) refl one.0 five.0.1 six.0 (not_least (limits_of m.version).orders (length m.orders) seven.0) eight.0
     (in_time m last r of time.0))
 consistent-accepted m (SetCredit account None ticks) a n of consistent none accepts =
     let one = past_unless none in
@@ -127,6 +128,7 @@ consistent-empty version = record {
   totals = holds_totals (empty_market version) refl (λ asset is_asset. absurd (omega (arith, is_asset)));
   widths = record { totals = within_limits no_balances (omega (arith, ints)) (λ asset is_asset. absurd (omega (arith, is_asset))); exchange_money = omega arith; exchange_units = λ k d inside. absurd (omega (arith, inside)) };
   prices = λ k d inside. absurd (omega (arith, inside));
+  few_assets = omega arith;
   few_accounts = omega arith;
   few_orders = omega arith;
   few_batches = omega arith;

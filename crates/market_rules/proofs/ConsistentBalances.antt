@@ -1,6 +1,6 @@
 -- Deposits, withdrawals, credits and new accounts keep a market consistent.
 use Rattle.std.proofs.Common.{◌≡◌, ◌≢◌, ℕ, ◌+◌, ◌-◌, ◌≤◌, ◌<◌, ℤ, pos, ◌+ℤ◌, ◌≤ℤ◌, List, length, refl, ap, sym, subst, ⊎_elim, ◌∙◌, arith, Some, None, Option}
-use Rattle.std.specs.Prelude.{All, slice_set}
+use Rattle.std.specs.Prelude.{All, slice_set, slice_index_or}
 use Rattle.std.proofs.lemmas.Int.{ints}
 use Rattle.std.proofs.lemmas.Bool.{cases_eq, cases_lt}
 use Rattle.std.proofs.lemmas.List.{length-set, length-replicate, length_push}
@@ -12,6 +12,7 @@ use Rattle.market_rules.proofs.ByKind.{holds_totals, within_limits}
 use Rattle.flow_accounts.proofs.Grown.{lawful-no_credit}
 use Rattle.fill_caps.proofs.Needs.{own_not_negative, covers_both}
 use Rattle.wire_records.specs.declared.version.Version.TheVariants.{One}
+use Rattle.wire_records.specs.Limits.{limits_of}
 use Rattle.market_rules.proofs.Ending.{all_in_time}
 use Rattle.flow_accounts.proofs.Moves.{money_changes, units_change, accounts_open_empty}
 use Rattle.flow_orders.specs.Orders.{Order, needed_money, needed_units, money_need, unit_need}
@@ -26,13 +27,14 @@ abbrev HasUnits : ℕ → Account → Type 0
 HasUnits n a = length a.units ≡ n
 
 -- orders stay live if their accounts and assets are still there and they are still in time
-pub live_still : (m n : Market) (orders : List Order) → account_count m.balances ≤ account_count n.balances → asset_count m.balances ≤ asset_count n.balances → m.next_order ≤ n.next_order → All (IsInTime n) orders → All (IsLiveOrder m) orders → All (IsLiveOrder n) orders
-live_still m n orders accounts assets next time live k d inside =
+pub live_still : (m n : Market) (orders : List Order) → n.version ≡ m.version → account_count m.balances ≤ account_count n.balances → asset_count m.balances ≤ asset_count n.balances → m.next_order ≤ n.next_order → All (IsInTime n) orders → All (IsLiveOrder m) orders → All (IsLiveOrder n) orders
+live_still m n orders version accounts assets next time live k d inside =
     let o = live k d inside in
     record {
       order = o.order;
       numbered = (o.numbered.0, omega (arith, o.numbered.1, next));
       account = (o.account.0, omega (arith, o.account.1, accounts));
+      legs = subst (λ v. length (slice_index_or orders k d).row ≤ (limits_of v).legs) (sym version) o.legs;
       assets = λ j e within. let there = o.assets j e within in omega (arith, there, assets);
       in_time = time k d inside;
     }
@@ -50,13 +52,14 @@ consistent-balances m new consistent accounts assets one_each credits credit cov
     credits = credits;
   };
   tickers = consistent.tickers;
-  live = live_still m (with_balances m new) m.orders (omega (arith, accounts)) (omega (arith, assets)) (omega arith) (all_in_time m m.orders consistent.live) consistent.live;
+  live = live_still m (with_balances m new) m.orders refl (omega (arith, accounts)) (omega (arith, assets)) (omega arith) (all_in_time m m.orders consistent.live) consistent.live;
   ascending = consistent.ascending;
   covered = covered;
   credit = credit;
   totals = totals;
   widths = record { totals = within; exchange_money = consistent.widths.exchange_money; exchange_units = consistent.widths.exchange_units };
   prices = consistent.prices;
+  few_assets = consistent.few_assets;
   few_accounts = omega (arith, accounts, consistent.few_accounts);
   few_orders = consistent.few_orders;
   few_batches = consistent.few_batches;
@@ -209,7 +212,7 @@ consistent-opened m consistent few =
         credits = length_push b.credits (no_credit (asset_count b)) ∙ ap (λ n. n + 1) consistent.one_each.credits ∙ sym opens.accounts;
       };
       tickers = consistent.tickers;
-      live = live_still m (with_balances m new) m.orders (omega (arith, opens.accounts)) (omega arith) (omega arith) (all_in_time m m.orders consistent.live) consistent.live;
+      live = live_still m (with_balances m new) m.orders refl (omega (arith, opens.accounts)) (omega arith) (omega arith) (all_in_time m m.orders consistent.live) consistent.live;
       ascending = consistent.ascending;
       covered = covers_both new m.orders
           (λ k there.
@@ -244,6 +247,7 @@ consistent-opened m consistent few =
           (λ asset is_asset. omega (arith, ints, opens.kept.unit_sums asset, consistent.totals (Some asset) is_asset));
       widths = record { totals = within_limits new (consistent.widths.totals None tt) (λ asset is_asset. consistent.widths.totals (Some asset) is_asset); exchange_money = consistent.widths.exchange_money; exchange_units = consistent.widths.exchange_units };
       prices = consistent.prices;
+      few_assets = consistent.few_assets;
       few_accounts = omega (arith, opens.accounts, few);
       few_orders = consistent.few_orders;
       few_batches = consistent.few_batches;

@@ -15,7 +15,7 @@ use Rattle.flow_orders.specs.Excess.{price_for, residual_bound}
 use Rattle.flow_orders.specs.Outcomes.{Clearing, Fill, Outcome, Cleared, Skipped, trades_of, IsAdmissibleClearing, IsAdmissibleOutcome}
 use Rattle.flow_orders.specs.Trades.{Trade, trader, residual, residual_cost, after_fill, staying, going_on}
 use Rattle.fill_caps.specs.Settlement.{settled_balances, settled_exchange}
-use Rattle.market_rules.specs.Market.{Market, IsConsistent, IsLiveOrder, IsInTime, search_of, start_prices, most_batches}
+use Rattle.market_rules.specs.Market.{Market, IsConsistent, IsLiveOrder, IsInTime, search_of, start_prices}
 use Rattle.market_rules.specs.Step.{after_batch}
 use Rattle.fill_caps.specs.Settles.{Settles}
 use Rattle.flow_orders.proofs.TradeFacts.{IsAllowed, before_fills, after_fills, is_live}
@@ -25,6 +25,8 @@ use Rattle.flow_orders.proofs.Moved.{exchange_units_move, exchange_money_moves}
 use Rattle.fill_caps.proofs.Settled.{staying_are_live, numbers_ascend}
 use Rattle.fill_caps.proofs.SettledBalances.{settles, settled_units_count, exchange_units_count}
 use Rattle.market_rules.proofs.ByKind.{holds_totals, within_limits}
+use Rattle.wire_records.specs.Limits.{limits_of}
+use Rattle.market_rules.proofs.VersionLimits.{orders_within}
 use Rattle.market_rules.proofs.ConsistentBalances.{live_still}
 use Rattle.market_rules.proofs.ConsistentOrders.{filter_few}
 use Rattle.market_rules.proofs.OwnNeeds.{needs-filter}
@@ -41,8 +43,8 @@ difference_small : (x y : ℤ) (n p : ℕ) → unsigned_abs x ≤ n * p → unsi
 difference_small x y n p small less = omega (arith, ints, small, less)
 
 -- a live order after its fill, if it stays
-live_after : (m n : Market) (t : Trade) → account_count n.balances ≡ account_count m.balances → asset_count n.balances ≡ asset_count m.balances → n.next_order ≡ m.next_order → IsLiveOrder m t.order → (after_fill t).filled < (after_fill t).cap → IsInTime n t.order → IsLiveOrder n (after_fill t)
-live_after m n t accounts assets next live left time = record {
+live_after : (m n : Market) (t : Trade) → n.version ≡ m.version → account_count n.balances ≡ account_count m.balances → asset_count n.balances ≡ asset_count m.balances → n.next_order ≡ m.next_order → IsLiveOrder m t.order → (after_fill t).filled < (after_fill t).cap → IsInTime n t.order → IsLiveOrder n (after_fill t)
+live_after m n t version accounts assets next live left time = record {
   order = record {
     terms = record {
       low_in_range = live.order.terms.low_in_range;
@@ -58,6 +60,7 @@ live_after m n t accounts assets next live left time = record {
     row = live.order.row;
   };
   numbered = (live.numbered.0, omega (arith, live.numbered.1, next));
+  legs = subst (λ v. length t.order.row ≤ (limits_of v).legs) (sym version) live.legs;
   account = (live.account.0, omega (arith, live.account.1, accounts));
   assets = λ j e within. let there = live.assets j e within in omega (arith, there, assets);
   in_time = time;
@@ -81,7 +84,7 @@ module _ (m : Market) (c : Clearing) (ts : List Trade) (is : trades_of m.orders 
   trades_count = sym (length-map ts (λ (t : Trade). t.order)) ∙ ap length orders_before
 
   few : length ts ≤ most_orders
-  few = omega (arith, trades_count, consistent.few_orders)
+  few = omega (arith, trades_count, consistent.few_orders, orders_within m.version)
 
   prices_count : length c.prices ≡ asset_count m.balances
   prices_count = right.one_price_each ∙ length-map m.last_prices _ ∙ consistent.one_each.prices
@@ -138,7 +141,7 @@ module _ (m : Market) (c : Clearing) (ts : List Trade) (is : trades_of m.orders 
   all_live_if = All-map StaysLive after_fill ts (λ k d inside other left.
       let t = slice_index_or ts k d in
       let live = each_live k d inside in
-      live_after m after t accounts_same refl refl live left (still_in_time m after t.order refl refl other live.in_time))
+      live_after m after t refl accounts_same refl refl live left (still_in_time m after t.order refl refl other live.in_time))
 
   all_live : All (IsLiveOrder after) (going_on (m.batches + 1) (staying ts))
   all_live k d inside =
@@ -147,7 +150,7 @@ module _ (m : Market) (c : Clearing) (ts : List Trade) (is : trades_of m.orders 
       All-filter (λ (o : Order). not (o.last == m.batches + 1)) P (staying ts) staying_if k d inside (others_go_on (m.batches + 1) (staying ts) k d inside)
 
   -- the market after a cleared batch is consistent
-  pub consistent_settled : m.batches < most_batches → IsConsistent after
+  pub consistent_settled : m.batches < (limits_of m.version).batches → IsConsistent after
   consistent_settled more = record {
     one_each = record { tickers = consistent.one_each.tickers; prices = prices_count; accounts = settled_units_count c.prices ts m.balances m.exchange; exchange = exchange_units_count c.prices ts m.balances m.exchange; credits = consistent.one_each.credits ∙ sym accounts_same };
     tickers = consistent.tickers;
@@ -170,14 +173,15 @@ module _ (m : Market) (c : Clearing) (ts : List Trade) (is : trades_of m.orders 
           difference_small (units_in m.exchange asset) (residual ts asset) m.batches (2 ^ 31) before (units_move asset is_asset));
     };
     prices = right.small;
+    few_assets = consistent.few_assets;
     few_accounts = omega (arith, accounts_same, consistent.few_accounts);
-    few_orders = omega (arith, filter_few (λ (o : Order). not (o.last == m.batches + 1)) (staying ts), filter_few is_live (after_fills ts), length-map ts after_fill, few);
+    few_orders = omega (arith, filter_few (λ (o : Order). not (o.last == m.batches + 1)) (staying ts), filter_few is_live (after_fills ts), length-map ts after_fill, trades_count, consistent.few_orders);
     few_batches = omega (arith, more);
     next = consistent.next;
   }
 
 -- a batch that was skipped, whatever its trace is, keeps a market consistent
-pub consistent-skipped : (m : Market) → IsConsistent m → m.batches < most_batches → IsConsistent (record m { orders = going_on (m.batches + 1) m.orders; batches = m.batches + 1 })
+pub consistent-skipped : (m : Market) → IsConsistent m → m.batches < (limits_of m.version).batches → IsConsistent (record m { orders = going_on (m.batches + 1) m.orders; batches = m.batches + 1 })
 consistent-skipped m consistent more =
     let goes = λ (o : Order). not (o.last == m.batches + 1) in
     let kept = All-filter goes (IsLiveOrder m) m.orders consistent.live in
@@ -185,7 +189,7 @@ consistent-skipped m consistent more =
     record {
       one_each = record { tickers = consistent.one_each.tickers; prices = consistent.one_each.prices; accounts = consistent.one_each.accounts; exchange = consistent.one_each.exchange; credits = consistent.one_each.credits };
       tickers = consistent.tickers;
-      live = live_still m after (going_on (m.batches + 1) m.orders) (omega arith) (omega arith) (omega arith)
+      live = live_still m after (going_on (m.batches + 1) m.orders) refl (omega arith) (omega arith) (omega arith)
           (λ k d inside. still_in_time m after (slice_index_or (going_on (m.batches + 1) m.orders) k d) refl refl (others_go_on (m.batches + 1) m.orders k d inside) (kept k d inside).in_time) kept;
       ascending = AllPairs-filter (λ (x : Order) (y : Order). x.number < y.number) goes m.orders consistent.ascending;
       covered = needs-filter m.balances goes m.orders consistent.covered;
@@ -197,6 +201,7 @@ consistent-skipped m consistent more =
         exchange_units = λ k d inside. let before = consistent.widths.exchange_units k d inside in omega (arith, before);
       };
       prices = consistent.prices;
+      few_assets = consistent.few_assets;
       few_accounts = consistent.few_accounts;
       few_orders = omega (arith, filter_few goes m.orders, consistent.few_orders);
       few_batches = omega (arith, more);
@@ -204,6 +209,6 @@ consistent-skipped m consistent more =
     }
 
 -- a batch with an admissible outcome keeps a market consistent
-pub consistent-batch : (m : Market) (outcome : Outcome) (budget : ℕ) → IsConsistent m → m.batches < most_batches → IsAdmissibleOutcome (search_of m.version) m.orders (start_prices m) budget outcome → IsConsistent (after_batch m outcome)
+pub consistent-batch : (m : Market) (outcome : Outcome) (budget : ℕ) → IsConsistent m → m.batches < (limits_of m.version).batches → IsAdmissibleOutcome (search_of m.version) m.orders (start_prices m) budget outcome → IsConsistent (after_batch m outcome)
 consistent-batch m (Cleared c) budget consistent more right = consistent_settled m c (trades_of m.orders c.fills) refl consistent right more
 consistent-batch m (Skipped s) budget consistent more right = consistent-skipped m consistent more

@@ -9,7 +9,7 @@ use Rattle.std.proofs.lemmas.List.Elements.{All-push, All-map, All-filter, Conta
 use Rattle.std.proofs.lemmas.List.Kept.{AllPairs-filter}
 use Rattle.std.proofs.lemmas.List.Quantifiers.{all_pairs_push}
 use Rattle.weight_rows.specs.Rows.{IsPrice, IsWeightVector}
-use Rattle.ticker_table.specs.Tickers.{IsTicker, ticker_limit}
+use Rattle.ticker_table.specs.Tickers.{IsTicker}
 use Rattle.demand_curve.specs.Demand.{IsWithin, most_rate}
 use Rattle.flow_accounts.specs.Balances.{Account, IsAccount, IsAsset, asset_count, units_of, units_in, total_of, with_asset, add_asset, with_credit_place, unit_credit_of}
 use Rattle.flow_accounts.specs.Lawful.{total_limit, IsLawfulCredit}
@@ -19,11 +19,13 @@ use Rattle.fill_caps.proofs.Needs.{covers_both}
 use Rattle.market_rules.proofs.Ending.{all_in_time}
 use Rattle.flow_accounts.proofs.Moves.{assets_start_at_zero}
 use Rattle.flow_accounts.proofs.ListLemmas.{get_or-push_same}
-use Rattle.flow_orders.specs.Orders.{most_orders, Order, IsOrder, most_cap, price_of_ticks, unit_need, AreLimits, IsFrom1To}
+use Rattle.flow_orders.specs.Orders.{Order, IsOrder, most_cap, price_of_ticks, unit_need, AreLimits, IsFrom1To}
 use Rattle.wire_records.specs.Commands.{Request}
 use Rattle.market_rules.specs.Market.{Market, IsConsistent, IsLiveOrder, IsInTime, IsNoCredit, held_balance}
 use Rattle.market_rules.proofs.Made.{with_ticker, with_order, without_order}
 use Rattle.market_rules.specs.Step.{placed, IsAffordable}
+use Rattle.wire_records.specs.Limits.{limits_of}
+use Rattle.market_rules.proofs.VersionLimits.{assets_within}
 use Rattle.market_rules.proofs.Lawful.{consistent_is_lawful}
 use Rattle.market_rules.proofs.ConsistentBalances.{live_still}
 use Rattle.market_rules.proofs.OwnNeeds.{own_sum-zeros, weight_above, needs-filter, needs-push}
@@ -33,7 +35,7 @@ units_pushed : (n : ℕ) (a : Account) → length a.units ≡ n → length (with
 units_pushed n a count = length_push a.units (pos 0) ∙ ap (λ k. k + 1) count
 
 -- an asset is added
-pub consistent-ticker : (m : Market) (ticker : List ℕ) → IsConsistent m → IsTicker ticker → (Contains m.tickers ticker → ⊥) → length m.tickers < ticker_limit → IsConsistent (with_ticker m ticker)
+pub consistent-ticker : (m : Market) (ticker : List ℕ) → IsConsistent m → IsTicker ticker → (Contains m.tickers ticker → ⊥) → length m.tickers < (limits_of m.version).assets → IsConsistent (with_ticker m ticker)
 consistent-ticker m ticker consistent valid absent few =
     let b = m.balances in
     let new = add_asset b in
@@ -52,9 +54,9 @@ consistent-ticker m ticker consistent valid absent few =
       tickers = record {
         valid = All-push IsTicker m.tickers ticker consistent.tickers.valid valid;
         distinct = all_pairs_push ◌≢◌ m.tickers ticker consistent.tickers.distinct (λ k d inside same. absent (subst (λ t. Contains m.tickers t) same (Contains-get_or m.tickers k d inside)));
-        few = omega (arith, length_push m.tickers ticker, few);
+        few = omega (arith, length_push m.tickers ticker, few, assets_within m.version);
       };
-      live = live_still m (with_ticker m ticker) m.orders (omega (arith, adds.accounts)) (omega (arith, one_more)) (omega arith) (all_in_time m m.orders consistent.live) consistent.live;
+      live = live_still m (with_ticker m ticker) m.orders refl (omega (arith, adds.accounts)) (omega (arith, one_more)) (omega arith) (all_in_time m m.orders consistent.live) consistent.live;
       ascending = consistent.ascending;
       covered = covers_both new m.orders
           (λ k there.
@@ -104,6 +106,7 @@ consistent-ticker m ticker consistent valid absent few =
         exchange_units = All-push (λ units. unsigned_abs units ≤ m.batches * 2 ^ 31) m.exchange.units (pos 0) consistent.widths.exchange_units (omega arith);
       };
       prices = All-push IsPrice m.last_prices (pos 0) consistent.prices (omega arith);
+      few_assets = omega (arith, length_push m.tickers ticker, few);
       few_accounts = omega (arith, adds.accounts, consistent.few_accounts);
       few_orders = consistent.few_orders;
       few_batches = consistent.few_batches;
@@ -142,18 +145,19 @@ placed_is_order m last r limits rate cap row = record {
   row = row;
 }
 
-pub consistent-order : (m : Market) (o : Order) → IsConsistent m → IsOrder o → o.number ≡ m.next_order → IsAccount m.balances o.account → All (λ e. IsAsset m.balances e.asset) o.row → length m.orders < most_orders → IsAffordable m o → IsInTime m o → IsConsistent (with_order m o)
-consistent-order m o consistent order number account assets few affordable time = record {
+pub consistent-order : (m : Market) (o : Order) → IsConsistent m → IsOrder o → o.number ≡ m.next_order → IsAccount m.balances o.account → length o.row ≤ (limits_of m.version).legs → All (λ e. IsAsset m.balances e.asset) o.row → length m.orders < (limits_of m.version).orders → IsAffordable m o → IsInTime m o → IsConsistent (with_order m o)
+consistent-order m o consistent order number account legs assets few affordable time = record {
   one_each = record { tickers = consistent.one_each.tickers; prices = consistent.one_each.prices; accounts = consistent.one_each.accounts; exchange = consistent.one_each.exchange; credits = consistent.one_each.credits };
   tickers = consistent.tickers;
-  live = All-push (IsLiveOrder (with_order m o)) m.orders o (live_still m (with_order m o) m.orders (omega arith) (omega arith) (omega arith) (all_in_time m m.orders consistent.live) consistent.live)
-      (record { order = order; numbered = (omega (arith, number, consistent.next), omega (arith, number)); account = account; assets = assets; in_time = time });
+  live = All-push (IsLiveOrder (with_order m o)) m.orders o (live_still m (with_order m o) m.orders refl (omega arith) (omega arith) (omega arith) (all_in_time m m.orders consistent.live) consistent.live)
+      (record { order = order; numbered = (omega (arith, number, consistent.next), omega (arith, number)); account = account; legs = legs; assets = assets; in_time = time });
   ascending = all_pairs_push (λ (x : Order) (y : Order). x.number < y.number) m.orders o consistent.ascending (λ k d inside. let l = consistent.live k d inside in omega (arith, l.numbered.1, number));
   covered = needs-push m.balances m.orders o consistent.covered affordable;
   credit = record { lawful = consistent.credit.lawful; none = consistent.credit.none };
   totals = consistent.totals;
   widths = record { totals = consistent.widths.totals; exchange_money = consistent.widths.exchange_money; exchange_units = consistent.widths.exchange_units };
   prices = consistent.prices;
+  few_assets = consistent.few_assets;
   few_accounts = consistent.few_accounts;
   few_orders = omega (arith, length_push m.orders o, few);
   few_batches = consistent.few_batches;
@@ -167,13 +171,14 @@ consistent-without m number consistent =
     record {
       one_each = record { tickers = consistent.one_each.tickers; prices = consistent.one_each.prices; accounts = consistent.one_each.accounts; exchange = consistent.one_each.exchange; credits = consistent.one_each.credits };
       tickers = consistent.tickers;
-      live = live_still m (without_order m number) (filter stays m.orders) (omega arith) (omega arith) (omega arith) (all_in_time m (filter stays m.orders) (All-filter stays (IsLiveOrder m) m.orders consistent.live)) (All-filter stays (IsLiveOrder m) m.orders consistent.live);
+      live = live_still m (without_order m number) (filter stays m.orders) refl (omega arith) (omega arith) (omega arith) (all_in_time m (filter stays m.orders) (All-filter stays (IsLiveOrder m) m.orders consistent.live)) (All-filter stays (IsLiveOrder m) m.orders consistent.live);
       ascending = AllPairs-filter (λ (x : Order) (y : Order). x.number < y.number) stays m.orders consistent.ascending;
       covered = needs-filter m.balances stays m.orders consistent.covered;
       credit = record { lawful = consistent.credit.lawful; none = consistent.credit.none };
       totals = consistent.totals;
       widths = record { totals = consistent.widths.totals; exchange_money = consistent.widths.exchange_money; exchange_units = consistent.widths.exchange_units };
       prices = consistent.prices;
+      few_assets = consistent.few_assets;
       few_accounts = consistent.few_accounts;
       few_orders = omega (arith, filter_few stays m.orders, consistent.few_orders);
       few_batches = consistent.few_batches;

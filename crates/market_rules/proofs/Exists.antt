@@ -9,7 +9,7 @@ use Rattle.wire_records.specs.declared.reply.Reply.TheVariants.{Refused}
 use Rattle.market_rules.specs.Market.{Market}
 use Rattle.market_rules.specs.Step.{NoOutcome, ServesPlain, ◌when◌else◌, ◌unless◌else◌, accept, FirstRefusal, Accepts, placed}
 use Rattle.demand_curve.specs.Demand.{most_rate}
-use Rattle.market_rules.proofs.Decided.{Either, either_le, either_eq, either_lt_z, either_account, either_kind, either_from_1, either_limits, either_row, either_assets, either_affordable, either_order, either_taken, either_ticker}
+use Rattle.market_rules.proofs.Decided.{Either, either_both, either_le, either_eq, either_lt_z, either_account, either_kind, either_from_1, either_limits, either_row, either_assets, either_affordable, either_order, either_taken, either_ticker}
 
 -- ---- the first refusal
 
@@ -42,7 +42,7 @@ first_is_there m (CancelOrder account number) = has_unless _ _ _ (either_account
 first_is_there m (RunBatch budget) = has_unless _ _ _ (either_from_1 most_budget budget) (has_when _ _ _ (either_le _ _) has_accept)
 first_is_there m (Place last r) =
     has_unless _ _ _ (either_account m.balances r.account) (has_unless _ _ _ (either_limits r.low r.high) (has_unless _ _ _ (either_from_1 most_rate r.rate)
-    (has_unless _ _ _ (either_from_1 most_cap r.cap) (has_unless _ _ _ (either_later m last) (has_unless _ _ _ (either_row r.row) (has_unless _ _ _ (either_assets m.balances r.row)
+    (has_unless _ _ _ (either_from_1 most_cap r.cap) (has_unless _ _ _ (either_later m last) (has_unless _ _ _ (either_both (either_row r.row) (either_le _ _)) (has_unless _ _ _ (either_assets m.balances r.row)
     (has_when _ _ _ (either_le _ _) (has_unless _ _ _ (either_affordable m (placed m last r)) has_accept))))))))
 first_is_there m (SetCredit account kind count) =
     has_unless _ _ _ (either_account m.balances account) (has_unless _ _ _ (either_kind m.balances kind) (has_when _ _ _ (either_le _ _) (has_when _ _ _ (either_lt_z _ _) has_accept)))

@@ -5,6 +5,7 @@ mod Ending
 pub mod Exists
 mod Fills
 mod HeldTotals
+pub mod VersionLimits
 pub mod LawProofs
 pub mod Lawful
 mod Made

@@ -8,7 +8,7 @@ use Rattle.wire_records.specs.declared.version.Version.TheVariants.{One}
 use Rattle.wire_records.specs.Versions.{most_tag}
 use Rattle.flow_orders.specs.Outcomes.{Outcome, BatchRule, Cleared, Skipped}
 use Rattle.market_rules.specs.Market.{Market, parts_of}
-use Rattle.market_rules.specs.Step.{Accepts, ServesRead, after_batch}
+use Rattle.market_rules.specs.Step.{Accepts, Serves, ServesRead, after_batch}
 use Rattle.market_rules.proofs.ByFirst.{Answers}
 use Rattle.market_rules.specs.Journal.{Step, Follows}
 
@@ -38,8 +38,12 @@ module _ (Rule : BatchRule) where
   answered_version m c (Some refusal) a n answers = ap (λ (x : Market). x.version) answers.1
   answered_version m c None a n answers = accepted_version m c a n answers
 
+  -- a command that is served keeps the version
+  pub served_version : (m : Market) (c : Command) (a : Answer Outcome) (n : Market) → Serves Rule m c a n → n.version ≡ m.version
+  served_version m c a n served = answered_version m c served.first a n served.answered
+
   read_version : (m : Market) (read : Result Command BodyFault) (a : Answer Outcome) (n : Market) → ServesRead Rule m read a n → n.version ≡ m.version
-  read_version m (Ok c) a n served = answered_version m c served.first a n served.answered
+  read_version m (Ok c) a n served = served_version m c a n served
   read_version m (Err why) a n served = ap (λ (x : Market). x.version) served.1
 
   module _ {R : Type 0} (Reads : Version → R → Result Command BodyFault → Type 0) where

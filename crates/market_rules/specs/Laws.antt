@@ -1,6 +1,7 @@
 -- What holds of steps, journals and markets.
 use Rattle.std.specs.Prelude.{◌≡◌, ◌≢◌, ◌⊎◌, ℕ, ◌+◌, ◌*◌, ◌^◌, ◌<◌, ◌≤◌, ℤ, pos, ◌+ℤ◌, ◌<ℤ◌, ◌≤ℤ◌, Bool, Option, List, ◌∷◌, ◌++◌, length, map, All, Contains}
 use Rattle.std.specs.List.{filter}
+use Rattle.weight_rows.specs.Rows.{most_entries}
 use Rattle.ticker_table.specs.Tickers.{ticker_limit}
 use Rattle.flow_accounts.specs.Balances.{Balances, IsAccount, IsKind, balance_of, credit_of, credit_in}
 use Rattle.fill_caps.specs.Covers.{CoversNeeds}
@@ -10,15 +11,17 @@ use Rattle.wire_records.specs.Commands.{Command, RunBatch, Answer, Plain, Batch,
 use Rattle.wire_records.specs.Versions.{IsReadAs}
 use Rattle.wire_records.specs.declared.version.Version.{Version}
 use Rattle.wire_records.specs.declared.version.Version.TheVariants.{One}
+use Rattle.wire_records.specs.declared.limits.Limits.{Limits}
+use Rattle.wire_records.specs.Limits.{limits_of}
 use Rattle.wire_records.specs.declared.reply.Refusal.{Refusal}
 use Rattle.wire_records.specs.declared.reply.Reply.TheVariants.{Refused}
-use Rattle.flow_orders.specs.Orders.{Order, most_ticks}
+use Rattle.flow_orders.specs.Orders.{Order, most_orders, most_ticks}
 use Rattle.flow_orders.specs.Outcomes.{Outcome, Fill, Clearing, Cleared, Skipping, Skipped, dual_of, trades_of, IsAdmissibleOutcome}
 use Rattle.flow_orders.specs.Trades.{staying, going_on}
 use Rattle.flow_orders.specs.Duals.{movement_of}
 use Rattle.flow_orders.specs.Welfare.{IsOptimalWithin}
 use Rattle.flow_orders.specs.Residuals.{most_prices}
-use Rattle.market_rules.specs.Market.{Market, empty_market, IsConsistent, parts_of, start_prices, held_balance, free_balance, usable_balance}
+use Rattle.market_rules.specs.Market.{Market, most_batches, empty_market, IsConsistent, parts_of, start_prices, held_balance, free_balance, usable_balance}
 use Rattle.market_rules.specs.Step.{Serves, ServesPlain, after_batch}
 use Rattle.market_rules.specs.Journal.{Step, Follows, Places, fills_of}
 use Rattle.market_rules.specs.Deposits.{AddTogether, HoldsDeposits}
@@ -156,11 +159,20 @@ pub record SequencesCompose : Type 0 where
   pub apart : (old new : Market) (pairs more : List (Pair Record Outcome)) → Leads old (pairs ++ more) new
       → (mid : Market) × Leads old pairs mid × Leads mid more new
 
--- limits that two crates define, each under its own name, agree: as many tickers and prices as assets, and the range of limit prices
+-- what a version allows is within the greatest limits, for which all widths are made
+pub record IsWithinGreatest (limits : Limits) : Type 0 where
+  pub assets : limits.assets ≤ most_assets
+  pub legs : limits.legs ≤ most_entries
+  pub orders : limits.orders ≤ most_orders
+  pub batches : limits.batches ≤ most_batches
+
+-- limits that two crates define, each under its own name, agree: as many tickers and prices as assets, and the range of limit prices; and
+-- those of each version are within them
 pub record LimitsAgree : Type 0 where
   pub assets : ticker_limit ≡ most_assets
   pub prices : most_prices ≡ most_assets
   pub ticks : 2 ^ 32 * most_ticks ≡ 2 ^ 60
+  pub versions : (version : Version) → IsWithinGreatest (limits_of version)
 
 -- a step gives out at most one order number, even if any admissible outcome of a batch is accepted
 abbrev pub LegalStepsNumberOne : Type 0

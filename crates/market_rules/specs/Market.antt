@@ -1,18 +1,20 @@
 -- The market: what is kept from one command to the next, and the invariant that holds of it at all times.
 use Rattle.std.specs.Prelude.{◌≡◌, ◌≢◌, ◌⊎◌, ℕ, ◌*◌, ◌^◌, ◌<◌, ◌≤◌, ℤ, pos, neg_ℤ, ◌+ℤ◌, ◌-ℤ◌, ◌≤ℤ◌, unsigned_abs, List, [], map, length, All, AllPairs, Option, true, false}
 use Rattle.std.specs.Int.{int_min, int_max}
-use Rattle.weight_rows.specs.Rows.{IsPrice}
+use Rattle.weight_rows.specs.declared.entries.Entry.{Entry}
+use Rattle.weight_rows.specs.Rows.{IsPrice, IsWeightVector}
 use Rattle.ticker_table.specs.Tickers.{AreTickers}
 use Rattle.wire_records.specs.declared.version.Version.{Version}
 use Rattle.wire_records.specs.declared.version.Version.TheVariants.{One, Two, Three, Four}
+use Rattle.wire_records.specs.Limits.{limits_of}
 use Rattle.flow_accounts.specs.Balances.{Account, Credit, Balances, IsAccount, IsAsset, IsKind, account_count, asset_count, balance_in, balance_of, balance_with_credit, total_of, no_balances, empty_account}
 use Rattle.flow_accounts.specs.Lawful.{most_accounts, total_limit, IsLawfulCredit}
 use Rattle.flow_accounts.specs.Sums.{balance_of_all}
-use Rattle.flow_orders.specs.Orders.{Order, IsOrder, most_orders, needed}
+use Rattle.flow_orders.specs.Orders.{Order, IsOrder, needed}
 use Rattle.flow_orders.specs.declared.search.Search.{Search}
 use Rattle.fill_caps.specs.Covers.{CoversNeeds}
 
--- the most batches that a market holds
+-- the most batches that a market of any version holds, for which all widths are made
 abbrev pub most_batches : ℕ
 most_batches = 2 ^ 24
 
@@ -48,6 +50,10 @@ search_of Four = record { parts = 256; joint = true }
 abbrev pub parts_of : Version → ℕ
 parts_of version = (search_of version).parts
 
+-- a weight vector that has no more legs than an order of the version may have
+abbrev pub IsRowOf : Version → List Entry → Type 0
+IsRowOf version row = IsWeightVector row × (length row ≤ (limits_of version).legs)
+
 -- the prices at which the search of a batch starts, in grains: the last prices, cut
 abbrev pub start_prices : Market → List ℤ
 start_prices market = map cut_price market.last_prices
@@ -76,12 +82,13 @@ pub record HasOneEach (m : Market) : Type 0 where
 abbrev pub IsInTime : Market → Order → Type 0
 IsInTime m o = (o.last ≡ 0) ⊎ ((m.version ≢ One) × (m.batches < o.last))
 
--- a live order of a market: it is within its limits, its number was given out, its account and its assets exist, and its last
--- batch, if it has one, is still to come
+-- a live order of a market: it is within its limits and has no more legs than its version allows, its number was given out, its
+-- account and its assets exist, and its last batch, if it has one, is still to come
 pub record IsLiveOrder (m : Market) (o : Order) : Type 0 where
   pub order : IsOrder o
   pub numbered : (1 ≤ o.number) × (o.number < m.next_order)
   pub account : IsAccount m.balances o.account
+  pub legs : length o.row ≤ (limits_of m.version).legs
   pub assets : All (λ e. IsAsset m.balances e.asset) o.row
   pub in_time : IsInTime m o
 
@@ -116,7 +123,8 @@ pub record IsConsistent (m : Market) : Type 0 where
   pub totals : HoldsTotals m
   pub widths : IsWithinWidths m
   pub prices : All IsPrice m.last_prices
+  pub few_assets : length m.tickers ≤ (limits_of m.version).assets
   pub few_accounts : account_count m.balances ≤ most_accounts
-  pub few_orders : length m.orders ≤ most_orders
-  pub few_batches : m.batches ≤ most_batches
+  pub few_orders : length m.orders ≤ (limits_of m.version).orders
+  pub few_batches : m.batches ≤ (limits_of m.version).batches
   pub next : 1 ≤ m.next_order

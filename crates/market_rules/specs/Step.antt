@@ -1,7 +1,7 @@
 -- One step of the market: the first refusal of a command, or the answer to the accepted command and the market after it. Which
 -- outcomes a batch may have is a parameter, a rule: any admissible outcome, or the program's canonical one.
 use Rattle.std.specs.Prelude.{◌≡◌, ℕ, ◌+◌, ◌<◌, ◌≤◌, pos, neg_ℤ, ◌+ℤ◌, ◌≤ℤ◌, ◌<ℤ◌, [], ◌∷◌, ◌++◌, length, ◌⊎◌, Option, Some, None, unwrap_or, IfSome, MatchOption, Result, Ok, Err, All, Contains}
-use Rattle.weight_rows.specs.Rows.{IsWeightVector}
+use Rattle.wire_records.specs.Limits.{limits_of}
 use Rattle.wire_records.specs.Commands.{Request, Command, AddAsset, OpenAccount, Deposit, Withdraw, Place, CancelOrder, RunBatch, SetCredit, Answer, Plain, Batch}
 use Rattle.wire_records.specs.declared.reply.Reply.TheVariants as reply
 use Rattle.wire_records.specs.declared.reply.Refusal.{Refusal}
@@ -9,15 +9,15 @@ use Rattle.wire_records.specs.declared.reply.Refusal.TheVariants.{AssetLimit, Ti
 use Rattle.wire_records.specs.declared.reply.Refusal.TheVariants as refusals
 use Rattle.wire_records.specs.declared.command.BodyFault.{BodyFault}
 use Rattle.wire_records.specs.declared.command.BodyFault.TheVariants as fault
-use Rattle.ticker_table.specs.Tickers.{IsTicker, ticker_limit}
+use Rattle.ticker_table.specs.Tickers.{IsTicker}
 use Rattle.demand_curve.specs.Demand.{most_rate}
 use Rattle.flow_accounts.specs.Balances.{IsAccount, IsAsset, IsKind, account_count, total_of, value_of, with_asset, add_asset, open_account, change_balance, set_credit}
 use Rattle.flow_accounts.specs.Lawful.{most_accounts, most_credit, total_limit}
-use Rattle.flow_orders.specs.Orders.{Order, most_orders, most_cap, AreLimits, IsFrom1To, price_of_ticks, need_of}
+use Rattle.flow_orders.specs.Orders.{Order, most_cap, AreLimits, IsFrom1To, price_of_ticks, need_of}
 use Rattle.flow_orders.specs.Outcomes.{Outcome, BatchRule, Cleared, Skipped, trades_of, most_budget}
 use Rattle.flow_orders.specs.Trades.{staying, going_on}
 use Rattle.order_book.specs.Book.{HasOrder, without}
-use Rattle.market_rules.specs.Market.{Market, most_batches, start_prices, free_balance, usable_balance, search_of}
+use Rattle.market_rules.specs.Market.{Market, IsRowOf, start_prices, free_balance, usable_balance, search_of}
 use Rattle.fill_caps.specs.Settlement.{settled_balances, settled_exchange}
 
 -- ---- refusals
@@ -64,7 +64,7 @@ abbrev pub FirstRefusal : Market → Command → Option Refusal → Type 0
 FirstRefusal m (AddAsset ticker) =
     BadTicker unless IsTicker ticker else
     TickerTaken when Contains m.tickers ticker else
-    AssetLimit when ticker_limit ≤ length m.tickers else accept
+    AssetLimit when (limits_of m.version).assets ≤ length m.tickers else accept
 FirstRefusal m OpenAccount =
     AccountLimit when most_accounts ≤ account_count m.balances else accept
 FirstRefusal m (Deposit account kind count) =
@@ -83,16 +83,16 @@ FirstRefusal m (Place last r) =
     BadRate unless IsFrom1To most_rate r.rate else
     BadCap unless IsFrom1To most_cap r.cap else
     BadLast unless IfSome last (λ batch. m.batches < batch) else
-    BadRow unless IsWeightVector r.row else
+    BadRow unless IsRowOf m.version r.row else
     NoAsset unless All (λ e. IsAsset m.balances e.asset) r.row else
-    OrderLimit when most_orders ≤ length m.orders else
+    OrderLimit when (limits_of m.version).orders ≤ length m.orders else
     NotFree unless IsAffordable m (ordered m.next_order last r) else accept
 FirstRefusal m (CancelOrder account number) =
     NoAccount unless IsAccount m.balances account else
     NoOrder unless HasOrder m.orders account number else accept
 FirstRefusal m (RunBatch budget) =
     BadBudget unless IsFrom1To most_budget budget else
-    BatchLimit when most_batches ≤ m.batches else accept
+    BatchLimit when (limits_of m.version).batches ≤ m.batches else accept
 FirstRefusal m (SetCredit account kind count) =
     NoAccount unless IsAccount m.balances account else
     NoAsset unless IsKind m.balances kind else

@@ -246,9 +246,9 @@ module _ (tickers : List (List ℕ)) (d : Data) where
   ladder_refused version word Memory none = tt
 
 -- a ladder's commands leave the tickers as they are
-leaves_none : (tickers : List (List ℕ)) (l : Ladder) (account : ℕ) (row : List Entry) (segments : List Segment) → Leave tickers (map (Place None) (map (request_of account row) segments)) tickers
-leaves_none tickers l account row [] = refl
-leaves_none tickers l account row (s ∷ segments) = (tickers, inr ((λ ticker adds. absurd (let same = adds.0 in cc)), refl), leaves_none tickers l account row segments)
+leaves_none : (version : Version) (tickers : List (List ℕ)) (l : Ladder) (account : ℕ) (row : List Entry) (segments : List Segment) → Leave version tickers (map (Place None) (map (request_of account row) segments)) tickers
+leaves_none version tickers l account row [] = refl
+leaves_none version tickers l account row (s ∷ segments) = (tickers, inr ((λ ticker adds. absurd (let same = adds.0 in cc)), refl), leaves_none version tickers l account row segments)
 
 -- the answer to a line is that for its value
 pub line_asked : (version : Version) (tickers : List (List ℕ)) (line : List ℕ) (d : Data) (answer : Result LineRead LineFault) → (¬ IsBlank line) → IsUtf8 line → read line ≡ Some d → AnswersObject version tickers d answer → IsAskedAs version tickers line answer
@@ -265,12 +265,12 @@ line_asked version tickers line d (Err NoCommand) written utf8 reads none = reco
 line_asked version tickers line d (Err Memory) written utf8 reads asked = written
 
 -- the tickers after a line that was asked
-pub line_read : (version : Version) (tickers after : List (List ℕ)) (line : List ℕ) (lr : LineRead) → IsAskedAs version tickers line (Ok lr) → AreAfter tickers lr after → IsLineRead version tickers line after (Ok lr)
+pub line_read : (version : Version) (tickers after : List (List ℕ)) (line : List ℕ) (lr : LineRead) → IsAskedAs version tickers line (Ok lr) → AreAfter version tickers lr after → IsLineRead version tickers line after (Ok lr)
 line_read version tickers after line line_is.Blank asked leaves = (asked, leaves)
 line_read version tickers after line (line_is.Asks command) asked leaves = record { asks = asked; leaves = (after, leaves, refl) }
 line_read version tickers after line (line_is.Many commands) asked leaves = record {
   asks = asked;
-  leaves = rw (leaves, asked.asks.commands_are) (leaves_none tickers asked.asks.ladder asked.asks.account asked.asks.row (segments_of asked.asks.ladder));
+  leaves = rw (leaves, asked.asks.commands_are) (leaves_none version tickers asked.asks.ladder asked.asks.account asked.asks.row (segments_of asked.asks.ladder));
 }
 
 -- a ticker that a line asks for wasn't added

@@ -87,19 +87,19 @@ ticker_is : (a b : List ℕ) → AddAsset a ≡ AddAsset b → a ≡ b
 ticker_is a b same = cc
 
 -- a command leaves one table
-one_after : (tickers : List (List ℕ)) (command : Command) (after other : List (List ℕ)) → Leaves tickers command after → Leaves tickers command other → after ≡ other
-one_after tickers command after other (inl a) (inl b) =
+one_after : (version : Version) (tickers : List (List ℕ)) (command : Command) (after other : List (List ℕ)) → Leaves version tickers command after → Leaves version tickers command other → after ≡ other
+one_after version tickers command after other (inl a) (inl b) =
     let ticker = ticker_is a.0 b.0 (sym a.1.0 ∙ b.1.0) in
     a.2 ∙ ap (λ (t : List ℕ). tickers ++ t ∷ []) ticker ∙ sym b.2
-one_after tickers command after other (inl a) (inr b) = absurd (b.0 a.0 a.1)
-one_after tickers command after other (inr a) (inl b) = absurd (a.0 b.0 b.1)
-one_after tickers command after other (inr a) (inr b) = a.1 ∙ sym b.1
+one_after version tickers command after other (inl a) (inr b) = absurd (b.0 a.0 a.1)
+one_after version tickers command after other (inr a) (inl b) = absurd (a.0 b.0 b.1)
+one_after version tickers command after other (inr a) (inr b) = a.1 ∙ sym b.1
 
 pub one_table : OneTable
-one_table tickers [] after other a b = a ∙ sym b
-one_table tickers (command ∷ commands) after other a b =
-    let same = one_after tickers command a.0 b.0 a.1 b.1 in
-    one_table b.0 commands after other (subst (λ t. Leave t commands after) same a.2) b.2
+one_table version tickers [] after other a b = a ∙ sym b
+one_table version tickers (command ∷ commands) after other a b =
+    let same = one_after version tickers command a.0 b.0 a.1 b.1 in
+    one_table version b.0 commands after other (subst (λ t. Leave version t commands after) same a.2) b.2
 
 -- the value at a key, as an equation
 abbrev Gives : List (List ℕ) → Data → List ℕ → Value → Type 0
@@ -184,7 +184,7 @@ one_thing version tickers line a b x y = one_value version tickers x.value y.val
 pub one_saying : OneSaying
 one_saying version tickers line a b after other x y =
     let same = one_thing version tickers line a b x.asks y.asks in
-    (same, one_table tickers (commands_of b) after other (subst (λ asked. Leave tickers (commands_of asked) after) same x.leaves) y.leaves)
+    (same, one_table version tickers (commands_of b) after other (subst (λ asked. Leave version tickers (commands_of asked) after) same x.leaves) y.leaves)
 
 pub one_answer : OneSaying → (version : Version) (tickers : List (List ℕ)) (line : List ℕ) (a b : Answer) (after other : List (List ℕ)) → a ≢ may_run_out → b ≢ may_run_out
     → IsLineRead version tickers line after a → IsLineRead version tickers line other b → (a ≡ b) × (after ≡ other)
@@ -217,14 +217,14 @@ one_answer one version tickers line (Err NoCommand) (Err Memory) after other x y
 one_answer one version tickers line (Err Memory) b after other x y p q = absurd (x refl)
 
 -- a command isn't without tickers that it leaves
-some_after : (tickers : List (List ℕ)) (command : Command) → ((after : List (List ℕ)) → Leaves tickers command after → ⊥) → ⊥
-some_after tickers command none = none tickers (inr (λ ticker adds. none (tickers ++ ticker ∷ []) (inl (ticker, adds, refl)), refl))
+some_after : (version : Version) (tickers : List (List ℕ)) (command : Command) → ((after : List (List ℕ)) → Leaves version tickers command after → ⊥) → ⊥
+some_after version tickers command none = none tickers (inr (λ ticker adds. none (tickers ++ ticker ∷ []) (inl (ticker, adds, refl)), refl))
 
 -- several commands aren't without tickers that they leave
-some_after_all : (tickers : List (List ℕ)) (commands : List Command) → ((after : List (List ℕ)) → Leave tickers commands after → ⊥) → ⊥
-some_after_all tickers [] none = none tickers refl
-some_after_all tickers (command ∷ commands) none =
-    some_after tickers command (λ next leaves. some_after_all next commands (λ after rest. none after (next, leaves, rest)))
+some_after_all : (version : Version) (tickers : List (List ℕ)) (commands : List Command) → ((after : List (List ℕ)) → Leave version tickers commands after → ⊥) → ⊥
+some_after_all version tickers [] none = none tickers refl
+some_after_all version tickers (command ∷ commands) none =
+    some_after version tickers command (λ next leaves. some_after_all version next commands (λ after rest. none after (next, leaves, rest)))
 
 abbrev is_wanting : Answer → Bool
 is_wanting (Ok read) = false
@@ -239,7 +239,7 @@ none_is_unanswered version tickers line none =
     none tickers (Err NoCommand) (told (Err NoCommand) refl) (
       record {
         written = λ blank. none tickers (Ok Blank) (told (Ok Blank) refl) (blank, refl);
-        no_command = λ asked asks. some_after_all tickers (commands_of asked) (λ after leaves. answered asked after (record { asks = asks; leaves = leaves }));
+        no_command = λ asked asks. some_after_all version tickers (commands_of asked) (λ after leaves. answered asked after (record { asks = asks; leaves = leaves }));
       },
       refl,
     )

@@ -32,7 +32,7 @@ CommandsFit =
 
 -- there is at most one table of tickers after given commands
 abbrev pub OneTable : Type 0
-OneTable = (tickers : List (List ℕ)) (commands : List Command) (after other : List (List ℕ)) → Leave tickers commands after → Leave tickers commands other → after ≡ other
+OneTable = (version : Version) (tickers : List (List ℕ)) (commands : List Command) (after other : List (List ℕ)) → Leave version tickers commands after → Leave version tickers commands other → after ≡ other
 
 -- unless memory runs out, a line has at most one answer, and there is one table of tickers after it
 abbrev pub OneAnswer : Type 0

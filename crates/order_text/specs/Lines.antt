@@ -10,6 +10,7 @@ use Rattle.serde_json.specs.Events.{members_len}
 use Rattle.serde_json.specs.Find.{get, as_str, as_number, as_u64, as_i64, as_array, as_object}
 use Rattle.wire_records.specs.Commands.{Request, Command, AddAsset, OpenAccount, Deposit, Withdraw, Place, CancelOrder, RunBatch, SetCredit}
 use Rattle.wire_records.specs.Versions.{IsOfVersion}
+use Rattle.wire_records.specs.Limits.{limits_of}
 use Rattle.wire_records.specs.declared.version.Version.{Version}
 use Rattle.ticker_table.specs.Adding.{IsAddable}
 use Rattle.curve_ladder.specs.declared.points.Point.{Point}
@@ -160,24 +161,24 @@ pub record LineAsks (version : Version) (tickers : List (List ℕ)) (line : List
   pub reads : read line ≡ Some value
   pub asks : ObjectAsks version tickers value asked
 
--- a command adds this ticker: it is AddAsset with this ticker, and the ticker can be added
-abbrev pub AddsTicker : List (List ℕ) → Command → List ℕ → Type 0
-AddsTicker tickers command ticker = (command ≡ AddAsset ticker) × IsAddable tickers ticker
+-- a command adds this ticker in a version: it is AddAsset with this ticker, and the ticker can be added
+abbrev pub AddsTicker : Version → List (List ℕ) → Command → List ℕ → Type 0
+AddsTicker version tickers command ticker = (command ≡ AddAsset ticker) × IsAddable (limits_of version).assets tickers ticker
 
 -- the tickers after a command: those before it, followed by the one that it adds, if it adds one
-abbrev pub Leaves : List (List ℕ) → Command → List (List ℕ) → Type 0
-Leaves tickers command after =
-    ((ticker : List ℕ) × AddsTicker tickers command ticker × (after ≡ tickers ++ ticker ∷ [])) ⊎ (((ticker : List ℕ) → ¬ AddsTicker tickers command ticker) × (after ≡ tickers))
+abbrev pub Leaves : Version → List (List ℕ) → Command → List (List ℕ) → Type 0
+Leaves version tickers command after =
+    ((ticker : List ℕ) × AddsTicker version tickers command ticker × (after ≡ tickers ++ ticker ∷ [])) ⊎ (((ticker : List ℕ) → ¬ AddsTicker version tickers command ticker) × (after ≡ tickers))
 
 -- the tickers after several commands, one after the other
-abbrev pub Leave : List (List ℕ) → List Command → List (List ℕ) → Type 0
-Leave tickers [] after = after ≡ tickers
-Leave tickers (command ∷ commands) after = (next : List (List ℕ)) × Leaves tickers command next × Leave next commands after
+abbrev pub Leave : Version → List (List ℕ) → List Command → List (List ℕ) → Type 0
+Leave version tickers [] after = after ≡ tickers
+Leave version tickers (command ∷ commands) after = (next : List (List ℕ)) × Leaves version tickers command next × Leave version next commands after
 
 -- a line asks for this in a version, given the tickers of the lines before, and `after` are the tickers after it
 pub record Says (version : Version) (tickers : List (List ℕ)) (line : List ℕ) (asked : Asked) (after : List (List ℕ)) : Type 0 where
   pub asks : LineAsks version tickers line asked
-  pub leaves : Leave tickers (commands_of asked) after
+  pub leaves : Leave version tickers (commands_of asked) after
 
 -- a line that is neither blank nor asks for commands
 pub record SaysNothing (version : Version) (tickers : List (List ℕ)) (line : List ℕ) : Type 0 where

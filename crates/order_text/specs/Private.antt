@@ -46,10 +46,10 @@ members_at key d = option_and_then as_object (get key d)
 abbrev pub items_at : List ℕ → Data → Option Items
 items_at key d = option_and_then as_array (get key d)
 
--- the tickers after a ticker: those before it, followed by it if it can be added
-abbrev pub AreWith : List (List ℕ) → List ℕ → List (List ℕ) → Type 0
-AreWith tickers ticker after =
-    (IsAddable tickers ticker × (after ≡ tickers ++ ticker ∷ [])) ⊎ ((¬ IsAddable tickers ticker) × (after ≡ tickers))
+-- the tickers after a ticker, of which a table has at most so many: those before it, followed by it if it can be added
+abbrev pub AreWith : ℕ → List (List ℕ) → List ℕ → List (List ℕ) → Type 0
+AreWith most tickers ticker after =
+    (IsAddable most tickers ticker × (after ≡ tickers ++ ticker ∷ [])) ⊎ ((¬ IsAddable most tickers ticker) × (after ≡ tickers))
 
 -- the text at `do` of the object that asks for a command
 abbrev pub word_of : Command → List ℕ
@@ -149,10 +149,10 @@ AddsSome (line_is.Asks command) = Unit {0}
 AddsSome (line_is.Many commands) = ⊥
 
 -- the tickers after a line that was read
-abbrev pub AreAfter : List (List ℕ) → LineRead → List (List ℕ) → Type 0
-AreAfter tickers line_is.Blank after = after ≡ tickers
-AreAfter tickers (line_is.Asks command) after = Leaves tickers (command_in command) after
-AreAfter tickers (line_is.Many commands) after = after ≡ tickers
+abbrev pub AreAfter : Version → List (List ℕ) → LineRead → List (List ℕ) → Type 0
+AreAfter version tickers line_is.Blank after = after ≡ tickers
+AreAfter version tickers (line_is.Asks command) after = Leaves version tickers (command_in command) after
+AreAfter version tickers (line_is.Many commands) after = after ≡ tickers
 
 -- an object with an account and ticks besides `do`, and no further keys
 abbrev pub HasMoney : Data → ℕ → ℕ → Type 0

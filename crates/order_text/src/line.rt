@@ -1,8 +1,8 @@
 //! One line, and what it asks for.
-ghost use Rattle.std.specs.Prelude.{◌≡◌, ◌↔◌, Some, None, IsTrue, IsUtf8, OnOk, OnErr, IfOk, IsErrOf};
+ghost use Rattle.std.specs.Prelude.{◌≡◌, ◌≤◌, ◌↔◌, Some, None, IsTrue, IsUtf8, OnOk, OnErr, IfOk, IsErrOf};
 ghost use Rattle.serde_json.specs.View.{view};
 ghost use Rattle.serde_json.specs.Read.{read};
-ghost use Rattle.ticker_table.specs.Tickers.{AreTickers};
+ghost use Rattle.ticker_table.specs.Tickers.{AreTickers, ticker_limit};
 ghost use Rattle.order_text.specs.Lines.{IsBlank};
 ghost use Rattle.order_text.specs.Private.{AreWith, AddsSome, AreAfter};
 ghost use Rattle.order_text.specs.Answers.{IsAskedAs, IsLineRead, IsShort};
@@ -62,30 +62,35 @@ pub(crate) fn value_of(alloc: Global, line: &[u8]) -> Result<Value, LineFault>
     }
 }
 
-// Adds a ticker if it can be added.
-fn add(tickers: &mut TickerTable, ticker: [u8; 8]) -> Result<(), LineFault>
-    ensures after { OnOk result (AreWith tickers.old ticker tickers.new) }
+// Adds a ticker if it can be added to a table of at most so many.
+fn add(tickers: &mut TickerTable, ticker: [u8; 8], most: u16) -> Result<(), LineFault>
+    requires most { most ≤ ticker_limit }
+    ensures after { OnOk result (AreWith most tickers.old ticker tickers.new) }
     ensures stays { OnErr result (tickers.new ≡ tickers.old) }
     ensures fault { ¬ IsErrOf result LineFault.NoCommand }
 {
-    if tickers.fault(&ticker).is_some() {
+    if tickers.fault(&ticker, most).is_some() {
         return Ok(());
     }
-    match tickers.add(ticker) {
+    match tickers.add_within(ticker, most) {
         Ok(_) => Ok(()),
         Err(_) => Err(LineFault::Memory),
     }
 }
 
-// Adds the ticker that a line adds, if it adds one.
-fn add_ticker(tickers: &mut TickerTable, read: &LineRead) -> Result<(), LineFault>
-    ensures after { OnOk result (AreAfter tickers.old read.now tickers.new) }
+// Adds the ticker that a line adds in a version, if it adds one.
+fn add_ticker(
+    tickers: &mut TickerTable,
+    read: &LineRead,
+    version: Version,
+) -> Result<(), LineFault>
+    ensures after { OnOk result (AreAfter version tickers.old read.now tickers.new) }
     ensures asked { OnErr result (AddsSome read.now) }
     ensures stays { OnErr result (tickers.new ≡ tickers.old) }
     ensures fault { ¬ IsErrOf result LineFault.NoCommand }
 {
     match read {
-        LineRead::Asks(Command::AddAsset { ticker }) => add(tickers, *ticker),
+        LineRead::Asks(Command::AddAsset { ticker }) => add(tickers, *ticker, version.limits().assets),
         _ => Ok(()),
     }
 }
@@ -134,7 +139,7 @@ pub fn read_line(
     ensures short { IfOk result IsShort }
 {
     let read = ask_line(alloc, line, version, tickers)?;
-    match add_ticker(tickers, &read) {
+    match add_ticker(tickers, &read, version) {
         Ok(()) => Ok(read),
         Err(fault) => Err(fault),
     }

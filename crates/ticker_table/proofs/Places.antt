@@ -10,7 +10,7 @@ use Rattle.std.proofs.lemmas.Option.{slice_get-get_or, slice_get_within, get_or_
 use Rattle.std.proofs.lemmas.Slice.Eq.{bytes_eq-Decides}
 use Rattle.std.proofs.lemmas.List.{get_or_default, length_push}
 use Rattle.indexmap.specs.IndexSet.{insert_key}
-use Rattle.ticker_table.specs.Tickers.{HasNumber, IsTicker, AreTickers}
+use Rattle.ticker_table.specs.Tickers.{HasNumber, IsTicker, AreTickers, ticker_limit}
 use Rattle.ticker_table.specs.Adding.{IsAddable}
 
 -- a ticker with a number is in the table
@@ -43,11 +43,11 @@ found_none keys tickers ticker same none there =
     true≢false (sym (list_any-from_Contains nat_list_eq_equiv ticker tickers there) ∙ ap (list_any (bytes_eq ticker)) (sym same) ∙ sym none)
 
 -- a table with one more ticker is a table
-pub AreTickers-push : (tickers : List (List ℕ)) (ticker : List ℕ) → AreTickers tickers → IsAddable tickers ticker → AreTickers (tickers ++ ticker ∷ [])
-AreTickers-push tickers ticker h addable = record {
+pub AreTickers-push : (most : ℕ) (tickers : List (List ℕ)) (ticker : List ℕ) → most ≤ ticker_limit → AreTickers tickers → IsAddable most tickers ticker → AreTickers (tickers ++ ticker ∷ [])
+AreTickers-push most tickers ticker fits h addable = record {
   valid = All-push IsTicker tickers ticker h.valid addable.valid;
   distinct = all_pairs_push ◌≢◌ tickers ticker h.distinct (λ k d l e. addable.absent (k, l, get_or_default tickers k ticker d l ∙ e));
-  few = omega (arith, length_push tickers ticker, addable.place);
+  few = omega (arith, length_push tickers ticker, addable.place, fits);
 }
 
 no_key : (keys : List (List ℕ)) (ticker : List ℕ) → (Contains keys ticker → ⊥) → list_any (bytes_eq ticker) keys ≡ false

@@ -81,7 +81,7 @@ impl TickerTable {
     /// A ticker that isn't valid is refused first, then one that is in the table already, and then any if the table is full.
     pub fn add(&mut self, ticker: [u8; 8]) -> Result<u16, TickerFault>
         ensures added { IfOk result (λ number. (number ≡ length self.old) × (self.new ≡ self.old ++ ticker ∷ [])) }
-        ensures addable { OnOk result (IsAddable self.old ticker) }
+        ensures addable { OnOk result (IsAddable ticker_limit self.old ticker) }
 
         ensures bad_ticker { IsErrOf result TickerFault.BadTicker ↔ (¬ IsTicker ticker) }
         ensures taken { (number : ℕ) → IsErrOf result (TickerFault.Taken number)
@@ -90,11 +90,31 @@ impl TickerTable {
             ↔ (IsTicker ticker × (¬ Contains self.old ticker) × (length self.old ≡ ticker_limit)) }
 
         // Running out of memory is reported only for a ticker that could have been added, and adds nothing.
-        ensures memory { IsErrOf result TickerFault.Memory → IsAddable self.old ticker }
+        ensures memory { IsErrOf result TickerFault.Memory → IsAddable ticker_limit self.old ticker }
         ensures stays { OnErr result (self.new ≡ self.old) }
         ensures tickers { AreTickers self.new }
     {
-        if let Some(fault) = self.fault(&ticker) {
+        self.add_within(ticker, MOST_TICKERS)
+    }
+
+    /// Adds a ticker to a table of at most `most` tickers, as [`TickerTable::add`] does to one of [`MOST_TICKERS`]: the table
+    /// is full if it has `most` or more.
+    pub fn add_within(&mut self, ticker: [u8; 8], most: u16) -> Result<u16, TickerFault>
+        requires most { most ≤ ticker_limit }
+        ensures added { IfOk result (λ number. (number ≡ length self.old) × (self.new ≡ self.old ++ ticker ∷ [])) }
+        ensures addable { OnOk result (IsAddable most self.old ticker) }
+
+        ensures bad_ticker { IsErrOf result TickerFault.BadTicker ↔ (¬ IsTicker ticker) }
+        ensures taken { (number : ℕ) → IsErrOf result (TickerFault.Taken number)
+            ↔ (IsTicker ticker × HasNumber self.old number ticker) }
+        ensures full { IsErrOf result TickerFault.Full
+            ↔ (IsTicker ticker × (¬ Contains self.old ticker) × (most ≤ length self.old)) }
+
+        ensures memory { IsErrOf result TickerFault.Memory → IsAddable most self.old ticker }
+        ensures stays { OnErr result (self.new ≡ self.old) }
+        ensures tickers { AreTickers self.new }
+    {
+        if let Some(fault) = self.fault(&ticker, most) {
             return Err(fault);
         }
         let number = self.len();
@@ -104,15 +124,15 @@ impl TickerTable {
         }
     }
 
-    /// Returns why [`TickerTable::add`] would refuse this ticker, or `None` exactly if it can be added. It is never
+    /// Returns why [`TickerTable::add_within`] would refuse this ticker, or `None` exactly if it can be added. It is never
     /// `Memory`, and allocates nothing.
-    pub fn fault(&self, ticker: &[u8; 8]) -> Option<TickerFault>
+    pub fn fault(&self, ticker: &[u8; 8], most: u16) -> Option<TickerFault>
         ensures bad_ticker { (result ≡ Some TickerFault.BadTicker) ↔ (¬ IsTicker ticker.now) }
         ensures taken { (number : ℕ) → (result ≡ Some (TickerFault.Taken number))
             ↔ (IsTicker ticker.now × HasNumber self.now number ticker.now) }
         ensures full { (result ≡ Some TickerFault.Full)
-            ↔ (IsTicker ticker.now × (¬ Contains self.now ticker.now) × (length self.now ≡ ticker_limit)) }
-        ensures none { IsNone result ↔ IsAddable self.now ticker.now }
+            ↔ (IsTicker ticker.now × (¬ Contains self.now ticker.now) × (most ≤ length self.now)) }
+        ensures none { IsNone result ↔ IsAddable most self.now ticker.now }
         ensures no_memory { ¬ (result ≡ Some TickerFault.Memory) }
     {
         if !is_ticker(ticker) {
@@ -121,7 +141,7 @@ impl TickerTable {
         if let Some(taken) = self.find(ticker) {
             return Some(TickerFault::Taken(taken));
         }
-        if self.len() == MOST_TICKERS {
+        if self.len() >= most {
             return Some(TickerFault::Full);
         }
         None

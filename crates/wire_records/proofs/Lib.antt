@@ -1,4 +1,5 @@
 pub mod Numbered
+pub mod VersionLimits
 pub mod Encoded
 pub mod Prefixes
 pub mod CodeLaws

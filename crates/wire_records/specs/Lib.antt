@@ -10,5 +10,6 @@ pub mod Refusals
 pub mod Grammars
 pub mod Reading
 pub mod Versions
+pub mod Limits
 pub mod Formats
 pub mod Laws

@@ -3,7 +3,7 @@ use Rattle.market_parts.proofs.Making.{element_more, next_is_addable, tickers_mo
 use Rattle.std.proofs.lemmas.Option.{slice_get-get_or}
 use Rattle.std.proofs.lemmas.List.{take_all}
 use Rattle.std.proofs.Common.{[]}
-use Rattle.ticker_table.specs.Tickers.{AreTickers}
+use Rattle.ticker_table.specs.Tickers.{AreTickers, ticker_limit}
 use Rattle.ticker_table.specs.Adding.{IsAddable}
 use Rattle.market_parts.proofs.Making.{some_of}
 use Rattle.market_parts.proofs.tickers.tickers_of.Goals as goal
@@ -17,7 +17,7 @@ pub returns-in_err-add_ticker-clause-unsound : goal.returns-in_err-add_ticker-cl
 returns-in_err-add_ticker-clause-unsound g c =
     let tickers = (g.P.MarketParts.parts c.args.parts.now).tickers in
     let inside : c.loop-asset.asset < length tickers = omega (arith, c.loop-asset-test.true, c.asset_count-asset-end.ensures.count, c.requires.shape.tickers) in
-    let addable : AreTickers tickers → IsAddable c.loop-asset.tickers c.unwrap.result = λ are. rw c.loop-asset.invariant.taken (next_is_addable tickers c.loop-asset.asset c.unwrap.result are inside (sym c.ticker.ensures ∙ c.unwrap.ensures)) in
+    let addable : AreTickers tickers → IsAddable ticker_limit c.loop-asset.tickers c.unwrap.result = λ are. rw c.loop-asset.invariant.taken (next_is_addable tickers c.loop-asset.asset c.unwrap.result are inside (sym c.ticker.ensures ∙ c.unwrap.ensures)) in
     search rules
 
 pub loop-asset-preserved : goal.loop-asset-preserved

@@ -1,6 +1,8 @@
 use Rattle.std.proofs.Common.{[], ◌∷◌, ◌++◌, length, Err, ap, arith}
 use Rattle.wire_records.specs.Commands.{AddAsset, Plain}
 use Rattle.wire_records.specs.declared.reply.Reply.TheVariants.{Asset}
+use Rattle.wire_records.specs.declared.limits.Limits.{Limits}
+use Rattle.market_rules.proofs.VersionLimits.{assets_within}
 use Rattle.market_rules.specs.Market.{Market}
 use Rattle.market_rules.specs.Step.{ServesPlain, NoOutcome}
 use Rattle.market_core.specs.Kept.{market_in}
@@ -20,7 +22,10 @@ made c = record (market_in c.self.inside) {
 served : (c : goal.After-add_asset-in-Ok-2) → ServesPlain (market_in c.self.inside) (AddAsset c.copy_from_slice.new.self) (Plain (Asset (length c.self.inside.tickers))) (made c)
 served c =
     serves-add_asset NoOutcome (market_in c.self.inside) c.add_asset.new.self c.add_asset-in-Ok.new.self c.add_asset-in-Ok-2.new.self c.copy_from_slice.new.self
-    c.in-Ok.ensures.addable c.add_asset.ensures.added c.add_asset-in-Ok.ensures c.add_asset-in-Ok-2.ensures
+    (rw c.limits.ensures at c.in-Ok.ensures.addable) c.add_asset.ensures.added c.add_asset-in-Ok.ensures c.add_asset-in-Ok-2.ensures
+
+pub add_within-requires : goal.add_within-requires
+add_within-requires c = record { most = omega (arith, ap (λ (l : Limits). l.assets) c.limits.ensures, assets_within c.self.inside.version) }
 
 pub invariant_of-self : goal.invariant_of-self
 invariant_of-self c =
@@ -36,7 +41,7 @@ pub returns-in-Err-clause-served : goal.returns-in-Err-clause-served
 returns-in-Err-clause-served c =
     let m = market_in c.self.inside in
     let why = c.in-Err.fault in
-    let is = rw c.copy_from_slice.ensures.after at c.in-Err.ensures in
+    let is = rw (c.copy_from_slice.ensures.after, c.limits.ensures) at c.in-Err.ensures in
     rw (c.ticker_refusal.ensures.value, ← c.self.view_is)
-    (refuses-ticker_fault NoOutcome m (record m { tickers = c.add.new.self }) c.args.ticker.now why (ap (λ tickers. record m { tickers = tickers }) is.stays)
+    (refuses-ticker_fault NoOutcome m (record m { tickers = c.add_within.new.self }) c.args.ticker.now why (ap (λ tickers. record m { tickers = tickers }) is.stays)
     (λ bad. is.bad_ticker.0 (ap Err bad)) (λ number taken. (is.taken number).0 (ap Err taken)) (λ full. is.full.0 (ap Err full)) c.ticker_refusal.ensures.answered)

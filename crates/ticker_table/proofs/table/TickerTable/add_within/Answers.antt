@@ -1,7 +1,7 @@
 use Rattle.std.proofs.Common.{refl, ◌∙◌}
 use Rattle.ticker_table.proofs.Places.{AreTickers-push, inserted_last}
-use Rattle.ticker_table.proofs.table.TickerTable.add.Goals as goal
-use Rattle.ticker_table.proofs.table.TickerTable.add.Goals.{in-Ok, in-Err}
+use Rattle.ticker_table.proofs.table.TickerTable.add_within.Goals as goal
+use Rattle.ticker_table.proofs.table.TickerTable.add_within.Goals.{in-Ok, in-Err}
 
 pub returns-in-Some-clause-taken : goal.returns-in-Some-clause-taken
 returns-in-Some-clause-taken c number =
@@ -13,7 +13,7 @@ invariant_of-self c =
     let addable = c.in_default.ensures.none.0 refl in
     let last = inserted_last c.self.inside.tickers.keys c.args.self.now c.args.ticker c.self.view_is addable.absent in
     elim c.match-insert.branch [
-      | in-Ok w ↦ rw (w.in-Ok.ensures.keys ∙ last) (AreTickers-push c.args.self.now c.args.ticker c.len-number.ensures.tickers addable)
+      | in-Ok w ↦ rw (w.in-Ok.ensures.keys ∙ last) (AreTickers-push c.args.most c.args.self.now c.args.ticker c.requires.most c.len-number.ensures.tickers addable)
       | in-Err w ↦ rw (w.in-Err.ensures.err ∙ c.self.view_is) c.len-number.ensures.tickers
     ]
 
