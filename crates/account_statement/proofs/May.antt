@@ -23,6 +23,8 @@ use Rattle.flow_orders.proofs.TradeFacts.{All-trades}
 use Rattle.order_book.specs.Book.{HasOrder}
 use Rattle.ticker_table.specs.Tickers.{ticker_limit}
 use Rattle.ticker_table.specs.Adding.{IsAddable}
+use Rattle.wire_records.specs.Limits.{limits_of}
+use Rattle.market_rules.proofs.VersionLimits.{assets_within, orders_within}
 use Rattle.market_rules.specs.Market.{Market, IsConsistent, IsLiveOrder, start_prices}
 use Rattle.market_rules.specs.Step.{FirstRefusal, Accepts, Serves}
 use Rattle.market_rules.proofs.ByFirst.{Answers}
@@ -119,8 +121,8 @@ module _ (account : ℕ) (m n : Market) (h : Holding) (consistent : IsConsistent
         limits = two.0;
         rate = three.0;
         cap = four.0;
-        row = five.0;
-        few = few_orders (not_least most_orders (length m.orders) seven.0);
+        row = five.0.0;
+        few = few_orders (omega (arith, not_least (limits_of m.version).orders (length m.orders) seven.0, orders_within m.version));
         above = above_all m.next_order refl;
       }
 
@@ -140,7 +142,7 @@ module _ (account : ℕ) (m n : Market) (h : Holding) (consistent : IsConsistent
 
   own_part : (c : Clearing) → IsAdmissibleClearing m.orders (start_prices m) c → HasOwn h.orders c
   own_part c right = record {
-    few = omega (arith, consistent.few_orders, few_pass (λ (o : Order). o.account == account) m.orders, ap length held.orders);
+    few = omega (arith, consistent.few_orders, orders_within m.version, few_pass (λ (o : Order). o.account == account) m.orders, ap length held.orders);
     ascending = fills_ascend m.orders c.fills right.numbers consistent.ascending;
     listed = own (λ (o : Order). IsListed c.fills o.number) (all_listed m.orders c.fills right.numbers);
     small = right.small;
@@ -224,7 +226,7 @@ module _ (account : ℕ) (m n : Market) (h : Holding) (consistent : IsConsistent
       let two = past_when one.1 in
       let three = past_when two.1 in
       subst (MayTake account h) (one_event (Adds ticker) e (seen_as (AddAsset ticker) answer (reply.Asset (length m.tickers)) e is accepts.0))
-      (subst (λ l. IsAddable ticker_limit l ticker) (sym held.tickers) (record { valid = one.0; absent = two.0; place = not_least _ _ three.0 }))
+      (subst (λ l. IsAddable ticker_limit l ticker) (sym held.tickers) (record { valid = one.0; absent = two.0; place = omega (arith, not_least (limits_of m.version).assets (length m.tickers) three.0, assets_within m.version) }))
   accepted_may OpenAccount answer e none accepts is next =
       subst (MayTake account h) (event_is _ (Opens account) e (seen_as OpenAccount answer (reply.Account (account_count m.balances + 1)) e is accepts.0)).1 tt
   accepted_may (Deposit named kind count) answer e none accepts is next =

@@ -16,7 +16,8 @@ use Rattle.wire_records.proofs.Readings.{reading_unique}
 use Rattle.flow_orders.specs.Outcomes.{Outcome, IsAdmissibleOutcome}
 use Rattle.journal_records.specs.Replies.{EncodesAnswer}
 use Rattle.journal_records.proofs.Encoded.{answer_unique}
-use Rattle.market_rules.specs.Market.{Market, most_batches}
+use Rattle.wire_records.specs.Limits.{limits_of}
+use Rattle.market_rules.specs.Market.{Market}
 use Rattle.market_rules.specs.Step.{NoOutcome, ServesPlain, FirstRefusal, Serves, ServesRead, refusal_of, after_batch}
 use Rattle.market_rules.proofs.ByFirst.{Answers}
 use Rattle.market_rules.specs.Journal.{Step}
@@ -114,7 +115,7 @@ refused_weighed false old budget a refusal first tests = λ made serves.
 -- ---- batches that are due
 
 -- what is settled for the answer
-pub batch_weighed : (old : Market) (budget : ℕ) (a : Answer Outcome) (o : parts.Outcome) → FirstRefusal old (RunBatch budget) None → old.batches < most_batches
+pub batch_weighed : (old : Market) (budget : ℕ) (a : Answer Outcome) (o : parts.Outcome) → FirstRefusal old (RunBatch budget) None → old.batches < (limits_of old.version).batches
     → IsOutcomeFor old budget a (Some o) → IsReadWeighed old (Ok (RunBatch budget)) a (Some (change.Batch o))
 batch_weighed old budget a o first more found = (
   after_batch old (outcome_of old.orders o),

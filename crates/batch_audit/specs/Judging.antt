@@ -7,7 +7,8 @@ use Rattle.wire_records.specs.Views.{command_of}
 use Rattle.wire_records.specs.declared.command.BodyFault.{BodyFault}
 use Rattle.batch_outcome.specs.declared.outcome.Outcome.{Outcome}
 use Rattle.batch_outcome.specs.Published.{outcome_of}
-use Rattle.market_rules.specs.Market.{Market, most_batches}
+use Rattle.wire_records.specs.Limits.{limits_of}
+use Rattle.market_rules.specs.Market.{Market}
 use Rattle.market_rules.specs.Step.{FirstRefusal, after_batch}
 use Rattle.market_rules.specs.Settling.{MaySettle}
 use Rattle.batch_audit.specs.Legal.{IsLegalPair, IsIllegalPair}
@@ -31,7 +32,7 @@ pub record IsAcceptedPlain (old : Market) (read : Result commands.Command BodyFa
 pub record IsSettling (old : Market) (read : Result commands.Command BodyFault) (outcome : Outcome) (new : Market) : Type 0 where
   pub asks : (budget : ℕ) × (read ≡ Ok (RunBatch budget))
   pub right : MaySettle old outcome
-  pub more : old.batches < most_batches
+  pub more : old.batches < (limits_of old.version).batches
   pub made : new ≡ after_batch old (outcome_of old.orders outcome)
 
 -- a change of the old market that makes the new one, by what a record is read as: none, where that is no command or a command is refused,

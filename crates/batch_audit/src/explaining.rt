@@ -5,7 +5,7 @@ ghost use Rattle.wire_records.specs.CommandRecords.{IsCommand};
 ghost use Rattle.wire_records.specs.Versions.{IsOfVersion, IsReadAs};
 ghost use Rattle.wire_records.specs.Views.{command_of};
 ghost use Rattle.journal_records.specs.Views.{answer_of};
-ghost use Rattle.market_rules.specs.Market.{most_batches};
+ghost use Rattle.wire_records.specs.Limits.{limits_of};
 ghost use Rattle.market_rules.specs.Step.{FirstRefusal};
 ghost use Rattle.market_rules.specs.Allocating.{MayAllocate, RecordMayAllocate};
 ghost use Rattle.batch_audit.specs.Findings.{IsDue};
@@ -60,7 +60,7 @@ fn outcome_finding(
     seen: &ReplyView<'_>,
 ) -> Result<Finding, Memory>
     requires first { FirstRefusal market.old (RunBatch budget) None }
-    requires more { market.old.batches < most_batches }
+    requires more { market.old.batches < (limits_of market.old.version).batches }
     ensures found { IfOk result (IsFoundWhere market.old (λ asked. IsDue market.old asked budget) (answer_of seen.now)) }
     ensures stays { market.new ≡ market.old }
 {

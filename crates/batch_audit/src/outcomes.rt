@@ -12,7 +12,8 @@ ghost use Rattle.flow_orders.specs.Walks.{AreSettled};
 ghost use Rattle.batch_certificate.specs.Verdicts.{IsVerdict};
 ghost use Rattle.batch_certificate.specs.declared.verdict.Verdict.TheVariants.{Right};
 ghost use Rattle.journal_records.specs.Views.{answer_of};
-ghost use Rattle.market_rules.specs.Market.{most_batches, parts_of, start_prices};
+ghost use Rattle.wire_records.specs.Limits.{limits_of};
+ghost use Rattle.market_rules.specs.Market.{parts_of, start_prices};
 ghost use Rattle.market_rules.specs.Step.{FirstRefusal};
 ghost use Rattle.batch_audit.specs.declared.finding.Finding.TheVariants.{Legal};
 ghost use Rattle.batch_audit.specs.Findings.{HasWholeTrace, IsOtherDual};
@@ -39,7 +40,7 @@ pub(crate) fn outcome_for(
     seen: &ReplyView<'_>,
 ) -> Result<Option<Outcome>, Memory>
     requires first { FirstRefusal market.old (RunBatch budget) None }
-    requires more { market.old.batches < most_batches }
+    requires more { market.old.batches < (limits_of market.old.version).batches }
     ensures outcome { IfOk result (IsOutcomeFor market.old budget (answer_of seen.now)) }
     ensures stays { market.new ≡ market.old }
 {
@@ -56,7 +57,7 @@ fn cleared_for(
     market: &mut Market,
     view: &ClearedView<'_>,
 ) -> Result<Option<Outcome>, Memory>
-    requires more { market.old.batches < most_batches }
+    requires more { market.old.batches < (limits_of market.old.version).batches }
     ensures outcome { IfOk result (λ found. (budget : ℕ) → IsOutcomeFor market.old budget
         (Batch view.now.batch (outcomes.Cleared view.now.clearing)) found) }
     ensures stays { market.new ≡ market.old }
@@ -117,7 +118,7 @@ fn skipped_for(
     view: &SkippedView<'_>,
 ) -> Result<Option<Outcome>, Memory>
     requires first { FirstRefusal market.old (RunBatch budget) None }
-    requires more { market.old.batches < most_batches }
+    requires more { market.old.batches < (limits_of market.old.version).batches }
     ensures outcome { IfOk result (IsOutcomeFor market.old budget
         (Batch view.now.batch (outcomes.Skipped view.now.skipping))) }
     ensures stays { market.new ≡ market.old }

@@ -3,5 +3,6 @@ pub mod OneCanonicalJournal
 pub mod CanonicalIsLegal
 pub mod OwnPromises
 pub mod CanonicalServed
+mod RowLimits
 mod VersionRows
 mod WorkedRows

@@ -15,7 +15,7 @@ use Rattle.wire_records.specs.declared.reply.Refusal.{Refusal}
 use Rattle.wire_records.specs.declared.reply.Refusal.TheVariants.{NoAsset, NotFree, BadRow, OrderLimit, NoOrder, BadLast, CreditInUse, CreditLimit}
 use Rattle.wire_records.specs.declared.reply.Reply.TheVariants as reply
 use Rattle.flow_accounts.specs.Balances.{Account, Credit, Balances, IsAccount, IsAsset}
-use Rattle.flow_orders.specs.Orders.{Order, AreLimits, IsFrom1To, most_cap, most_orders, unit_need, terms_of}
+use Rattle.flow_orders.specs.Orders.{Order, AreLimits, IsFrom1To, most_cap, unit_need, terms_of}
 use Rattle.flow_orders.specs.Excess.{price_for, residual_bound, steepness, is_unsettled}
 use Rattle.flow_orders.specs.Moves.{moved, walk_reach, single_reach}
 use Rattle.canonical_rule.specs.Attempts.{walks_alone}
@@ -27,10 +27,11 @@ use Rattle.flow_orders.specs.Trades.{Trade, residual}
 use Rattle.flow_orders.specs.Outcomes.{Clearing, Skipping, Cleared, Skipped, trades_of, dual_of, step_of, IsUnnamed, IsAdmissibleClearing, IsAdmissibleOutcome}
 use Rattle.flow_orders.proofs.Book.{IsConsistent as IsConsistentOrder}
 use Rattle.flow_orders.proofs.Exactly.{rises_to, falls_to}
-use Rattle.flow_orders.proofs.Limits.{some_orders}
+use Rattle.canonical_journals.proofs.RowLimits.{four_orders, four_batches, row_of_one}
 use Rattle.fill_caps.specs.Settlement.{settled_account}
 use Rattle.order_book.specs.Book.{HasOrder}
-use Rattle.market_rules.specs.Market.{Market, usable_balance}
+use Rattle.wire_records.specs.Limits.{limits_of}
+use Rattle.market_rules.specs.Market.{Market, IsRowOf, usable_balance}
 use Rattle.market_rules.proofs.ByKind.{affords}
 use Rattle.market_rules.specs.Step.{◌when◌else◌, ◌unless◌else◌, accept, FirstRefusal, Serves, IsAffordable, placed}
 
@@ -71,9 +72,9 @@ two_accounts one other credit_one credit_other money units = record {
 -- those that are tested after its account, its numbers and its last batch
 abbrev RefusesRow : Market → Order → Option Refusal → Type 0
 RefusesRow m o =
-    BadRow unless IsWeightVector o.row else
+    BadRow unless IsRowOf m.version o.row else
     NoAsset unless All (λ e. IsAsset m.balances e.asset) o.row else
-    OrderLimit when most_orders ≤ length m.orders else
+    OrderLimit when (limits_of m.version).orders ≤ length m.orders else
     NotFree unless IsAffordable m o else accept
 
 place_until : (m : Market) (last : ℕ) (r : Request) (first : Option Refusal) → IsAccount m.balances r.account → AreLimits r.low r.high → IsFrom1To most_rate r.rate → IsFrom1To most_cap r.cap
@@ -88,19 +89,11 @@ place : (m : Market) (r : Request) (first : Option Refusal) → IsAccount m.bala
     → RefusesRow m (placed m None r) first → FirstRefusal m (Place None r) first
 place m r first account limits rate cap row = inr (account, inr (limits, inr (rate, inr (cap, inr (tt, row)))))
 
-row_accepts : (m : Market) (o : Order) → IsWeightVector o.row → All (λ e. IsAsset m.balances e.asset) o.row → length m.orders < 4 → IsAffordable m o → RefusesRow m o None
-row_accepts m o row assets few affordable = inr (row, inr (assets, inr ((λ full. omega (arith, full, few, some_orders)), inr (affordable, refl))))
+row_accepts : (m : Market) (o : Order) → IsRowOf m.version o.row → All (λ e. IsAsset m.balances e.asset) o.row → length m.orders < 4 → IsAffordable m o → RefusesRow m o None
+row_accepts m o row assets few affordable = inr (row, inr (assets, inr ((λ full. omega (arith, full, few, four_orders m.version)), inr (affordable, refl))))
 
-row_is_too_dear : (m : Market) (o : Order) → IsWeightVector o.row → All (λ e. IsAsset m.balances e.asset) o.row → length m.orders < 4 → (IsAffordable m o → ⊥) → RefusesRow m o (Some NotFree)
-row_is_too_dear m o row assets few dear = inr (row, inr (assets, inr ((λ full. omega (arith, full, few, some_orders)), inl (dear, refl))))
-
-row_of_one : (asset : ℕ) (weight : ℤ) → IsLawfulWeight weight → IsWeightVector (entry asset weight ∷ [])
-row_of_one asset weight lawful = record {
-  some = omega arith;
-  few = omega arith;
-  ascending = λ k inside. absurd (omega (arith, inside));
-  weights = All-from_recursion (λ (e : Entry). IsLawfulWeight e.weight) (entry asset weight ∷ []) (lawful, tt);
-}
+row_is_too_dear : (m : Market) (o : Order) → IsRowOf m.version o.row → All (λ e. IsAsset m.balances e.asset) o.row → length m.orders < 4 → (IsAffordable m o → ⊥) → RefusesRow m o (Some NotFree)
+row_is_too_dear m o row assets few dear = inr (row, inr (assets, inr ((λ full. omega (arith, full, few, four_orders m.version)), inl (dear, refl))))
 
 first_asset : (b : Balances) (weight : ℤ) → 0 < length b.totals.units → All (λ e. IsAsset b e.asset) (entry 0 weight ∷ [])
 first_asset b weight there = All-from_recursion (λ (e : Entry). IsAsset b e.asset) (entry 0 weight ∷ []) (there, tt)
@@ -127,7 +120,7 @@ unfolding weight_in
 serves_buyer = record {
   first = None;
   refused = place_until enough 1 buys None (omega arith, omega arith) buy_limits (omega arith, omega arith) (omega arith, omega arith) (omega arith)
-      (row_accepts enough (placed enough (Some 1) buys) (row_of_one 0 (pos 1) (omega arith, omega arith)) (first_asset enough.balances (pos 1) (omega arith)) (omega arith) (affords enough (placed enough (Some 1) buys) (omega (arith, ints)) units));
+      (row_accepts enough (placed enough (Some 1) buys) (row_of_one enough.version 0 (pos 1) (omega arith, omega arith)) (first_asset enough.balances (pos 1) (omega arith)) (omega arith) (affords enough (placed enough (Some 1) buys) (omega (arith, ints)) units));
   answered = (refl, refl);
 }
   where
@@ -140,7 +133,7 @@ unfolding weight_in
 serves_seller = record {
   first = None;
   refused = place with_buyer sells None (omega arith, omega arith) sell_limits (omega arith, omega arith) (omega arith, omega arith)
-      (row_accepts with_buyer (placed with_buyer None sells) (row_of_one 0 (neg_ℤ (pos 1)) (omega arith, omega arith)) (first_asset with_buyer.balances (neg_ℤ (pos 1)) (omega arith)) (omega arith) (affords with_buyer (placed with_buyer None sells) (omega (arith, ints)) units));
+      (row_accepts with_buyer (placed with_buyer None sells) (row_of_one with_buyer.version 0 (neg_ℤ (pos 1)) (omega arith, omega arith)) (first_asset with_buyer.balances (neg_ℤ (pos 1)) (omega arith)) (omega arith) (affords with_buyer (placed with_buyer None sells) (omega (arith, ints)) units));
   answered = (refl, refl);
 }
   where
@@ -182,12 +175,12 @@ pair_is_consistent last =
     All-from_recursion IsConsistentOrder (pair_until last) (
       record {
         limits = record { low_in_range = (omega (arith, ints), omega (arith, ints)); high_in_range = (omega (arith, ints), omega (arith, ints)); span_least = omega (arith, ints); room_least = omega arith; room_most = omega arith; rate_most = omega arith };
-        lawful = row_of_one 0 (pos 1) (omega arith, omega arith);
+        lawful = (row_of_one Two 0 (pos 1) (omega arith, omega arith)).0;
       },
       (
         record {
           limits = record { low_in_range = (omega (arith, ints), omega (arith, ints)); high_in_range = (omega (arith, ints), omega (arith, ints)); span_least = omega (arith, ints); room_least = omega arith; room_most = omega arith; rate_most = omega arith };
-          lawful = row_of_one 0 (neg_ℤ (pos 1)) (omega arith, omega arith);
+          lawful = (row_of_one Two 0 (neg_ℤ (pos 1)) (omega arith, omega arith)).0;
         },
         tt,
       ),
@@ -222,7 +215,7 @@ serves_first : Serves IsAdmissibleOutcome with_seller (RunBatch 10) (Batch 1 (Cl
 unfolding settled_account weight_in portfolio_price
 serves_first = record {
   first = None;
-  refused = inr ((omega arith, omega arith), inr ((λ full. omega (arith, full)), refl));
+  refused = inr ((omega arith, omega arith), inr ((λ full. omega (arith, full, four_batches Two)), refl));
   answered = (Cleared even_clearing, pair_clears 1, (refl, refl));
 }
 
@@ -270,7 +263,7 @@ seller_is_consistent =
     All-from_recursion IsConsistentOrder (seller_left ∷ []) (
       record {
         limits = record { low_in_range = (omega (arith, ints), omega (arith, ints)); high_in_range = (omega (arith, ints), omega (arith, ints)); span_least = omega (arith, ints); room_least = omega arith; room_most = omega arith; rate_most = omega arith };
-        lawful = row_of_one 0 (neg_ℤ (pos 1)) (omega arith, omega arith);
+        lawful = (row_of_one Two 0 (neg_ℤ (pos 1)) (omega arith, omega arith)).0;
       },
       tt,
     )
@@ -300,7 +293,7 @@ serves_second : Serves IsAdmissibleOutcome after_first (RunBatch 10) (Batch 2 (C
 unfolding settled_account weight_in portfolio_price
 serves_second = record {
   first = None;
-  refused = inr ((omega arith, omega arith), inr ((λ full. omega (arith, full)), refl));
+  refused = inr ((omega arith, omega arith), inr ((λ full. omega (arith, full, four_batches Two)), refl));
   answered = (Cleared lone_clearing, seller_clears, (refl, refl));
 }
 
@@ -315,14 +308,14 @@ too_dear : FirstRefusal after_second (Place (Some 3) buys) (Some NotFree)
 unfolding weight_in
 too_dear =
     place_until after_second 3 buys (Some NotFree) (omega arith, omega arith) buy_limits (omega arith, omega arith) (omega arith, omega arith) (omega arith)
-    (row_is_too_dear after_second (placed after_second (Some 3) buys) (row_of_one 0 (pos 1) (omega arith, omega arith)) (first_asset after_second.balances (pos 1) (omega arith)) (omega arith) (λ affordable. let money = affordable None tt in omega (arith, ints, money)))
+    (row_is_too_dear after_second (placed after_second (Some 3) buys) (row_of_one after_second.version 0 (pos 1) (omega arith, omega arith)) (first_asset after_second.balances (pos 1) (omega arith)) (omega arith) (λ affordable. let money = affordable None tt in omega (arith, ints, money)))
 
 serves_third : Serves IsAdmissibleOutcome after_second (Place (Some 3) buys_less) (Plain (reply.Order 3)) (record after_second { orders = record (placed with_buyer None sells) { filled = 501 } ∷ placed after_second (Some 3) buys_less ∷ []; next_order = 4 })
 unfolding weight_in
 serves_third = record {
   first = None;
   refused = place_until after_second 3 buys_less None (omega arith, omega arith) buy_limits (omega arith, omega arith) (omega arith, omega arith) (omega arith)
-      (row_accepts after_second (placed after_second (Some 3) buys_less) (row_of_one 0 (pos 1) (omega arith, omega arith)) (first_asset after_second.balances (pos 1) (omega arith)) (omega arith) (affords after_second (placed after_second (Some 3) buys_less) (omega (arith, ints)) units));
+      (row_accepts after_second (placed after_second (Some 3) buys_less) (row_of_one after_second.version 0 (pos 1) (omega arith, omega arith)) (first_asset after_second.balances (pos 1) (omega arith)) (omega arith) (affords after_second (placed after_second (Some 3) buys_less) (omega (arith, ints)) units));
   answered = (refl, refl);
 }
   where
@@ -366,7 +359,7 @@ unfolding weight_in
 serves_lent_buyer = record {
   first = None;
   refused = place on_credit buys None (omega arith, omega arith) buy_limits (omega arith, omega arith) (omega arith, omega arith)
-      (row_accepts on_credit (placed on_credit None buys) (row_of_one 0 (pos 1) (omega arith, omega arith)) (first_asset on_credit.balances (pos 1) (omega arith)) (omega arith) (affords on_credit (placed on_credit None buys) (omega (arith, ints)) units));
+      (row_accepts on_credit (placed on_credit None buys) (row_of_one on_credit.version 0 (pos 1) (omega arith, omega arith)) (first_asset on_credit.balances (pos 1) (omega arith)) (omega arith) (affords on_credit (placed on_credit None buys) (omega (arith, ints)) units));
   answered = (refl, refl);
 }
   where
@@ -379,7 +372,7 @@ unfolding weight_in
 serves_lent_seller = record {
   first = None;
   refused = place lent_buyer sells None (omega arith, omega arith) sell_limits (omega arith, omega arith) (omega arith, omega arith)
-      (row_accepts lent_buyer (placed lent_buyer None sells) (row_of_one 0 (neg_ℤ (pos 1)) (omega arith, omega arith)) (first_asset lent_buyer.balances (neg_ℤ (pos 1)) (omega arith)) (omega arith) (affords lent_buyer (placed lent_buyer None sells) (omega (arith, ints)) units));
+      (row_accepts lent_buyer (placed lent_buyer None sells) (row_of_one lent_buyer.version 0 (neg_ℤ (pos 1)) (omega arith, omega arith)) (first_asset lent_buyer.balances (neg_ℤ (pos 1)) (omega arith)) (omega arith) (affords lent_buyer (placed lent_buyer None sells) (omega (arith, ints)) units));
   answered = (refl, refl);
 }
   where
@@ -405,7 +398,7 @@ serves_lent_batch : Serves IsAdmissibleOutcome lent_pair (RunBatch 10) (Batch 1 
 unfolding settled_account weight_in portfolio_price
 serves_lent_batch = record {
   first = None;
-  refused = inr ((omega arith, omega arith), inr ((λ full. omega (arith, full)), refl));
+  refused = inr ((omega arith, omega arith), inr ((λ full. omega (arith, full, four_batches Two)), refl));
   answered = (Cleared even_clearing, pair_clears 0, (refl, refl));
 }
 
@@ -491,7 +484,7 @@ wide_is_consistent =
     selling : (number last asset : ℕ) → IsConsistentOrder (order_of number last (sold asset))
     selling number last asset = record {
       limits = record { low_in_range = (omega (arith, ints), omega (arith, ints)); high_in_range = (omega (arith, ints), omega (arith, ints)); span_least = omega (arith, ints); room_least = omega arith; room_most = omega arith; rate_most = omega arith };
-      lawful = row_of_one asset (neg_ℤ (pos 1)) (omega arith, omega arith);
+      lawful = (row_of_one Two asset (neg_ℤ (pos 1)) (omega arith, omega arith)).0;
     }
 
 move : moved 1 wide_until walk_reach (pos 0 ∷ pos 0 ∷ []) 0 ≡ pos 394965192541 ∷ pos 0 ∷ []
@@ -549,7 +542,7 @@ after_skip = record three_live { orders = order_of 1 0 basket_bought ∷ order_o
 serves_skip : Serves IsAdmissibleOutcome three_live (RunBatch 1) (Batch 1 (Skipped skipped)) after_skip
 serves_skip = record {
   first = None;
-  refused = inr ((omega arith, omega arith), inr ((λ full. omega (arith, full)), refl));
+  refused = inr ((omega arith, omega arith), inr ((λ full. omega (arith, full, four_batches Two)), refl));
   answered = (Skipped skipped, skip_is_admissible, (refl, refl));
 }
 

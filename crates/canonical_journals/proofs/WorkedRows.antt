@@ -14,12 +14,13 @@ use Rattle.wire_records.specs.declared.reply.Refusal.{Refusal}
 use Rattle.wire_records.specs.declared.reply.Refusal.TheVariants.{NoAccount, NoAsset, ZeroAmount, TotalLimit, NotFree, BadLimits, BadRate, BadCap, BadRow, NoOrder, BadBudget, BatchLimit, TickerTaken, AssetLimit, BadTicker, AccountLimit, OrderLimit}
 use Rattle.wire_records.specs.declared.reply.Reply.TheVariants as reply
 use Rattle.flow_accounts.specs.Balances.{Account, Credit, Balances, IsAsset, account_count}
-use Rattle.flow_orders.specs.Orders.{Order, AreLimits, most_orders, money_need, unit_need}
+use Rattle.flow_orders.specs.Orders.{Order, AreLimits, money_need, unit_need}
 use Rattle.flow_orders.specs.Outcomes.{Outcome, Cleared}
 use Rattle.flow_orders.specs.Trades.{trades}
-use Rattle.flow_orders.proofs.Limits.{some_orders}
+use Rattle.canonical_journals.proofs.RowLimits.{one_asset, four_orders, four_batches, row_of_one}
 use Rattle.canonical_rule.specs.Canonical.{IsCanonicalOutcome}
 use Rattle.canonical_rule.proofs.WorkedRows as batches
+use Rattle.wire_records.specs.Limits.{limits_of}
 use Rattle.market_rules.specs.Market.{Market, empty_market, start_prices, usable_balance, free_balance, held_balance}
 use Rattle.fill_caps.specs.Settlement.{settled_account, settled_balances, settled_exchange}
 use Rattle.market_rules.specs.Step.{FirstRefusal, Accepts, Serves, IsAffordable, placed}
@@ -72,14 +73,6 @@ enough = two_accounts (pos 4724464025600000)
 abbrev a_tick_less : Market
 a_tick_less = two_accounts (pos 4724459730632704)
 
-row_of_one : (asset : ℕ) (weight : ℤ) → IsLawfulWeight weight → IsWeightVector (entry asset weight ∷ [])
-row_of_one asset weight lawful = record {
-  some = omega arith;
-  few = omega arith;
-  ascending = λ k inside. absurd (omega (arith, inside));
-  weights = All-from_recursion (λ (e : Entry). IsLawfulWeight e.weight) (entry asset weight ∷ []) (lawful, tt);
-}
-
 first_asset : (b : Balances) (weight : ℤ) → 0 < length b.totals.units → All (λ e. IsAsset b e.asset) (entry 0 weight ∷ [])
 first_asset b weight there = All-from_recursion (λ (e : Entry). IsAsset b e.asset) (entry 0 weight ∷ []) (there, tt)
 
@@ -105,11 +98,11 @@ buyer_is_accepted =
             inr (
               tt,
               inr (
-                row_of_one 0 (pos 1) (omega arith, omega arith),
+                row_of_one One 0 (pos 1) (omega arith, omega arith),
                 inr (
                   first_asset enough.balances (pos 1) (omega arith),
                   inr (
-                    (λ full. omega (arith, full, some_orders)),
+                    (λ full. omega (arith, full, four_orders One)),
                     inr (buyer_affords, refl),
                   ),
                 ),
@@ -133,11 +126,11 @@ buyer_is_refused =
             inr (
               tt,
               inr (
-                row_of_one 0 (pos 1) (omega arith, omega arith),
+                row_of_one One 0 (pos 1) (omega arith, omega arith),
                 inr (
                   first_asset a_tick_less.balances (pos 1) (omega arith),
                   inr (
-                    (λ full. omega (arith, full, some_orders)),
+                    (λ full. omega (arith, full, four_orders One)),
                     inl ((λ affordable. let money = affordable None tt in omega (arith, ints, money)), refl),
                   ),
                 ),
@@ -219,7 +212,7 @@ aapl_is_valid = record {
 serves_asset : Serves IsCanonicalOutcome (empty_market One) (AddAsset aapl) (Plain (reply.Asset 0)) with_asset_0
 serves_asset = record {
   first = None;
-  refused = inr (aapl_is_valid, inr ((λ taken. omega (arith, taken.1)), inr ((λ full. omega (arith, full)), refl)));
+  refused = inr (aapl_is_valid, inr ((λ taken. omega (arith, taken.1)), inr ((λ full. omega (arith, full, one_asset One)), refl)));
   answered = (refl, refl);
 }
 
@@ -270,11 +263,11 @@ serves_seller = record {
               inr (
                 tt,
                 inr (
-                  row_of_one 0 (neg_ℤ (pos 1)) (omega arith, omega arith),
+                  row_of_one One 0 (neg_ℤ (pos 1)) (omega arith, omega arith),
                   inr (
                     first_asset with_buyer.balances (neg_ℤ (pos 1)) (omega arith),
                     inr (
-                      (λ full. omega (arith, full, some_orders)),
+                      (λ full. omega (arith, full, four_orders One)),
                       inr (seller_affords, refl),
                     ),
                   ),
@@ -291,7 +284,7 @@ serves_batch : Serves IsCanonicalOutcome with_seller (RunBatch 10) (Batch 1 (Cle
 unfolding settled_account weight_in portfolio_price
 serves_batch = record {
   first = None;
-  refused = inr ((omega arith, omega arith), inr ((λ full. omega (arith, full)), refl));
+  refused = inr ((omega arith, omega arith), inr ((λ full. omega (arith, full, four_batches One)), refl));
   answered = (Cleared batches.chosen_published, batches.own, (refl, refl));
 }
 
@@ -409,11 +402,11 @@ seller_alone = record {
               inr (
                 tt,
                 inr (
-                  row_of_one 0 (neg_ℤ (pos 1)) (omega arith, omega arith),
+                  row_of_one One 0 (neg_ℤ (pos 1)) (omega arith, omega arith),
                   inr (
                     first_asset a_tick_less.balances (neg_ℤ (pos 1)) (omega arith),
                     inr (
-                      (λ full. omega (arith, full, some_orders)),
+                      (λ full. omega (arith, full, four_orders One)),
                       inr (affords a_tick_less (placed a_tick_less None sells) (omega (arith, ints)) units, refl),
                     ),
                   ),
@@ -472,7 +465,7 @@ limits_are : AreLimits (pos 90) (pos 110)
 limits_are = ((omega (arith, ints), omega (arith, ints)), (omega (arith, ints), omega (arith, ints)), omega (arith, ints))
 
 bad_row : (row : List Entry) → ¬ IsWeightVector row → FirstRefusal enough (Place None (record buys { row = row })) (Some BadRow)
-bad_row row bad = inr ((omega arith, omega arith), inr (limits_are, inr ((omega arith, omega arith), inr ((omega arith, omega arith), inr (tt, inl (bad, refl))))))
+bad_row row bad = inr ((omega arith, omega arith), inr (limits_are, inr ((omega arith, omega arith), inr ((omega arith, omega arith), inr (tt, inl ((λ is. bad is.0), refl))))))
 
 same_asset_twice : FirstRefusal enough (Place None (record buys { row = entry 0 (pos 1) ∷ entry 0 (pos 1) ∷ [] })) (Some BadRow)
 same_asset_twice = bad_row (entry 0 (pos 1) ∷ entry 0 (pos 1) ∷ []) (λ lawful. let above = lawful.ascending 0 (omega arith) in omega (arith, above))
@@ -502,7 +495,7 @@ no_asset =
             inr (
               tt,
               inr (
-                row_of_one 1 (pos 1) (omega arith, omega arith),
+                row_of_one One 1 (pos 1) (omega arith, omega arith),
                 inl ((λ there. let asset = there 0 (entry 0 (pos 1)) (omega arith) in omega (arith, asset)), refl),
               ),
             ),
@@ -533,9 +526,11 @@ budget_65537 : FirstRefusal enough (RunBatch 65537) (Some BadBudget)
 budget_65537 = inl ((λ budget. omega (arith, budget.1)), refl)
 
 last_batch : FirstRefusal (record (empty_market One) { batches = 2 ^ 24 - 1 }) (RunBatch 1) None
+unfolding limits_of
 last_batch = inr ((omega arith, omega arith), inr ((λ held. omega (arith, held)), refl))
 
 no_batch_more : FirstRefusal (record (empty_market One) { batches = 2 ^ 24 }) (RunBatch 1) (Some BatchLimit)
+unfolding limits_of
 no_batch_more = inr ((omega arith, omega arith), inl (omega arith, refl))
 
 -- ---- totals
@@ -596,13 +591,15 @@ invalid : FirstRefusal enough (AddAsset (codes "aapl    ")) (Some BadTicker) × 
 invalid = (inl (no_lower_case (codes "apl    "), refl), inl (no_spaces (codes "       "), refl))
 
 asset_65 : (tickers : List (List ℕ)) → length tickers ≡ 64 → ¬ Contains tickers aapl → FirstRefusal (record (empty_market One) { tickers = tickers }) (AddAsset aapl) (Some AssetLimit)
+unfolding limits_of
 asset_65 tickers count absent = inr (aapl_is_valid, inr (absent, inl (omega (arith, count), refl)))
 
 account_65537 : (m : Market) → account_count m.balances ≡ 65536 → FirstRefusal m OpenAccount (Some AccountLimit)
 account_65537 m count = inl (omega (arith, count), refl)
 
 -- with as many live orders as there may be an order that is otherwise accepted is refused, even if it isn't covered
-one_order_too_many : (orders : List Order) → length orders ≡ most_orders → FirstRefusal (record a_tick_less { orders = orders }) (Place None buys) (Some OrderLimit)
+one_order_too_many : (orders : List Order) → length orders ≡ 16384 → FirstRefusal (record a_tick_less { orders = orders }) (Place None buys) (Some OrderLimit)
+unfolding limits_of
 one_order_too_many orders count =
     inr (
       (omega arith, omega arith),
@@ -615,7 +612,7 @@ one_order_too_many orders count =
             inr (
               tt,
               inr (
-                row_of_one 0 (pos 1) (omega arith, omega arith),
+                row_of_one One 0 (pos 1) (omega arith, omega arith),
                 inr (first_asset a_tick_less.balances (pos 1) (omega arith), inl (omega (arith, count), refl)),
               ),
             ),

@@ -13,6 +13,7 @@ use Rattle.batch_outcome.specs.declared.outcome.Outcome.TheVariants as parts
 use Rattle.batch_outcome.specs.Published.{outcome_of, clearing_of}
 use Rattle.journal_records.specs.Replies.{EncodesAnswer}
 use Rattle.journal_records.proofs.Encoded.{answer_unique}
+use Rattle.market_rules.proofs.VersionLimits.{orders_within}
 use Rattle.market_rules.specs.Market.{Market, IsConsistent, start_prices, cut_price}
 use Rattle.market_rules.specs.Settling.{MaySettle}
 use Rattle.market_rules.specs.Step.{ServesRead, after_batch}
@@ -26,7 +27,7 @@ fits_book : (m : Market) (c : Clearing) → IsConsistent m → IsAdmissibleClear
 fits_book m c consistent right =
     let prices : length (start_prices m) ≡ length m.last_prices = length-map m.last_prices cut_price in
     record {
-      few = consistent.few_orders;
+      few = let few = consistent.few_orders in omega (arith, few, orders_within m.version);
       some = let few = consistent.few_accounts in omega (arith, few);
       there = λ k d inside. (consistent.live k d inside).account;
       rates = sym (length-map c.fills (λ (f : Fill). f.order)) ∙ ap length right.numbers ∙ length-map m.orders (λ (o : Order). o.number);

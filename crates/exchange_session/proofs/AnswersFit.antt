@@ -20,6 +20,7 @@ use Rattle.journal_records.proofs.FieldForms.{reply_fits}
 use Rattle.journal_records.specs.Pairs.{IsPair}
 use Rattle.journal_records.proofs.Encoded.{plain_short, batch_short}
 use Rattle.journal_records.proofs.OutcomesFit.{admissible_outcomes_fit}
+use Rattle.market_rules.proofs.VersionLimits.{orders_within, batches_within}
 use Rattle.market_rules.specs.Market.{Market, IsConsistent, search_of, start_prices}
 use Rattle.market_rules.specs.Step.{FirstRefusal, Accepts, Serves, ServesRead, after_batch}
 use Rattle.market_rules.proofs.ByFirst.{Answers}
@@ -48,9 +49,9 @@ is_price (negsuc n) within = omega (arith, ints, within.0)
 batch_fits : (m : Market) (budget : ℕ) (outcome : Outcome) → IsConsistent m → FirstRefusal m (RunBatch budget) None → m.next_order < 2 ^ 64 → IsAdmissibleOutcome (search_of m.version) m.orders (start_prices m) budget outcome
     → Fits (Batch (m.batches + 1) outcome)
 batch_fits m budget outcome consistent none next right =
-    let fit = admissible_outcomes_fit (search_of m.version) (some_parts m.version) m.orders (start_prices m) budget (m.batches + 1) outcome (λ k d inside. (consistent.live k d inside).order) consistent.few_orders
+    let fit = admissible_outcomes_fit (search_of m.version) (some_parts m.version) m.orders (start_prices m) budget (m.batches + 1) outcome (λ k d inside. (consistent.live k d inside).order) (omega (arith, consistent.few_orders, orders_within m.version))
     (λ k d inside. omega (arith, (consistent.live k d inside).numbered.1, next)) (few_start_prices m consistent) (λ k d inside. is_price (slice_index_or (start_prices m) k d) (start_within m k d inside))
-    (past_unless none).0.1 (omega (arith, consistent.few_batches)) right
+    (past_unless none).0.1 (omega (arith, consistent.few_batches, batches_within m.version)) right
     in
     record { widths = fit.0; short = batch_short (m.batches + 1) outcome fit.0 fit.1 }
 

@@ -3,7 +3,8 @@ use Rattle.std.specs.Prelude.{◌≡◌, ◌+◌, ◌<◌, ℕ, List}
 use Rattle.wire_records.specs.Commands.{Command}
 use Rattle.wire_records.specs.Commands as commands
 use Rattle.batch_outcome.specs.Published.{outcome_of}
-use Rattle.market_rules.specs.Market.{Market, most_batches}
+use Rattle.wire_records.specs.Limits.{limits_of}
+use Rattle.market_rules.specs.Market.{Market}
 use Rattle.market_rules.specs.Step.{after_batch}
 use Rattle.market_rules.specs.Settling.{MaySettle}
 use Rattle.exchange_session.specs.Serving.{ServesCommand}
@@ -22,7 +23,7 @@ pub record IsHeld (old : Market) (command : Command) (text : List ℕ) (held : H
   pub serves : ServesCommand old command (after_held old held) text (variants.Batch held.place)
   pub answer : serves.answers.answer ≡ commands.Batch (old.batches + 1) (outcome_of old.orders held.outcome)
   pub right : MaySettle old held.outcome
-  pub more : old.batches < most_batches
+  pub more : old.batches < (limits_of old.version).batches
 
 -- a command was answered: it is served, or it holds a batch, and the market is as before
 abbrev pub IsAnswered : Market → Command → Market → List ℕ → Answered → Type 0

@@ -9,7 +9,8 @@ use Rattle.flow_orders.specs.Residuals.{most_prices}
 use Rattle.batch_outcome.specs.declared.outcome.Outcome.{Outcome}
 use Rattle.batch_outcome.specs.declared.outcome.Outcome.TheVariants as parts
 use Rattle.canonical_rule.specs.Canonical.{IsCanonicalOutcome}
-use Rattle.market_rules.specs.Market.{Market, most_batches}
+use Rattle.wire_records.specs.Limits.{limits_of}
+use Rattle.market_rules.specs.Market.{Market}
 use Rattle.market_rules.specs.Step.{FirstRefusal}
 use Rattle.market_rules.specs.Journal.{Step}
 use Rattle.exchange_session.specs.declared.session.Asked.{Asked}
@@ -19,7 +20,7 @@ use Rattle.exchange_session.specs.declared.session.Asked.TheVariants as asks
 pub record AsksBatch (old : Market) (asked : Record) (budget : ℕ) : Type 0 where
   pub read : IsReadAs old.version asked (Ok (RunBatch budget))
   pub first : FirstRefusal old (RunBatch budget) None
-  pub more : old.batches < most_batches
+  pub more : old.batches < (limits_of old.version).batches
 
 -- the record got a plain reply by a step of the market, or it asks for a batch, and the market is as before
 abbrev pub IsAsked : Market → Record → Market → Asked → Type 0

@@ -8,7 +8,8 @@ ghost use Rattle.canonical_rule.specs.Canonical.{IsCanonicalOutcome};
 ghost use Rattle.batch_outcome.specs.Published.{outcome_of};
 ghost use Rattle.journal_records.specs.Replies.{answer_record};
 ghost use Rattle.journal_records.specs.Pairs.{pair_encoding};
-ghost use Rattle.market_rules.specs.Market.{IsConsistent, most_batches, search_of, start_prices};
+ghost use Rattle.wire_records.specs.Limits.{limits_of};
+ghost use Rattle.market_rules.specs.Market.{IsConsistent, search_of, start_prices};
 ghost use Rattle.market_rules.specs.Step.{FirstRefusal, after_batch};
 ghost use Rattle.market_rules.specs.Settling.{MaySettle};
 ghost use Rattle.exchange_session.specs.Serving.{AnswersOne};
@@ -87,7 +88,7 @@ pub(crate) fn answer_batch(
     out: &mut Vec<u8>,
 ) -> Result<Outcome, Memory>
     requires first { FirstRefusal market.old (RunBatch budget) None }
-    requires more { market.old.batches < most_batches }
+    requires more { market.old.batches < (limits_of market.old.version).batches }
     ensures own { IfOk result (λ outcome. IsCanonicalOutcome (search_of market.old.version) market.old.orders
         (start_prices market.old) budget (outcome_of market.old.orders outcome)) }
     ensures settles { IfOk result (MaySettle market.old) }
@@ -112,7 +113,7 @@ pub(crate) fn hold_batch(
     out: &mut Vec<u8>,
 ) -> Result<(), Memory>
     requires first { FirstRefusal market.old (RunBatch budget) None }
-    requires more { market.old.batches < most_batches }
+    requires more { market.old.batches < (limits_of market.old.version).batches }
     requires read { IsReadAs market.old.version asked.now (Ok (RunBatch budget)) }
     requires short { IsRecord most_body asked.now }
     ensures served { OnOk result ((text : List ℕ) × AnswersOne market.old asked.now market.new text

@@ -159,7 +159,8 @@ pub fn answer_command(
 impl Session {
     ghost use Rattle.wire_records.specs.Records.{IsRecord, most_body};
     ghost use Rattle.wire_records.specs.declared.version.Version.TheVariants.{One};
-    ghost use Rattle.market_rules.specs.Market.{empty_market, most_batches, IsConsistent};
+    ghost use Rattle.wire_records.specs.Limits.{limits_of};
+    ghost use Rattle.market_rules.specs.Market.{empty_market, IsConsistent};
     ghost use Rattle.market_rules.specs.Settling.{MaySettle};
     ghost use Rattle.wire_records.specs.Formats.{commands};
     ghost use Rattle.file_units.specs.Units.{IsTaken, StaysReady};
@@ -286,7 +287,7 @@ impl Session {
     /// are, and one over the orders and the legs of those that leave.
     pub fn settle(&mut self, held: &HeldBatch)
         requires right { MaySettle self.old held.now.outcome }
-        requires more { self.old.batches < most_batches }
+        requires more { self.old.batches < (limits_of self.old.version).batches }
         ensures { self.new ≡ after_held self.old held.now }
     {
         self.market.settle(&held.outcome);

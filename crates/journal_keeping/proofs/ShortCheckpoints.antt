@@ -16,6 +16,7 @@ use Rattle.flow_accounts.specs.Balances.{Account, Credit, account_count}
 use Rattle.flow_accounts.specs.Lawful.{most_assets}
 use Rattle.flow_orders.specs.Orders.{Order}
 use Rattle.flow_orders.proofs.Limits.{orders_fit}
+use Rattle.market_rules.proofs.VersionLimits.{orders_within}
 use Rattle.market_rules.specs.Market.{Market, IsConsistent}
 use Rattle.market_history.specs.Histories.{Empty, Kept}
 use Rattle.market_snapshot.specs.Checkpoints.{checkpoint_magic, ticks_of, account_fields, order_fields, checkpoint_bytes}
@@ -127,6 +128,7 @@ checkpoint_short m is =
       arith,
       is.few_accounts,
       is.few_orders,
+      orders_within m.version,
       orders_fit,
       is.tickers.few,
       is.one_each.tickers,

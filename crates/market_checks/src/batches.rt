@@ -1,15 +1,11 @@
 //! Which batches are allowed.
-ghost use Rattle.std.specs.Prelude.{◌≤◌};
-ghost use Rattle.market_rules.specs.Market.{Market as market_value, most_batches};
+ghost use Rattle.market_rules.specs.Market.{Market as market_value};
 ghost use Rattle.market_rules.specs.Settling.{MaySettle};
 
 use batch_outcome::{Outcome, Skipped, Trace};
 use check_lines::Told;
 use market_core::Market;
 use std::alloc::Global;
-
-// The most batches that are held.
-const MOST_BATCHES: u32 = 1 << 24;
 
 // Returns a batch that was skipped: a market counts it, and the orders that end with it leave.
 fn skipped(alloc: Global) -> Outcome
@@ -22,12 +18,11 @@ fn skipped(alloc: Global) -> Outcome
     })
 }
 
-// Skips batches until this many were held.
+// Skips batches until this many were held, or no more is allowed.
 fn hold(market: &mut Market, outcome: &Outcome, count: u32)
-    requires few { count ≤ most_batches }
     requires skipped { (m : market_value) → MaySettle m outcome.now }
 {
-    while market.batches() < count {
+    while market.batches() < count && market.batch_allowed(1).is_ok() {
         market.settle(outcome);
     }
 }
@@ -52,10 +47,10 @@ fn put_row(market: &Market, told: &mut Told) {
 
 // Holds batches until there were this many, and appends the row.
 fn put_held(alloc: Global, market: &mut Market, count: u32, told: &mut Told) {
-    if count > MOST_BATCHES {
+    hold(market, &skipped(alloc), count);
+    if market.batches() < count {
         return told.give_up();
     }
-    hold(market, &skipped(alloc), count);
     put_row(market, told);
 }
 

@@ -4,13 +4,11 @@
 //! refusal of a command, or its answer and the market after it), `Journal` (sequences of steps, totals, fills), `Promises`
 //! (what a journal promises of batches and fills), `Allocating` (which commands may run out of memory), `Settling` (which
 //! outcomes can be settled). Each function of [`laws`] is a law about these, and does nothing when it runs. Code uses only
-//! what it says by version and in numbers: [`search_of`] and [`parts_of`], [`MOST_ORDERS`] and [`MOST_BATCHES`].
+//! what it says by version and in numbers: [`search_of`] and [`parts_of`], and [`MOST_ORDERS`].
 #![tactic(auto)]
 
 pub mod laws;
-mod limits;
 mod search;
 
 pub use flow_orders::MOST_ORDERS;
-pub use limits::MOST_BATCHES;
 pub use search::{parts_of, search_of};

@@ -16,6 +16,7 @@ use Rattle.wire_records.specs.declared.version.Version.TheVariants.{One}
 use Rattle.flow_accounts.specs.Balances.{Account, Credit, asset_count}
 use Rattle.flow_accounts.specs.Lawful.{AreLawful, IsLawfulAccount, IsLawfulCredit, IsMoneyBalance, IsUnitBalance, IsMoneyTotal, IsUnitTotal}
 use Rattle.flow_orders.specs.Orders.{Order}
+use Rattle.market_rules.proofs.VersionLimits.{orders_within, batches_within}
 use Rattle.market_rules.specs.Market.{Market, IsConsistent, IsLiveOrder}
 use Rattle.market_rules.proofs.Lawful.{consistent_is_lawful}
 use Rattle.wire_records.specs.Versions.{number_of}
@@ -110,14 +111,14 @@ module _ (m : Market) (consistent : IsConsistent m) (next : m.next_order < 2 ^ 6
       total_units = λ i d inside. total_units_fit (get_or m.balances.totals.units i d) (lawful.total_units i d inside);
     };
     exchange = record {
-      money = near_16 m.exchange.money (omega (arith, consistent.widths.exchange_money, consistent.few_batches));
+      money = near_16 m.exchange.money (omega (arith, consistent.widths.exchange_money, consistent.few_batches, batches_within m.version));
       balances = consistent.one_each.exchange ∙ sym consistent.one_each.tickers;
-      units = λ i d inside. near_8 (get_or m.exchange.units i d) (omega (arith, consistent.widths.exchange_units i d inside, consistent.few_batches));
+      units = λ i d inside. near_8 (get_or m.exchange.units i d) (omega (arith, consistent.widths.exchange_units i d inside, consistent.few_batches, batches_within m.version));
     };
     next = omega (arith, next);
-    batches = omega (arith, consistent.few_batches);
+    batches = omega (arith, consistent.few_batches, batches_within m.version);
     price_each = consistent.one_each.prices ∙ sym consistent.one_each.tickers;
     prices = λ i d inside. near_8 (get_or m.last_prices i d) (consistent.prices i d inside);
-    few = omega (arith, length-map m.orders read_order, consistent.few_orders);
+    few = omega (arith, length-map m.orders read_order, consistent.few_orders, orders_within m.version);
     orders = All-map FitsOrder read_order m.orders (λ i d inside. order_fits (get_or m.orders i d) (consistent.live i d inside) (last i d inside));
   }

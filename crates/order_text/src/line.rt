@@ -79,18 +79,18 @@ fn add(tickers: &mut TickerTable, ticker: [u8; 8], most: u16) -> Result<(), Line
 }
 
 // Adds the ticker that a line adds in a version, if it adds one.
-fn add_ticker(
-    tickers: &mut TickerTable,
-    read: &LineRead,
-    version: Version,
-) -> Result<(), LineFault>
+fn add_ticker(tickers: &mut TickerTable, read: &LineRead, version: Version) -> Result<(), LineFault>
     ensures after { OnOk result (AreAfter version tickers.old read.now tickers.new) }
     ensures asked { OnErr result (AddsSome read.now) }
     ensures stays { OnErr result (tickers.new ≡ tickers.old) }
     ensures fault { ¬ IsErrOf result LineFault.NoCommand }
 {
     match read {
-        LineRead::Asks(Command::AddAsset { ticker }) => add(tickers, *ticker, version.limits().assets),
+        LineRead::Asks(Command::AddAsset { ticker }) => add(
+            tickers,
+            *ticker,
+            version.limits().assets,
+        ),
         _ => Ok(()),
     }
 }

@@ -26,7 +26,7 @@
 //! | `reader KIND: BYTES` | `StdSource::read`, then `read_all` up to 3 and 1,000, of a `slice` or a `broken` reader | as for `reads` and `read` |
 //! | `writer KIND PIECES:` | `StdSink::write` of each piece to a `vector`, an `array` of three bytes, a `broken` or an `unflushed` writer | `done` or `failed`; then what a vector or an array has |
 //! | `window: BYTES` | `Window::fill` of four bytes within six, `advance`, `fill`; then `read_all` up to 8 | `enough`, `ended` or `limited`, and what it holds; `at` its place; as for `read` |
-//! | `tickers COUNT: TICKERS` | `TickerTable::add`, with so many tickers in the table | `asset NUMBER`, `bad`, `taken NUMBER` or `full`; then `of` how many |
+//! | `tickers COUNT: TICKERS` | `TickerTable::add`, with so many tickers in the table; with `tickers COUNT MOST:` `add_within` of at most MOST | `asset NUMBER`, `bad`, `taken NUMBER` or `full`; then `of` how many |
 //! | `found COUNT NUMBER: TICKER` | `TickerTable::find`, `ticker`, with so many tickers in the table | `found NUMBER` or `none`; the ticker of the number or `none` |
 //! | `legs LEGS:` | `row_fault`, `EntryList::into_vec` | `lawful`, or why these are no weight vector; then the legs |
 //! | `leg PLACE ASSET LEG:` | `place_fault`, after a leg of this asset, or `-` | the same of one place |

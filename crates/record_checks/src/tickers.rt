@@ -2,7 +2,7 @@
 use crate::telling::{put, put_bytes};
 use check_lines::Told;
 use std::alloc::Global;
-use ticker_table::{TickerFault, TickerTable};
+use ticker_table::{MOST_TICKERS, TickerFault, TickerTable};
 
 fn put_added(added: Result<u16, TickerFault>, told: &mut Told) {
     match added {
@@ -14,11 +14,19 @@ fn put_added(added: Result<u16, TickerFault>, told: &mut Told) {
     }
 }
 
-// Adds each eight bytes to the table, and prints what comes of it.
-fn add_all(table: &mut TickerTable, bytes: &[u8], told: &mut Told) {
+// Adds a ticker to the table, or to one of at most so many.
+fn add(table: &mut TickerTable, ticker: [u8; 8], most: Option<u16>) -> Result<u16, TickerFault> {
+    match most {
+        Some(most) => table.add_within(ticker, most.min(MOST_TICKERS)),
+        None => table.add(ticker),
+    }
+}
+
+// Adds each eight bytes to the table, or to one of at most so many, and prints what comes of it.
+fn add_all(table: &mut TickerTable, bytes: &[u8], most: Option<u16>, told: &mut Told) {
     for piece in bytes.chunks(8) {
         match piece.try_into() {
-            Ok(ticker) => put_added(table.add(ticker), told),
+            Ok(ticker) => put_added(add(table, ticker, most), told),
             Err(_) => told.give_up(),
         }
     }
@@ -53,10 +61,11 @@ fn table_of(alloc: Global, count: &str, told: &mut Told) -> TickerTable {
     table
 }
 
-// Prints what comes of adding tickers to a table of so many others; then how many there are.
-pub(crate) fn put_tickers(alloc: Global, count: &str, bytes: &[u8], told: &mut Told) {
+// Prints what comes of adding tickers to a table of so many others, perhaps of at most so many; then how many there are.
+pub(crate) fn put_tickers(alloc: Global, words: &str, bytes: &[u8], told: &mut Told) {
+    let (count, most) = words.split_once(' ').unwrap_or((words, ""));
     let mut table = table_of(alloc, count, told);
-    add_all(&mut table, bytes, told);
+    add_all(&mut table, bytes, most.parse().ok(), told);
     put("of", &[table.len().into()], told);
 }
 

@@ -20,10 +20,10 @@ returns-then-not-are_consistent_balances g c = refuted c.are_consistent_balances
 
 pub returns : goal.returns
 returns g c = (
-    λ t. record {
-      counts = rw c.limits.ensures at (c.has_consistent_counts.ensures.0 c.if-not-has_consistent_counts.false);
-      balances = rw c.most_credit_of.ensures.value at (c.are_consistent_balances.ensures.0 c.if-not-are_consistent_balances.false);
-      sums = c.has_consistent_sums.ensures.0 t;
-    },
-    λ s. c.has_consistent_sums.ensures.1 s.sums,
-  )
+  λ t. record {
+    counts = rw c.limits.ensures at (c.has_consistent_counts.ensures.0 c.if-not-has_consistent_counts.false);
+    balances = rw c.most_credit_of.ensures.value at (c.are_consistent_balances.ensures.0 c.if-not-are_consistent_balances.false);
+    sums = c.has_consistent_sums.ensures.0 t;
+  },
+  λ s. c.has_consistent_sums.ensures.1 s.sums,
+)
