@@ -5,7 +5,7 @@ ghost use Rattle.wire_records.specs.Commands.{RunBatch};
 ghost use Rattle.batch_outcome.specs.Published.{clearing_of, outcome_of};
 ghost use Rattle.flow_orders.specs.Outcomes.{Cleared as ClearedBatch};
 ghost use Rattle.wire_records.specs.Limits.{limits_of};
-ghost use Rattle.market_rules.specs.Market.{IsConsistent, start_prices, cut_price};
+ghost use Rattle.market_rules.specs.Market.{IsConsistent, most_batches, start_prices, cut_price};
 ghost use Rattle.market_rules.specs.Step.{FirstRefusal, after_batch};
 ghost use Rattle.market_rules.specs.Settling.{MaySettle, MaySettleAt};
 
@@ -32,7 +32,8 @@ fn cut_price(price: i64) -> i64
 
 impl Market {
     /// Returns `Ok` if a batch with this budget of moves may be held now, and else the first refusal: `BadBudget`
-    /// exactly if the budget isn't from 1 to 65,536, then `BatchLimit` exactly if 2^24 batches were held.
+    /// exactly if the budget isn't from 1 to 65,536, then `BatchLimit` exactly if as many batches were held as the market's
+    /// version allows.
     pub fn batch_allowed(&self, budget: u32) -> Result<(), Refusal>
         ensures first { MatchResult result
             (λ _. FirstRefusal self.now (RunBatch budget) None)
@@ -48,9 +49,11 @@ impl Market {
         Ok(())
     }
 
-    /// Returns how many batches were held, cleared or skipped: at most 2^24.
+    /// Returns how many batches were held, cleared or skipped: at most as many as the market's version allows.
+    #[tactic(auto, using(market_rules::proofs::VersionLimits::batches_within))]
     pub fn batches(&self) -> u32
         ensures value { result ≡ self.now.batches }
+        ensures few { self.now.batches ≤ most_batches }
         ensures consistent { IsConsistent self.now }
     {
         self.batches
@@ -84,8 +87,8 @@ impl Market {
     /// once it is filled to its cap, and the prices become the last cleared ones. In either case the orders leave whose
     /// last batch this was; a batch that was skipped changes nothing else.
     ///
-    /// The outcome is admissible for the live orders and the start prices, and fewer than 2^24 batches were held. The
-    /// call takes no memory and can't fail. It costs two passes over the legs of the live orders, however many accounts
+    /// The outcome is admissible for the live orders and the start prices, and fewer batches were held than the market's
+    /// version allows. The call takes no memory and can't fail. It costs two passes over the legs of the live orders, however many accounts
     /// there are, and one over the orders and the legs of those that leave.
     #[tactic(auto, using(market_rules::proofs::VersionLimits::batches_within))]
     pub fn settle(&mut self, outcome: &Outcome)

@@ -7,6 +7,7 @@ ghost use Rattle.wire_records.specs.CommandRecords.{IsCommand};
 ghost use Rattle.wire_records.specs.Views.{command_of};
 ghost use Rattle.wire_records.specs.Versions.{IsOfVersion};
 ghost use Rattle.wire_records.specs.declared.version.Version.TheVariants.{One};
+ghost use Rattle.flow_orders.specs.Orders.{most_orders};
 ghost use Rattle.market_core.specs.Private.{refusal_for, ticker_refusal, IsAnswered};
 
 use crate::prices::LastPrices;
@@ -244,10 +245,12 @@ impl Market {
         &self.accounts
     }
 
-    /// Returns the live orders, by ascending numbers: at most 16,384. If orders were cancelled since the last call,
-    /// this takes one pass over the book, which closes the gaps that they left. The market is as before.
+    /// Returns the live orders, by ascending numbers: at most as many as the market's version allows. If orders were cancelled
+    /// since the last call, this takes one pass over the book, which closes the gaps that they left. The market is as before.
+    #[tactic(auto, using(market_rules::proofs::VersionLimits::orders_within))]
     pub fn orders(&mut self) -> &[Order]
         ensures value { result.now ≡ self.old.orders }
+        ensures few { length self.old.orders ≤ most_orders }
         ensures consistent { IsConsistent self.old }
         ensures* after { sem 𝓛 (StaysAsListed self.entry) }
     {
@@ -255,8 +258,10 @@ impl Market {
     }
 
     /// Returns the book: the live orders, which it lends where they are, and what they reserve of each account.
+    #[tactic(auto, using(market_rules::proofs::VersionLimits::orders_within))]
     pub fn book(&self) -> &Book
         ensures orders { result.now.orders ≡ self.now.orders }
+        ensures few { length self.now.orders ≤ most_orders }
         ensures consistent { IsConsistent self.now }
     {
         &self.book
