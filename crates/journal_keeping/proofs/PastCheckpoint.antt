@@ -18,7 +18,6 @@ use Rattle.market_history.proofs.Starting.{magic_on}
 use Rattle.journal_disk.specs.Entries.{framed}
 use Rattle.journal_keeping.specs.declared.fault.InputFault.{InputFault}
 use Rattle.journal_keeping.specs.declared.fault.InputFault.TheVariants.{Read, Memory, NotFlow}
-use Rattle.journal_keeping.specs.declared.source_start.OpenStart.{OpenStart}
 use Rattle.journal_keeping.specs.Inputs.{IsInCheckpoint}
 use Rattle.journal_keeping.specs.Starts.{BeginsOtherwise}
 use Rattle.journal_keeping.specs.Beginning.{OpensStart}
@@ -57,7 +56,7 @@ not_ended : (over : Option InputEnd) → over ≡ Some Source → ¬ (over ≡ S
 not_ended over is e = absurd cc
 
 -- neither another beginning nor running out of memory is a fault of reading
-pub not_read_then : (fault : InputFault) → (fault ≡ NotFlow) ⊎ (fault ≡ Memory) → ¬ (◌≡◌ {A = Result OpenStart InputFault} (Err fault) (Err Read))
+pub not_read_then : {A : Type 0} (fault : InputFault) → (fault ≡ NotFlow) ⊎ (fault ≡ Memory) → ¬ (◌≡◌ {A = Result A InputFault} (Err fault) (Err Read))
 not_read_then fault (inl is) e = absurd cc
 not_read_then fault (inr is) e = absurd cc
 

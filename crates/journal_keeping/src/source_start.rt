@@ -18,7 +18,7 @@ use crate::version::is_same;
 use flow_io::{Filled, Source, Window};
 use journal_disk::stored_first;
 use market_core::Market;
-use market_history::{StartFault, kept_checkpoint};
+use market_history::{KeptCheckpoint, StartFault, kept_checkpoint};
 use market_snapshot::CHECKPOINT_MAGIC;
 use std::alloc::Global;
 use wire_records::{MOST_RECORD, Version, command_version};
@@ -78,26 +78,25 @@ pub(crate) fn open_source<S: Source>(
     }
 }
 
-// Moves a window, which is after the checkpoint of this market, past the magic of a command file of its version. The bytes of the checkpoint
-// become the first entry of the disk.
+// Moves a window, which is after the checkpoint of this market, past the magic of a command file of its version, and makes the first entry
+// of the disk of the checkpoint's bytes. The market is lent, since each exit of a function that owns one drops it.
 fn after_checkpoint<S: Source>(
     window: Window,
     source: &mut S,
-    market: Market,
+    market: &Market,
     checkpoint: Vec<u8>,
-) -> Result<OpenStart, InputFault>
+) -> Result<(Window, Vec<u8>), InputFault>
     requires room { window.room ≡ longest_record }
     requires open { window.over ≡ None }
     requires within { window.place + length window.held ≤ window.limit }
     requires few { window.limit ≤ most_input }
-    requires placed { window.place ≡ length (checkpoint_bytes market) }
-    requires checkpoint { checkpoint.items ≡ checkpoint_bytes market }
-    ensures opens { IfOk result (λ o. (before : Option (List ℕ)) → IsCheckpoint market (checkpoint_bytes market) →
-        Takes before (S.rest source.old) (checkpoint_bytes market ++ window.held) →
-        OpensStart window.limit o.market o.stored.items o.window before (S.rest source.new)) }
-    ensures market { IfOk result (λ o. o.market ≡ market) }
-    ensures of_source { IfErr result (λ fault. (before : Option (List ℕ)) → IsCheckpoint market (checkpoint_bytes market) →
-        Takes before (S.rest source.old) (checkpoint_bytes market ++ window.held) →
+    requires placed { window.place ≡ length (checkpoint_bytes market.now) }
+    requires checkpoint { checkpoint.items ≡ checkpoint_bytes market.now }
+    ensures opens { IfOk result (λ o. (before : Option (List ℕ)) → IsCheckpoint market.now (checkpoint_bytes market.now) →
+        Takes before (S.rest source.old) (checkpoint_bytes market.now ++ window.held) →
+        OpensStart window.limit market.now o.1.items o.0 before (S.rest source.new)) }
+    ensures of_source { IfErr result (λ fault. (before : Option (List ℕ)) → IsCheckpoint market.now (checkpoint_bytes market.now) →
+        Takes before (S.rest source.old) (checkpoint_bytes market.now ++ window.held) →
         NotTaken source_format window.limit None before (S.rest source.new) fault × TakesAtMost before (S.rest source.new) (window.limit + 1)) }
     ensures cause { Blames (result ≡ Err InputFault.Read) (S.faults source.old) (S.faults source.new) }
 {
@@ -110,11 +109,7 @@ fn after_checkpoint<S: Source>(
     }
     match after_magic(window, market.version()) {
         Ok(window) => match stored_first(checkpoint) {
-            Ok(stored) => Ok(OpenStart {
-                window,
-                market,
-                stored,
-            }),
+            Ok(stored) => Ok((window, stored)),
             Err(_) => Err(InputFault::Memory),
         },
         Err(fault) => Err(fault),
@@ -156,7 +151,17 @@ fn start_at<S: Source>(
         return Err(InputFault::NotFlow);
     }
     match kept_checkpoint(alloc, &mut window, source) {
-        Ok(kept) => after_checkpoint(window, source, kept.market, kept.bytes),
+        Ok(kept) => {
+            let KeptCheckpoint { market, bytes } = kept;
+            match after_checkpoint(window, source, &market, bytes) {
+                Ok((window, stored)) => Ok(OpenStart {
+                    window,
+                    market,
+                    stored,
+                }),
+                Err(fault) => Err(fault),
+            }
+        }
         Err(StartFault::Read) => Err(InputFault::Read),
         Err(StartFault::Memory) => Err(InputFault::Memory),
         Err(StartFault::NotFlow) => Err(InputFault::NotFlow),

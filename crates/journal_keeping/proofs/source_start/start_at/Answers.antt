@@ -6,7 +6,6 @@ use Rattle.market_history.specs.declared.start.StartFault.{StartFault}
 use Rattle.market_history.specs.Kept.{FindsNone}
 use Rattle.market_snapshot.specs.Checkpoints.{checkpoint_magic}
 use Rattle.journal_keeping.specs.Beginning.{OpensStart}
-use Rattle.journal_keeping.proofs.Counts.{on_ok, on_err}
 use Rattle.journal_keeping.proofs.AtStart.{few_at, opened_at, neither_at, checkpoint_at, unread_at, out_at, unsound_at, of_limit}
 use Rattle.journal_keeping.proofs.source_start.start_at.Goals as goal
 
@@ -25,21 +24,19 @@ returns-then-not-starts_with-clause-of_source g c = λ before takes. (
   few_at before (g.S.Source.rest c.args.source.now) c.args.window takes c.requires.some c.requires.first c.requires.within,
 )
 
-pub returns-in-Ok-clause-opens : goal.returns-in-Ok-clause-opens
-returns-in-Ok-clause-opens g c =
+pub returns-in-Ok-after_checkpoint-clause-opens : goal.returns-in-Ok-after_checkpoint-clause-opens
+returns-in-Ok-after_checkpoint-clause-opens g c = λ before takes.
     let begins = (starts_is Decides-eqb c.args.window.held checkpoint_magic c.starts_with.result (rw c.held-2.ensures.held at c.starts_with.ensures.value)).0 c.if-not-starts_with.false in
     let found = c.in-Ok.ensures.kept in
-    on_ok c.after_checkpoint.result _ _ (λ o opens before takes.
     let at = checkpoint_at before (g.S.Source.rest c.args.source.now) c.args.window takes c.requires.some c.requires.first c.requires.within (g.S.Source.rest c.kept_checkpoint.new.source) (drop 8 c.args.window.held, begins) c.kept_checkpoint.new.window c.in-Ok.kept.market found in
-    subst (λ (n : ℕ). OpensStart n o.market o.stored.items o.window before (g.S.Source.rest c.after_checkpoint.new.source)) found.taken.limit (opens before at.0 at.1)) c.after_checkpoint.ensures.opens
+    subst (λ (n : ℕ). OpensStart n c.in-Ok.kept.market c.in-Ok-after_checkpoint.stored.items c.in-Ok-after_checkpoint.window before (g.S.Source.rest c.after_checkpoint.new.source)) found.taken.limit (c.in-Ok-after_checkpoint.ensures.opens before at.0 at.1)
 
 pub returns-in-Ok-clause-of_source : goal.returns-in-Ok-clause-of_source
-returns-in-Ok-clause-of_source g c =
+returns-in-Ok-clause-of_source g c = λ before takes.
     let begins = (starts_is Decides-eqb c.args.window.held checkpoint_magic c.starts_with.result (rw c.held-2.ensures.held at c.starts_with.ensures.value)).0 c.if-not-starts_with.false in
     let found = c.in-Ok.ensures.kept in
-    on_err c.after_checkpoint.result _ _ (λ fault of before takes.
     let at = checkpoint_at before (g.S.Source.rest c.args.source.now) c.args.window takes c.requires.some c.requires.first c.requires.within (g.S.Source.rest c.kept_checkpoint.new.source) (drop 8 c.args.window.held, begins) c.kept_checkpoint.new.window c.in-Ok.kept.market found in
-    of_limit before (g.S.Source.rest c.after_checkpoint.new.source) fault c.kept_checkpoint.new.window.limit c.args.window.limit found.taken.limit (of before at.0 at.1)) c.after_checkpoint.ensures.of_source
+    of_limit before (g.S.Source.rest c.after_checkpoint.new.source) c.in-Err.fault c.kept_checkpoint.new.window.limit c.args.window.limit found.taken.limit (c.in-Err.ensures.of_source before at.0 at.1)
 
 pub returns-in-Err-Read-clause-of_source : goal.returns-in-Err-Read-clause-of_source
 returns-in-Err-Read-clause-of_source g c = λ before takes.
