@@ -1,0 +1,5 @@
+pub mod Wholes
+pub mod Counted
+pub mod Steadiness
+pub mod EvenLaws
+pub mod Alone

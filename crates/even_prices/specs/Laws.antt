@@ -1,0 +1,67 @@
+-- What holds at even prices.
+use Rattle.std.specs.Prelude.{◌≡◌, ◌≢◌, ◌⊎◌, ℕ, ◌*◌, ◌<◌, ◌≤◌, ℤ, pos, ◌≤ℤ◌, unsigned_abs, List, [], ◌∷◌, length, All, Bool, false}
+use Rattle.std.specs.List.{filter, sum_by, range_with_len}
+use Rattle.weight_rows.specs.Rows.{weight_in, IsPricedBy}
+use Rattle.demand_curve.specs.Demand.{IsRounding, scaled_demand, span, floor_rate}
+use Rattle.flow_orders.specs.Orders.{Order, IsOrder, terms_of}
+use Rattle.flow_orders.specs.Excess.{price_for, residual_bound, low_part_in, high_part_in}
+use Rattle.flow_orders.specs.Trades.{trades, residual}
+use Rattle.even_prices.specs.Even.{even_parts, IsEven, AreEven}
+use Rattle.even_prices.specs.Active.{IsActive, active_bound, AreWithinAGrain, IsSteady}
+
+-- one rate for each order, which is a rounding of the order's demand at these prices
+pub record AreRounded (orders : List Order) (prices : List ℤ) (rates : List ℕ) : Type 0 where
+  pub one_each : length rates ≡ length orders
+  pub roundings : All (λ t. IsRounding (terms_of t.order) t.traded (price_for prices t.order)) (trades orders rates)
+
+-- the imbalance of an even asset is at most its bound by active legs, whatever way demands are rounded
+abbrev pub EvenResidualsAreBounded : Type 0
+EvenResidualsAreBounded = (orders : List Order) (prices : List ℤ) (rates : List ℕ) (asset : ℕ)
+    → All IsOrder orders → asset < length prices → AreRounded orders prices rates → IsEven orders prices asset
+    → unsigned_abs (residual (trades orders rates) asset) ≤ active_bound orders prices asset
+
+-- the bound by active legs is at most the tolerance of the asset
+abbrev pub ActiveBoundsAreWithinTolerances : Type 0
+ActiveBoundsAreWithinTolerances = (orders : List Order) (prices : List ℤ) (asset : ℕ) → active_bound orders prices asset ≤ residual_bound orders asset
+
+-- an order whose demand is the same at all prices within a grain widens nobody's residual
+pub record SteadyOrdersWidenNothing : Type 0 where
+  -- each order that isn't active is one
+  pub inactive : (o : Order) (prices : List ℤ) → IsOrder o → ¬ IsActive o prices → IsSteady o prices
+  -- at all prices within a grain it adds one number to the low and to the high excess of an asset, in any parts
+  pub one_part : (parts : ℕ) (o : Order) (prices : List ℤ) (asset : ℕ) → IsOrder o → asset < length prices → IsSteady o prices
+      → (z : ℤ) × ((others : List ℤ) → AreWithinAGrain prices others
+      → (low_part_in parts (weight_in o.row asset) (terms_of o) (price_for others o) ≡ z) × (high_part_in parts (weight_in o.row asset) (terms_of o) (price_for others o) ≡ z))
+  -- the imbalance of an even asset is at most the bound by the legs of all other orders, whatever way demands are rounded
+  pub uncounted : (counts : Order → Bool) (orders : List Order) (prices : List ℤ) (rates : List ℕ) (asset : ℕ)
+      → All IsOrder orders → asset < length prices → AreRounded orders prices rates → IsEven orders prices asset
+      → All (λ o. counts o ≡ false → IsSteady o prices) orders
+      → unsigned_abs (residual (trades orders rates) asset) ≤ residual_bound (filter counts orders) asset
+
+-- the demand of an order is less than 1/256 of a unit
+abbrev pub IsLittle : Order → List ℤ → Type 0
+IsLittle o prices = even_parts * scaled_demand (terms_of o) (price_for prices o) < span (terms_of o)
+
+-- nobody sells an asset, or nobody buys it
+abbrev pub IsOneSided : List Order → ℕ → Type 0
+IsOneSided orders asset = All (λ o. pos 0 ≤ℤ weight_in o.row asset) orders ⊎ All (λ o. weight_in o.row asset ≤ℤ pos 0) orders
+
+-- the sum of the absolute imbalances of n assets, if an order trades x units and no other order trades
+abbrev pub left_alone : ℕ → Order → ℕ → ℕ
+left_alone n o x = sum_by (λ asset. unsigned_abs (residual (trades (o ∷ []) (x ∷ [])) asset)) (range_with_len 0 n)
+
+-- an order that has nobody to trade with: its demand is less than 1/256 of a unit, so it is 0 if it is rounded down; no rounding of it is
+-- above 1; and a rate that leaves no larger sum of absolute imbalances than the demand rounded down is 0
+pub record TradesNothing (o : Order) (prices : List ℤ) : Type 0 where
+  pub little : IsLittle o prices
+  pub rounded_down : floor_rate (terms_of o) (price_for prices o) ≡ 0
+  pub rounded : (x : ℕ) → IsRounding (terms_of o) x (price_for prices o) → x ≤ 1
+  pub nothing : (x : ℕ) → left_alone (length prices) o x ≤ left_alone (length prices) o (floor_rate (terms_of o) (price_for prices o)) → x ≡ 0
+
+-- who has nobody to trade with trades nothing, whatever weights and rate
+pub record NobodyTradesAlone : Type 0 where
+  -- of an even asset that nobody sells, or that nobody buys, no order demands 1/256 of a unit
+  pub one_sided : (orders : List Order) (prices : List ℤ) (asset : ℕ)
+      → All IsOrder orders → IsEven orders prices asset → IsOneSided orders asset → All (λ o. weight_in o.row asset ≢ pos 0 → IsLittle o prices) orders
+  -- an order that is alone at even prices trades nothing
+  pub alone : (o : Order) (prices : List ℤ) → IsOrder o → IsPricedBy o.row prices → AreEven (o ∷ []) prices → TradesNothing o prices

@@ -1,0 +1,26 @@
+//! What holds at even prices. Each law is the contract of a function that does nothing.
+ghost use Rattle.even_prices.specs.Laws.{EvenResidualsAreBounded, ActiveBoundsAreWithinTolerances, SteadyOrdersWidenNothing, NobodyTradesAlone};
+
+/// The imbalance of an even asset is at most its bound by active legs, however the demands are rounded.
+pub fn even_residuals_are_bounded()
+    ensures { EvenResidualsAreBounded }
+{}
+
+/// The bound by active legs is at most the tolerance of the asset.
+pub fn active_bounds_are_within_tolerances()
+    ensures { ActiveBoundsAreWithinTolerances }
+{}
+
+/// An order whose demand is the same at all prices within a grain widens nobody's residual: it adds one number to the low
+/// and the high excess of an asset, and its legs needn't be counted. Each order that isn't active is one, and some that are
+/// active are too, such as one that is near its cap.
+pub fn steady_orders_widen_nothing()
+    ensures { SteadyOrdersWidenNothing }
+{}
+
+/// Who has nobody to trade with trades nothing, whatever the weights and the rate. Of an even asset that nobody sells, or
+/// that nobody buys, no order demands 1/256 of a unit. An order that is alone at even prices has 0 as its demand rounded
+/// down, and each other rate leaves more.
+pub fn nobody_trades_alone()
+    ensures { NobodyTradesAlone }
+{}

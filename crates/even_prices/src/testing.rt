@@ -1,0 +1,90 @@
+//! The test whether prices are even.
+ghost use Rattle.std.specs.Prelude.{◌≡◌, ◌<◌, ◌≤◌, ◌^◌, ◌↔◌, pos, ◌≤ℤ◌, ◌<ℤ◌, length, unsigned_abs, All, IsTrue, IfSome, IfNone};
+ghost use Rattle.weight_rows.specs.Rows.{IsPrice, price_of};
+ghost use Rattle.flow_orders.specs.Orders.{IsOrder};
+ghost use Rattle.flow_orders.specs.Excess.{low_excess_in, high_excess_in};
+ghost use Rattle.flow_orders.specs.Moves.{risen, fallen};
+ghost use Rattle.even_prices.specs.Even.{even_parts, IsEven, AreEven, IsFirstUneven};
+
+use excess_bounds::{Excess, Workspace};
+
+// How many parts of a unit an excess is counted in.
+const PARTS: u16 = 256;
+
+/// Returns whether an asset is even at the prices of a search, of which its own is less than 2^62 grains from 0.
+///
+/// It costs a pass over the orders that name the asset, and a second one if its low excess is above 0 or its high one below
+/// 0, each with at most one division for each order. It allocates nothing.
+pub fn is_even(work: &Workspace<'_>, asset: u16) -> bool
+    requires asset { asset < length work.now.prices }
+    requires inner { unsigned_abs (price_of work.now.prices asset) < 2 ^ 62 }
+    ensures { IsTrue result ↔ IsEven work.now.orders work.now.prices asset }
+{
+    let excess = excess_now(work, asset);
+    if 0 < excess.low {
+        return is_over_above(work, asset);
+    }
+    if excess.high < 0 {
+        return is_short_below(work, asset);
+    }
+    true
+}
+
+/// Returns the first asset that isn't even at the prices of a search, each of which is less than 2^62 grains from 0, or
+/// `None` if all are even.
+///
+/// It costs a test of each asset up to the first that isn't even, so at most two passes over the legs of all orders. It
+/// allocates nothing.
+pub fn first_uneven(work: &Workspace<'_>) -> Option<u16>
+    requires inner { All (λ price. unsigned_abs price < 2 ^ 62) work.now.prices }
+    ensures uneven { IfSome result (IsFirstUneven work.now.orders work.now.prices) }
+    ensures even { IfNone result (AreEven work.now.orders work.now.prices) }
+{
+    let count = work.prices().len() as u16;
+    for asset in 0..count {
+        if !is_even(work, asset) {
+            return Some(asset);
+        }
+    }
+    None
+}
+
+// Returns the excess of an asset at the prices, in parts.
+fn excess_now(work: &Workspace<'_>, asset: u16) -> Excess
+    requires { asset < length work.now.prices }
+    ensures low { result.low ≡ low_excess_in even_parts work.now.orders work.now.prices asset }
+    ensures high { result.high ≡ high_excess_in even_parts work.now.orders work.now.prices asset }
+    ensures order { result.low ≤ℤ result.high }
+    ensures low_bound { unsigned_abs result.low ≤ 2 ^ 58 }
+    ensures high_bound { unsigned_abs result.high ≤ 2 ^ 58 }
+{
+    work.excess_at(PARTS, asset, price_in(work, asset))
+}
+
+// Returns whether the high excess of an asset is below 0 once its price is a grain higher: then more is supplied than demanded.
+fn is_over_above(work: &Workspace<'_>, asset: u16) -> bool
+    requires asset { asset < length work.now.prices }
+    requires inner { unsigned_abs (price_of work.now.prices asset) < 2 ^ 62 }
+    ensures { IsTrue result ↔ (high_excess_in even_parts work.now.orders (risen work.now.prices asset 1) asset <ℤ pos 0) }
+{
+    work.excess_at(PARTS, asset, price_in(work, asset) + 1).high < 0
+}
+
+// Returns whether the low excess of an asset is above 0 once its price is a grain lower: then more is demanded than supplied.
+fn is_short_below(work: &Workspace<'_>, asset: u16) -> bool
+    requires asset { asset < length work.now.prices }
+    requires inner { unsigned_abs (price_of work.now.prices asset) < 2 ^ 62 }
+    ensures { IsTrue result ↔ (pos 0 <ℤ low_excess_in even_parts work.now.orders (fallen work.now.prices asset 1) asset) }
+{
+    0 < work.excess_at(PARTS, asset, price_in(work, asset) - 1).low
+}
+
+// Returns the price of an asset, in grains.
+fn price_in(work: &Workspace<'_>, asset: u16) -> i64
+    requires { asset < length work.now.prices }
+    ensures value { result ≡ price_of work.now.prices asset }
+    ensures range { IsPrice result }
+    ensures each { All IsOrder work.now.orders }
+{
+    work.prices()[usize::from(asset)]
+}
