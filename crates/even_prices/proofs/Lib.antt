@@ -3,3 +3,4 @@ pub mod Counted
 pub mod Steadiness
 pub mod EvenLaws
 pub mod Alone
+pub mod Columns

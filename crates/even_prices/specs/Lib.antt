@@ -1,3 +1,4 @@
 pub mod Even
 pub mod Active
+pub mod Private
 pub mod Laws

@@ -16,6 +16,7 @@
 //! its excess isn't 0, each with at most one division for each order.
 #![tactic(auto)]
 
+mod beside;
 pub mod laws;
 mod testing;
 

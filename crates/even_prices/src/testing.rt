@@ -1,23 +1,20 @@
 //! The test whether prices are even.
-ghost use Rattle.std.specs.Prelude.{◌≡◌, ◌<◌, ◌≤◌, ◌^◌, ◌↔◌, pos, ◌≤ℤ◌, ◌<ℤ◌, length, unsigned_abs, All, IsTrue, IfSome, IfNone};
+ghost use Rattle.std.specs.Prelude.{◌≡◌, ◌<◌, ◌≤◌, ◌^◌, ◌↔◌, pos, ◌≤ℤ◌, ◌<ℤ◌, length, unsigned_abs, IsTrue, IfSome, IfNone};
 ghost use Rattle.weight_rows.specs.Rows.{IsPrice, price_of};
-ghost use Rattle.flow_orders.specs.Orders.{IsOrder};
 ghost use Rattle.flow_orders.specs.Excess.{low_excess_in, high_excess_in};
 ghost use Rattle.flow_orders.specs.Moves.{risen, fallen};
+ghost use Rattle.excess_bounds.specs.Workspace.{ArePriced};
 ghost use Rattle.even_prices.specs.Even.{even_parts, IsEven, AreEven, IsFirstUneven};
 
+use crate::beside::{PARTS, excess_beside};
 use excess_bounds::{Excess, Workspace};
 
-// How many parts of a unit an excess is counted in.
-const PARTS: u16 = 256;
-
-/// Returns whether an asset is even at the prices of a search, of which its own is less than 2^62 grains from 0.
+/// Returns whether an asset is even at the prices of a search.
 ///
 /// It costs a pass over the orders that name the asset, and a second one if its low excess is above 0 or its high one below
 /// 0, each with at most one division for each order. It allocates nothing.
 pub fn is_even(work: &Workspace<'_>, asset: u16) -> bool
-    requires asset { asset < length work.now.prices }
-    requires inner { unsigned_abs (price_of work.now.prices asset) < 2 ^ 62 }
+    requires { asset < length work.now.prices }
     ensures { IsTrue result ↔ IsEven work.now.orders work.now.prices asset }
 {
     let excess = excess_now(work, asset);
@@ -30,13 +27,11 @@ pub fn is_even(work: &Workspace<'_>, asset: u16) -> bool
     true
 }
 
-/// Returns the first asset that isn't even at the prices of a search, each of which is less than 2^62 grains from 0, or
-/// `None` if all are even.
+/// Returns the first asset that isn't even at the prices of a search, or `None` if all are even.
 ///
-/// It costs a test of each asset up to the first that isn't even, so at most two passes over the legs of all orders. It
-/// allocates nothing.
+/// It tests each asset up to that one, so it goes at most twice over the legs of all orders, and divides at most twice for
+/// each leg. It allocates nothing.
 pub fn first_uneven(work: &Workspace<'_>) -> Option<u16>
-    requires inner { All (λ price. unsigned_abs price < 2 ^ 62) work.now.prices }
     ensures uneven { IfSome result (IsFirstUneven work.now.orders work.now.prices) }
     ensures even { IfNone result (AreEven work.now.orders work.now.prices) }
 {
@@ -57,6 +52,7 @@ fn excess_now(work: &Workspace<'_>, asset: u16) -> Excess
     ensures order { result.low ≤ℤ result.high }
     ensures low_bound { unsigned_abs result.low ≤ 2 ^ 58 }
     ensures high_bound { unsigned_abs result.high ≤ 2 ^ 58 }
+    ensures priced { ArePriced work.now.orders work.now.prices }
 {
     work.excess_at(PARTS, asset, price_in(work, asset))
 }
@@ -64,19 +60,21 @@ fn excess_now(work: &Workspace<'_>, asset: u16) -> Excess
 // Returns whether the high excess of an asset is below 0 once its price is a grain higher: then more is supplied than demanded.
 fn is_over_above(work: &Workspace<'_>, asset: u16) -> bool
     requires asset { asset < length work.now.prices }
-    requires inner { unsigned_abs (price_of work.now.prices asset) < 2 ^ 62 }
-    ensures { IsTrue result ↔ (high_excess_in even_parts work.now.orders (risen work.now.prices asset 1) asset <ℤ pos 0) }
+    requires priced { ArePriced work.now.orders work.now.prices }
+    ensures { IsTrue result ↔
+        (high_excess_in even_parts work.now.orders (risen work.now.prices asset 1) asset <ℤ pos 0) }
 {
-    work.excess_at(PARTS, asset, price_in(work, asset) + 1).high < 0
+    excess_beside(work, asset, 1).high < 0
 }
 
 // Returns whether the low excess of an asset is above 0 once its price is a grain lower: then more is demanded than supplied.
 fn is_short_below(work: &Workspace<'_>, asset: u16) -> bool
     requires asset { asset < length work.now.prices }
-    requires inner { unsigned_abs (price_of work.now.prices asset) < 2 ^ 62 }
-    ensures { IsTrue result ↔ (pos 0 <ℤ low_excess_in even_parts work.now.orders (fallen work.now.prices asset 1) asset) }
+    requires priced { ArePriced work.now.orders work.now.prices }
+    ensures { IsTrue result ↔
+        (pos 0 <ℤ low_excess_in even_parts work.now.orders (fallen work.now.prices asset 1) asset) }
 {
-    0 < work.excess_at(PARTS, asset, price_in(work, asset) - 1).low
+    0 < excess_beside(work, asset, -1).low
 }
 
 // Returns the price of an asset, in grains.
@@ -84,7 +82,7 @@ fn price_in(work: &Workspace<'_>, asset: u16) -> i64
     requires { asset < length work.now.prices }
     ensures value { result ≡ price_of work.now.prices asset }
     ensures range { IsPrice result }
-    ensures each { All IsOrder work.now.orders }
+    ensures priced { ArePriced work.now.orders work.now.prices }
 {
     work.prices()[usize::from(asset)]
 }

@@ -17,4 +17,4 @@ returns-clause-high c =
 
 pub returns-clause-order : goal.returns-clause-order
 returns-clause-order c =
-    rw (returns-clause-low c, returns-clause-high c) (parts_narrow_excess even_parts c.args.work.now.orders c.args.work.now.prices c.args.asset c.price_in.ensures.each).between
+    rw (returns-clause-low c, returns-clause-high c) (parts_narrow_excess even_parts c.args.work.now.orders c.args.work.now.prices c.args.asset c.price_in.ensures.priced.each).between
