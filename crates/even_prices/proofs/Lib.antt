@@ -4,3 +4,5 @@ pub mod Steadiness
 pub mod EvenLaws
 pub mod Alone
 pub mod Columns
+pub mod Tested
+pub mod MovedEven

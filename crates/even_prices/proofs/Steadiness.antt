@@ -41,7 +41,7 @@ row_near (e ∷ row) prices others near =
 -- ---- an order that isn't active is steady
 
 -- one of two tests fails
-one_fails : (a b : Bool) → (a && b) ≡ false → (a ≡ false) ⊎ (b ≡ false)
+pub one_fails : (a b : Bool) → (a && b) ≡ false → (a ≡ false) ⊎ (b ≡ false)
 one_fails true b e = inr e
 one_fails false b e = inl refl
 

@@ -1,5 +1,5 @@
 -- Even prices: no asset has an excess that a grain of its price would mend. Excess is counted in parts of 1/256 of a unit.
-use Rattle.std.specs.Prelude.{ℕ, ◌<◌, ◌⊎◌, ℤ, pos, ◌≤ℤ◌, ◌<ℤ◌, List, length}
+use Rattle.std.specs.Prelude.{ℕ, ◌<◌, ◌⊎◌, Bool, ◌&&◌, ◌||◌, ℤ, pos, ◌≤ℤ◌, ◌<ℤ◌, int_lt, int_le, List, length}
 use Rattle.flow_orders.specs.Orders.{Order}
 use Rattle.flow_orders.specs.Excess.{low_excess_in, high_excess_in}
 use Rattle.flow_orders.specs.Moves.{risen, fallen}
@@ -32,3 +32,19 @@ pub record IsFirstUneven (orders : List Order) (prices : List ℤ) (asset : ℕ)
   pub inside : asset < length prices
   pub before : (earlier : ℕ) → earlier < asset → IsEven orders prices earlier
   pub uneven : ¬ IsEven orders prices asset
+
+-- ---- the same as tests, by which walks of prices are defined
+
+-- the low excess is above 0, and the high one isn't below 0 a grain higher
+abbrev pub is_too_low : List Order → List ℤ → ℕ → Bool
+is_too_low orders prices asset =
+    int_lt (pos 0) (low_excess_in even_parts orders prices asset) && int_le (pos 0) (high_excess_in even_parts orders (risen prices asset 1) asset)
+
+-- the high excess is below 0, and the low one isn't above 0 a grain lower
+abbrev pub is_too_high : List Order → List ℤ → ℕ → Bool
+is_too_high orders prices asset =
+    int_lt (high_excess_in even_parts orders prices asset) (pos 0) && int_le (low_excess_in even_parts orders (fallen prices asset 1) asset) (pos 0)
+
+-- whether an asset isn't even
+unfoldable pub is_uneven : List Order → List ℤ → ℕ → Bool
+is_uneven orders prices asset = is_too_low orders prices asset || is_too_high orders prices asset

@@ -1,12 +1,16 @@
 -- What holds at even prices.
-use Rattle.std.specs.Prelude.{◌≡◌, ◌≢◌, ◌⊎◌, ℕ, ◌*◌, ◌<◌, ◌≤◌, ℤ, pos, ◌≤ℤ◌, unsigned_abs, List, [], ◌∷◌, length, All, Bool, false}
+use Rattle.std.specs.Prelude.{◌≡◌, ◌≢◌, ◌⊎◌, ◌↔◌, ℕ, ◌*◌, ◌<◌, ◌≤◌, ℤ, pos, ◌≤ℤ◌, unsigned_abs, List, [], ◌∷◌, length, slice_set, All, Bool, true, false}
 use Rattle.std.specs.List.{filter, sum_by, range_with_len}
-use Rattle.weight_rows.specs.Rows.{weight_in, IsPricedBy}
+use Rattle.weight_rows.specs.Rows.{weight_in, price_of, IsPricedBy}
 use Rattle.demand_curve.specs.Demand.{IsRounding, scaled_demand, span, floor_rate}
 use Rattle.flow_orders.specs.Orders.{Order, IsOrder, terms_of}
 use Rattle.flow_orders.specs.Excess.{price_for, residual_bound, low_part_in, high_part_in}
 use Rattle.flow_orders.specs.Trades.{trades, residual}
-use Rattle.even_prices.specs.Even.{even_parts, IsEven, AreEven}
+use Rattle.excess_bounds.specs.declared.directions.Direction.{Direction}
+use Rattle.excess_bounds.specs.Directions.{asked_towards, price_towards}
+use Rattle.excess_bounds.specs.Ends.{IsEnd}
+use Rattle.even_prices.specs.Even.{even_parts, IsEven, AreEven, is_too_low, is_too_high, is_uneven}
+use Rattle.even_prices.specs.Directions.{IsUnevenTowards}
 use Rattle.even_prices.specs.Active.{IsActive, active_bound, AreWithinAGrain, IsSteady}
 
 -- one rate for each order, which is a rounding of the order's demand at these prices
@@ -65,3 +69,16 @@ pub record NobodyTradesAlone : Type 0 where
       → All IsOrder orders → IsEven orders prices asset → IsOneSided orders asset → All (λ o. weight_in o.row asset ≢ pos 0 → IsLittle o prices) orders
   -- an order that is alone at even prices trades nothing
   pub alone : (o : Order) (prices : List ℤ) → IsOrder o → IsPricedBy o.row prices → AreEven (o ∷ []) prices → TradesNothing o prices
+
+-- the tests tell which assets are even, and no price is both too low and too high
+pub record UnevenIsTested : Type 0 where
+  pub even : (orders : List Order) (prices : List ℤ) (asset : ℕ) → (is_uneven orders prices asset ≡ false) ↔ IsEven orders prices asset
+  pub one_way : (orders : List Order) (prices : List ℤ) (asset : ℕ) → All IsOrder orders → is_too_low orders prices asset ≡ true → is_too_high orders prices asset ≡ false
+
+-- a move of an asset that isn't even makes it even, unless its reach ends it: a price that is too low rises to the first grain at which the
+-- low excess isn't above 0, and one that is too high falls to the first at which the high excess isn't below 0
+abbrev pub MovesMakeEven : Type 0
+MovesMakeEven = (orders : List Order) (prices : List ℤ) (asset reach amount : ℕ) (direction : Direction)
+    → asset < length prices → IsUnevenTowards orders prices asset direction
+    → IsEnd (asked_towards direction even_parts orders prices asset) (pos 0) reach amount → amount < reach
+    → IsEven orders (slice_set prices asset (price_towards direction (price_of prices asset) amount)) asset

@@ -1,4 +1,5 @@
 pub mod Even
+pub mod Directions
 pub mod Active
 pub mod Private
 pub mod Laws

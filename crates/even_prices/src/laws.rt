@@ -1,5 +1,5 @@
 //! What holds at even prices. Each law is the contract of a function that does nothing.
-ghost use Rattle.even_prices.specs.Laws.{EvenResidualsAreBounded, ActiveBoundsAreWithinTolerances, SteadyOrdersWidenNothing, NobodyTradesAlone};
+ghost use Rattle.even_prices.specs.Laws.{EvenResidualsAreBounded, ActiveBoundsAreWithinTolerances, SteadyOrdersWidenNothing, NobodyTradesAlone, UnevenIsTested, MovesMakeEven};
 
 /// The imbalance of an even asset is at most its bound by active legs, however the demands are rounded.
 pub fn even_residuals_are_bounded()
@@ -23,4 +23,14 @@ pub fn steady_orders_widen_nothing()
 /// down, and each other rate leaves more.
 pub fn nobody_trades_alone()
     ensures { NobodyTradesAlone }
+{}
+
+/// The tests by which walks of prices are defined tell which assets are even, and no price is both too low and too high.
+pub fn uneven_is_tested()
+    ensures { UnevenIsTested }
+{}
+
+/// A move of an asset that isn't even makes it even, unless its reach ends it.
+pub fn moves_make_even()
+    ensures { MovesMakeEven }
 {}

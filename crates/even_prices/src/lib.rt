@@ -3,8 +3,9 @@
 //! The excess demand for an asset is counted in parts of 1/256 of a unit, with each demand rounded so that the sum is least
 //! (the low excess) or greatest (the high one). An asset is *even* if its low excess is at most 0, or its high excess is
 //! below 0 once its price is a grain higher; and its high excess is at least 0, or its low excess is above 0 once its price
-//! is a grain lower. [`is_even`] tests one asset of a [`Workspace`](excess_bounds::Workspace), and [`first_uneven`] finds
-//! the first that isn't even. Neither changes anything, and no call allocates.
+//! is a grain lower. [`is_even`] tests one asset of a [`Workspace`](excess_bounds::Workspace), [`direction`] tells which way
+//! the price of one that isn't even moves, and [`first_uneven`] finds the first that isn't. None of them changes anything or
+//! allocates.
 //!
 //! At even prices the imbalance of an asset, however demands are rounded, is bounded by its *active* legs alone, those of
 //! orders whose demand a grain of each price may change. [`laws`] has this, and what follows. The definitions are in
@@ -20,4 +21,4 @@ mod beside;
 pub mod laws;
 mod testing;
 
-pub use testing::{first_uneven, is_even};
+pub use testing::{direction, first_uneven, is_even};

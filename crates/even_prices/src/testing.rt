@@ -1,13 +1,14 @@
 //! The test whether prices are even.
-ghost use Rattle.std.specs.Prelude.{◌≡◌, ◌<◌, ◌≤◌, ◌^◌, ◌↔◌, pos, ◌≤ℤ◌, ◌<ℤ◌, length, unsigned_abs, IsTrue, IfSome, IfNone};
+ghost use Rattle.std.specs.Prelude.{◌≡◌, ◌<◌, ◌≤◌, ◌^◌, ◌↔◌, pos, ◌≤ℤ◌, ◌<ℤ◌, true, length, unsigned_abs, IsTrue, IfSome, IfNone};
 ghost use Rattle.weight_rows.specs.Rows.{IsPrice, price_of};
 ghost use Rattle.flow_orders.specs.Excess.{low_excess_in, high_excess_in};
 ghost use Rattle.flow_orders.specs.Moves.{risen, fallen};
 ghost use Rattle.excess_bounds.specs.Workspace.{ArePriced};
-ghost use Rattle.even_prices.specs.Even.{even_parts, IsEven, AreEven, IsFirstUneven};
+ghost use Rattle.even_prices.specs.Even.{even_parts, IsEven, AreEven, IsFirstUneven, is_uneven};
+ghost use Rattle.even_prices.specs.Directions.{IsUnevenTowards};
 
 use crate::beside::{PARTS, excess_beside};
-use excess_bounds::{Excess, Workspace};
+use excess_bounds::{Direction, Excess, Workspace};
 
 /// Returns whether an asset is even at the prices of a search.
 ///
@@ -17,14 +18,33 @@ pub fn is_even(work: &Workspace<'_>, asset: u16) -> bool
     requires { asset < length work.now.prices }
     ensures { IsTrue result ↔ IsEven work.now.orders work.now.prices asset }
 {
+    direction(work, asset).is_none()
+}
+
+/// Returns which way the price of an asset moves at the prices of a search, or `None` if the asset is even. It costs what
+/// [`is_even`] costs.
+pub fn direction(work: &Workspace<'_>, asset: u16) -> Option<Direction>
+    requires { asset < length work.now.prices }
+    ensures even { IfNone result (IsEven work.now.orders work.now.prices asset) }
+    ensures uneven { IfSome result (λ direction. is_uneven work.now.orders work.now.prices asset ≡ true) }
+    ensures towards { IfSome result (IsUnevenTowards work.now.orders work.now.prices asset) }
+{
     let excess = excess_now(work, asset);
     if 0 < excess.low {
-        return is_over_above(work, asset);
+        return if is_over_above(work, asset) {
+            None
+        } else {
+            Some(Direction::Rise)
+        };
     }
     if excess.high < 0 {
-        return is_short_below(work, asset);
+        return if is_short_below(work, asset) {
+            None
+        } else {
+            Some(Direction::Fall)
+        };
     }
-    true
+    None
 }
 
 /// Returns the first asset that isn't even at the prices of a search, or `None` if all are even.
