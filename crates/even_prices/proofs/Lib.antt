@@ -6,3 +6,4 @@ pub mod Alone
 pub mod Columns
 pub mod Tested
 pub mod MovedEven
+pub mod SinglesEven

@@ -1,5 +1,5 @@
 -- A move that ends within its reach leaves its asset even.
-use Rattle.std.proofs.Common.{◌≡◌, inl, inr, ℕ, zero, suc, ◌<◌, true, ℤ, pos, ◌+ℤ◌, ◌-ℤ◌, ◌<ℤ◌, List, length, set, ap, ◌∙◌, arith}
+use Rattle.std.proofs.Common.{◌≡◌, inl, inr, ℕ, zero, suc, ◌<◌, true, ℤ, pos, ◌+ℤ◌, ◌-ℤ◌, ◌≤ℤ◌, ◌<ℤ◌, List, length, set, ap, ◌∙◌, arith}
 use Rattle.std.specs.Prelude.{int_lt, int_le}
 use Rattle.std.proofs.lemmas.Int.{ints}
 use Rattle.std.proofs.lemmas.Bool.{and_parts}
@@ -46,17 +46,17 @@ module _ (prices : List ℤ) (asset : ℕ) (within : asset < length prices) wher
 
   module _ (orders : List Order) (reach : ℕ) where
     -- before the last grain of a rise the low excess is above 0
-    rise_before : (d : ℕ) → is_too_low orders prices asset ≡ true → IsEnd (asked_towards Rise even_parts orders prices asset) (pos 0) reach (suc d)
+    pub rise_before : (d : ℕ) → is_too_low orders prices asset ≡ true → IsEnd (asked_towards Rise even_parts orders prices asset) (pos 0) reach (suc d)
         → pos 0 <ℤ low_excess_in even_parts orders (risen prices asset d) asset
     rise_before zero uneven end =
         let above = (and_parts (int_lt (pos 0) (low_excess_in even_parts orders prices asset)) (int_le (pos 0) (high_excess_in even_parts orders (risen prices asset 1) asset)) uneven).0 in
         rw no_rise (omega (arith, ints, above))
     rise_before (suc d) uneven end = end.first (suc d) (omega arith) (omega arith)
 
-    rise_makes_even : (d : ℕ) → is_too_low orders prices asset ≡ true → IsEnd (asked_towards Rise even_parts orders prices asset) (pos 0) reach (suc d) → suc d < reach
-        → IsEven orders (risen prices asset (suc d)) asset
-    rise_makes_even d uneven end inside = record {
-      not_too_low = elim end.ends [ inl ended ↦ inl ended | inr all ↦ absurd (omega (arith, all, inside)) ];
+    pub rise_makes_even : (d : ℕ) → is_too_low orders prices asset ≡ true → IsEnd (asked_towards Rise even_parts orders prices asset) (pos 0) reach (suc d)
+        → low_excess_in even_parts orders (risen prices asset (suc d)) asset ≤ℤ pos 0 → IsEven orders (risen prices asset (suc d)) asset
+    rise_makes_even d uneven end ended = record {
+      not_too_low = inl ended;
       not_too_high = elim (below_or_not 0 (high_excess_in even_parts orders (risen prices asset (suc d)) asset)) [
         | inl below ↦ inr (rw (back_risen d) (rise_before d uneven end))
         | inr not ↦ inl not
@@ -64,7 +64,7 @@ module _ (prices : List ℤ) (asset : ℕ) (within : asset < length prices) wher
     }
 
     -- before the last grain of a fall the high excess is below 0
-    fall_before : (d : ℕ) → is_too_high orders prices asset ≡ true → IsEnd (asked_towards Fall even_parts orders prices asset) (pos 0) reach (suc d)
+    pub fall_before : (d : ℕ) → is_too_high orders prices asset ≡ true → IsEnd (asked_towards Fall even_parts orders prices asset) (pos 0) reach (suc d)
         → high_excess_in even_parts orders (fallen prices asset d) asset <ℤ pos 0
     fall_before zero uneven end =
         let below = (and_parts (int_lt (high_excess_in even_parts orders prices asset) (pos 0)) (int_le (low_excess_in even_parts orders (fallen prices asset 1) asset) (pos 0)) uneven).0 in
@@ -73,14 +73,14 @@ module _ (prices : List ℤ) (asset : ℕ) (within : asset < length prices) wher
         let before = end.first (suc d) (omega arith) (omega arith) in
         omega (arith, ints, before)
 
-    fall_makes_even : (d : ℕ) → is_too_high orders prices asset ≡ true → IsEnd (asked_towards Fall even_parts orders prices asset) (pos 0) reach (suc d) → suc d < reach
-        → IsEven orders (fallen prices asset (suc d)) asset
-    fall_makes_even d uneven end inside = record {
+    pub fall_makes_even : (d : ℕ) → is_too_high orders prices asset ≡ true → IsEnd (asked_towards Fall even_parts orders prices asset) (pos 0) reach (suc d)
+        → pos 0 ≤ℤ high_excess_in even_parts orders (fallen prices asset (suc d)) asset → IsEven orders (fallen prices asset (suc d)) asset
+    fall_makes_even d uneven end ended = record {
       not_too_low = elim (above_or_not 0 (low_excess_in even_parts orders (fallen prices asset (suc d)) asset)) [
         | inl above ↦ inr (rw (back_fallen d) (fall_before d uneven end))
         | inr not ↦ inl not
       ];
-      not_too_high = elim end.ends [ inl ended ↦ inl (omega (arith, ints, ended)) | inr all ↦ absurd (omega (arith, all, inside)) ];
+      not_too_high = inl ended;
     }
 
 moved_even : (orders : List Order) (prices : List ℤ) (asset reach amount : ℕ) (direction : Direction)
@@ -88,8 +88,10 @@ moved_even : (orders : List Order) (prices : List ℤ) (asset reach amount : ℕ
     → IsEnd (asked_towards direction even_parts orders prices asset) (pos 0) reach amount → amount < reach
     → IsEven orders (set prices asset (price_towards direction (price_of prices asset) amount)) asset
 moved_even orders prices asset reach zero direction within uneven end inside = absurd (omega (arith, end.least))
-moved_even orders prices asset reach (suc d) Rise within uneven end inside = rise_makes_even prices asset within orders reach d uneven end inside
-moved_even orders prices asset reach (suc d) Fall within uneven end inside = fall_makes_even prices asset within orders reach d uneven end inside
+moved_even orders prices asset reach (suc d) Rise within uneven end inside =
+    rise_makes_even prices asset within orders reach d uneven end (elim end.ends [ inl ended ↦ ended | inr all ↦ absurd (omega (arith, all, inside)) ])
+moved_even orders prices asset reach (suc d) Fall within uneven end inside =
+    fall_makes_even prices asset within orders reach d uneven end (elim end.ends [ inl ended ↦ omega (arith, ints, ended) | inr all ↦ absurd (omega (arith, all, inside)) ])
 
 pub moves_make_even : MovesMakeEven
 moves_make_even = moved_even

@@ -1,8 +1,8 @@
 -- What holds at even prices.
-use Rattle.std.specs.Prelude.{◌≡◌, ◌≢◌, ◌⊎◌, ◌↔◌, ℕ, ◌*◌, ◌<◌, ◌≤◌, ℤ, pos, ◌≤ℤ◌, unsigned_abs, List, [], ◌∷◌, length, slice_set, All, Bool, true, false}
+use Rattle.std.specs.Prelude.{◌≡◌, ◌≢◌, ◌⊎◌, ◌↔◌, ℕ, ◌*◌, ◌^◌, ◌<◌, ◌≤◌, ℤ, pos, ◌≤ℤ◌, unsigned_abs, List, [], ◌∷◌, length, slice_set, All, Bool, true, false}
 use Rattle.std.specs.List.{filter, sum_by, range_with_len}
 use Rattle.weight_rows.specs.Rows.{weight_in, price_of, IsPricedBy}
-use Rattle.demand_curve.specs.Demand.{IsRounding, scaled_demand, span, floor_rate}
+use Rattle.demand_curve.specs.Demand.{IsWithin, IsRounding, scaled_demand, span, floor_rate}
 use Rattle.flow_orders.specs.Orders.{Order, IsOrder, terms_of}
 use Rattle.flow_orders.specs.Excess.{price_for, residual_bound, low_part_in, high_part_in}
 use Rattle.flow_orders.specs.Trades.{trades, residual}
@@ -82,3 +82,16 @@ MovesMakeEven = (orders : List Order) (prices : List ℤ) (asset reach amount : 
     → asset < length prices → IsUnevenTowards orders prices asset direction
     → IsEnd (asked_towards direction even_parts orders prices asset) (pos 0) reach amount → amount < reach
     → IsEven orders (slice_set prices asset (price_towards direction (price_of prices asset) amount)) asset
+
+-- in a book in which each order names one asset, one move of each asset that isn't even makes all prices even
+pub record SinglesEndEven : Type 0 where
+  -- from a price within 2^60, a move whose reach is at least 2^61 makes its asset even, at a price within 2^60
+  pub ends : (orders : List Order) (prices : List ℤ) (asset reach amount : ℕ) (direction : Direction)
+      → All IsOrder orders → All (λ o. length o.row ≡ 1) orders → asset < length prices → IsWithin (2 ^ 60) (price_of prices asset) → 2 ^ 61 ≤ reach
+      → IsUnevenTowards orders prices asset direction → IsEnd (asked_towards direction even_parts orders prices asset) (pos 0) reach amount
+      → IsEven orders (slice_set prices asset (price_towards direction (price_of prices asset) amount)) asset
+      × IsWithin (2 ^ 60) (price_towards direction (price_of prices asset) amount)
+  -- whether an asset is even depends on no other price
+  pub own : (orders : List Order) (prices others : List ℤ) (asset : ℕ)
+      → All (λ o. length o.row ≡ 1) orders → asset < length prices → asset < length others → price_of others asset ≡ price_of prices asset
+      → IsEven orders prices asset → IsEven orders others asset

@@ -1,5 +1,5 @@
 //! What holds at even prices. Each law is the contract of a function that does nothing.
-ghost use Rattle.even_prices.specs.Laws.{EvenResidualsAreBounded, ActiveBoundsAreWithinTolerances, SteadyOrdersWidenNothing, NobodyTradesAlone, UnevenIsTested, MovesMakeEven};
+ghost use Rattle.even_prices.specs.Laws.{EvenResidualsAreBounded, ActiveBoundsAreWithinTolerances, SteadyOrdersWidenNothing, NobodyTradesAlone, UnevenIsTested, MovesMakeEven, SinglesEndEven};
 
 /// The imbalance of an even asset is at most its bound by active legs, however the demands are rounded.
 pub fn even_residuals_are_bounded()
@@ -33,4 +33,10 @@ pub fn uneven_is_tested()
 /// A move of an asset that isn't even makes it even, unless its reach ends it.
 pub fn moves_make_even()
     ensures { MovesMakeEven }
+{}
+
+/// In a book in which each order names one asset, one move of each asset that isn't even makes all prices even: from
+/// within 2^60 grains of 0 it ends there, and no other asset becomes uneven by it.
+pub fn singles_end_even()
+    ensures { SinglesEndEven }
 {}
