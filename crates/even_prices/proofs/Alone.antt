@@ -1,7 +1,8 @@
 -- Orders that have nobody to trade with.
-use Rattle.std.proofs.Common.{◌≡◌, ◌≢◌, ◌⊎◌, inl, inr, ⊎_elim, ℕ, zero, suc, ◌*◌, ◌≤◌, ◌<◌, ℤ, pos, negsuc, ◌+ℤ◌, ◌*ℤ◌, ◌≤ℤ◌, List, [], ◌∷◌, length, get_or, refl, ap, ◌∙◌, arith}
+use Rattle.std.proofs.Common.{◌≡◌, ◌≢◌, ◌⊎◌, inl, inr, ⊎_elim, ℕ, zero, suc, ◌+◌, ◌*◌, ◌≤◌, ◌<◌, ℤ, pos, negsuc, ◌+ℤ◌, ◌*ℤ◌, ◌≤ℤ◌, List, [], ◌∷◌, length, get_or, refl, ap, ◌∙◌, arith}
 use Rattle.std.specs.Prelude.{All, unsigned_abs, slice_index_or}
 use Rattle.std.specs.List.{sum_by, range_with_len}
+use Rattle.std.proofs.Math.IntN.{pos-*ℤ-pos, zero-*ℤ}
 use Rattle.std.proofs.lemmas.Int.{ints, unsigned_abs-mul}
 use Rattle.std.proofs.lemmas.List.FromFn.{get_or-range_with_len, length-range_with_len}
 use Rattle.std.proofs.lemmas.List.Sums.{get_or-le-sum_by, sum_by-cons}
@@ -15,7 +16,9 @@ use Rattle.demand_curve.proofs.RoundingLaws.{at_most_from_times, roundings_enclo
 use Rattle.flow_orders.specs.Orders.{Order, IsOrder, terms_of}
 use Rattle.flow_orders.specs.Excess.{price_for, low_part_in, high_part_in, low_excess_in, high_excess_in}
 use Rattle.flow_orders.specs.Moves.{risen, fallen}
-use Rattle.flow_orders.specs.Trades.{trades, residual}
+use Rattle.flow_orders.specs.Trades.{Trade, trades, received, residual}
+use Rattle.flow_orders.proofs.Excess.{sold_is}
+use Rattle.flow_orders.proofs.TradeFacts.{All-trades}
 use Rattle.flow_orders.proofs.Book.{IsConsistent}
 use Rattle.flow_orders.proofs.Singles.{int_sum_by-not_above, int_sum_by-not_below}
 use Rattle.even_prices.specs.Even.{even_parts, IsEven, AreEven}
@@ -114,6 +117,34 @@ module _ (orders : List Order) (prices : List ℤ) (asset : ℕ) (consistent : A
   little_where_one_sided : IsOneSided orders asset → All (λ o. weight_in o.row asset ≢ pos 0 → IsLittle o prices) orders
   little_where_one_sided sides = ⊎_elim unsold unbought sides
 
+-- ---- what one unit more adds to the imbalance
+
+received_buys : (w : ℤ) (x : ℕ) → pos 0 ≤ℤ w → pos 0 ≤ℤ (w *ℤ pos x)
+received_buys (pos n) x buys = omega (arith, ints, pos-*ℤ-pos n x)
+received_buys (negsuc n) x buys = absurd (omega (arith, ints, buys))
+
+received_sells : (w : ℤ) (x : ℕ) → w ≤ℤ pos 0 → (w *ℤ pos x) ≤ℤ pos 0
+received_sells (pos zero) x sells = omega (arith, ints, zero-*ℤ (pos x))
+received_sells (pos (suc n)) x sells = absurd (omega (arith, ints, sells))
+received_sells (negsuc n) x sells = omega (arith, ints, sold_is n x)
+
+one_more_adds : (orders : List Order) (rates : List ℕ) (asset : ℕ) → IsOneSided orders asset
+    → All (λ o. unsigned_abs (residual (trades orders rates) asset +ℤ weight_in o.row asset) ≡ unsigned_abs (residual (trades orders rates) asset) + unsigned_abs (weight_in o.row asset)) orders
+one_more_adds orders rates asset sides k d inside =
+    let w = weight_in (slice_index_or orders k d).row asset in
+    elim sides [
+      | inl buys ↦
+          let all = All-trades (λ o. pos 0 ≤ℤ weight_in o.row asset) orders rates buys in
+          let left = int_sum_by-not_below (received asset) (trades orders rates) (λ j e within. let t : Trade = slice_index_or (trades orders rates) j e in received_buys (weight_in t.order.row asset) t.traded (all j e within)) in
+          let own : pos 0 ≤ℤ w = buys k d inside in
+          omega (arith, ints, left, own)
+      | inr sells ↦
+          let all = All-trades (λ o. weight_in o.row asset ≤ℤ pos 0) orders rates sells in
+          let left = int_sum_by-not_above (received asset) (trades orders rates) (λ j e within. let t : Trade = slice_index_or (trades orders rates) j e in received_sells (weight_in t.order.row asset) t.traded (all j e within)) in
+          let own : w ≤ℤ pos 0 = sells k d inside in
+          omega (arith, ints, left, own)
+    ]
+
 -- ---- an order that is alone in its book
 
 -- one order's weight has one sign
@@ -197,5 +228,6 @@ trades_nothing o prices h priced even =
 pub nobody_trades_alone : NobodyTradesAlone
 nobody_trades_alone = record {
   one_sided = λ orders prices asset each even sides. little_where_one_sided orders prices asset (all_consistent orders each) even sides;
+  adds = one_more_adds;
   alone = trades_nothing;
 }

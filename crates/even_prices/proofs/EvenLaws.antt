@@ -85,4 +85,8 @@ fewer_orders counts orders asset =
     omega (arith, weights, slopes)
 
 pub active_bounds_are_within_tolerances : ActiveBoundsAreWithinTolerances
-active_bounds_are_within_tolerances orders prices asset = fewer_orders (is_active prices) orders asset
+active_bounds_are_within_tolerances = record {
+  bound = λ orders prices asset. fewer_orders (is_active prices) orders asset;
+  residuals = λ orders prices rates each rounded even asset within.
+      omega (arith, even_residuals_are_bounded orders prices rates asset each within rounded (even asset within), fewer_orders (is_active prices) orders asset);
+}

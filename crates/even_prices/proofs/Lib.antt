@@ -6,4 +6,5 @@ pub mod Alone
 pub mod Columns
 pub mod Tested
 pub mod MovedEven
+pub mod Lowering
 pub mod SinglesEven

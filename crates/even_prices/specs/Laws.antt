@@ -1,11 +1,12 @@
 -- What holds at even prices.
-use Rattle.std.specs.Prelude.{◌≡◌, ◌≢◌, ◌⊎◌, ◌↔◌, ℕ, ◌*◌, ◌^◌, ◌<◌, ◌≤◌, ℤ, pos, ◌≤ℤ◌, unsigned_abs, List, [], ◌∷◌, length, slice_set, All, Bool, true, false}
+use Rattle.std.specs.Prelude.{◌≡◌, ◌≢◌, ◌⊎◌, ◌↔◌, ℕ, ◌+◌, ◌-◌, ◌*◌, ◌^◌, ◌<◌, ◌≤◌, ℤ, pos, ◌+ℤ◌, ◌≤ℤ◌, unsigned_abs, List, [], ◌∷◌, length, slice_set, All, Bool, true, false}
 use Rattle.std.specs.List.{filter, sum_by, range_with_len}
 use Rattle.weight_rows.specs.Rows.{weight_in, price_of, IsPricedBy}
 use Rattle.demand_curve.specs.Demand.{IsWithin, IsRounding, scaled_demand, span, floor_rate}
 use Rattle.flow_orders.specs.Orders.{Order, IsOrder, terms_of}
-use Rattle.flow_orders.specs.Excess.{price_for, residual_bound, low_part_in, high_part_in}
+use Rattle.flow_orders.specs.Excess.{price_for, steepness, residual_bound, low_part_in, high_part_in}
 use Rattle.flow_orders.specs.Trades.{trades, residual}
+use Rattle.flow_orders.specs.Duals.{IsCommonPart, exact_dual}
 use Rattle.excess_bounds.specs.declared.directions.Direction.{Direction}
 use Rattle.excess_bounds.specs.Directions.{asked_towards, price_towards}
 use Rattle.excess_bounds.specs.Ends.{IsEnd}
@@ -24,9 +25,13 @@ EvenResidualsAreBounded = (orders : List Order) (prices : List ℤ) (rates : Lis
     → All IsOrder orders → asset < length prices → AreRounded orders prices rates → IsEven orders prices asset
     → unsigned_abs (residual (trades orders rates) asset) ≤ active_bound orders prices asset
 
--- the bound by active legs is at most the tolerance of the asset
-abbrev pub ActiveBoundsAreWithinTolerances : Type 0
-ActiveBoundsAreWithinTolerances = (orders : List Order) (prices : List ℤ) (asset : ℕ) → active_bound orders prices asset ≤ residual_bound orders asset
+-- what is promised of imbalances within their tolerances holds at even prices
+pub record ActiveBoundsAreWithinTolerances : Type 0 where
+  -- the bound by active legs is at most the tolerance of the asset
+  pub bound : (orders : List Order) (prices : List ℤ) (asset : ℕ) → active_bound orders prices asset ≤ residual_bound orders asset
+  -- so each imbalance is within its tolerance, whatever way demands are rounded
+  pub residuals : (orders : List Order) (prices : List ℤ) (rates : List ℕ) → All IsOrder orders → AreRounded orders prices rates → AreEven orders prices
+      → (asset : ℕ) → asset < length prices → unsigned_abs (residual (trades orders rates) asset) ≤ residual_bound orders asset
 
 -- an order whose demand is the same at all prices within a grain widens nobody's residual
 pub record SteadyOrdersWidenNothing : Type 0 where
@@ -67,6 +72,9 @@ pub record NobodyTradesAlone : Type 0 where
   -- of an even asset that nobody sells, or that nobody buys, no order demands 1/256 of a unit
   pub one_sided : (orders : List Order) (prices : List ℤ) (asset : ℕ)
       → All IsOrder orders → IsEven orders prices asset → IsOneSided orders asset → All (λ o. weight_in o.row asset ≢ pos 0 → IsLittle o prices) orders
+  -- one unit more of any order only adds to the imbalance of such an asset, whatever the rates
+  pub adds : (orders : List Order) (rates : List ℕ) (asset : ℕ) → IsOneSided orders asset
+      → All (λ o. unsigned_abs (residual (trades orders rates) asset +ℤ weight_in o.row asset) ≡ unsigned_abs (residual (trades orders rates) asset) + unsigned_abs (weight_in o.row asset)) orders
   -- an order that is alone at even prices trades nothing
   pub alone : (o : Order) (prices : List ℤ) → IsOrder o → IsPricedBy o.row prices → AreEven (o ∷ []) prices → TradesNothing o prices
 
@@ -75,13 +83,26 @@ pub record UnevenIsTested : Type 0 where
   pub even : (orders : List Order) (prices : List ℤ) (asset : ℕ) → (is_uneven orders prices asset ≡ false) ↔ IsEven orders prices asset
   pub one_way : (orders : List Order) (prices : List ℤ) (asset : ℕ) → All IsOrder orders → is_too_low orders prices asset ≡ true → is_too_high orders prices asset ≡ false
 
+-- the prices after the price of an asset moved by an amount in a direction
+abbrev pub moved_by : Direction → List ℤ → ℕ → ℕ → List ℤ
+moved_by direction prices asset amount = slice_set prices asset (price_towards direction (price_of prices asset) amount)
+
 -- a move of an asset that isn't even makes it even, unless its reach ends it: a price that is too low rises to the first grain at which the
 -- low excess isn't above 0, and one that is too high falls to the first at which the high excess isn't below 0
 abbrev pub MovesMakeEven : Type 0
 MovesMakeEven = (orders : List Order) (prices : List ℤ) (asset reach amount : ℕ) (direction : Direction)
     → asset < length prices → IsUnevenTowards orders prices asset direction
     → IsEnd (asked_towards direction even_parts orders prices asset) (pos 0) reach amount → amount < reach
-    → IsEven orders (slice_set prices asset (price_towards direction (price_of prices asset) amount)) asset
+    → IsEven orders (moved_by direction prices asset amount) asset
+
+-- each grain of a move but the last lowers the exact dual value by 1/256 of a grain or more, and the last one raises it by at most half of the
+-- slope bound, if it does
+abbrev pub EvenMovesLowerTheDual : Type 0
+EvenMovesLowerTheDual = (N : ℕ) (orders : List Order) (prices : List ℤ) (asset reach amount : ℕ) (direction : Direction)
+    → All IsOrder orders → IsCommonPart N orders → asset < length prices → IsUnevenTowards orders prices asset direction
+    → IsEnd (asked_towards direction even_parts orders prices asset) (pos 0) reach amount
+    → (even_parts * exact_dual N orders (moved_by direction prices asset (amount - 1)) + N * (amount - 1) ≤ even_parts * exact_dual N orders prices)
+    × (2 * exact_dual N orders (moved_by direction prices asset amount) ≤ 2 * exact_dual N orders (moved_by direction prices asset (amount - 1)) + N * steepness orders asset)
 
 -- in a book in which each order names one asset, one move of each asset that isn't even makes all prices even
 pub record SinglesEndEven : Type 0 where
@@ -89,7 +110,7 @@ pub record SinglesEndEven : Type 0 where
   pub ends : (orders : List Order) (prices : List ℤ) (asset reach amount : ℕ) (direction : Direction)
       → All IsOrder orders → All (λ o. length o.row ≡ 1) orders → asset < length prices → IsWithin (2 ^ 60) (price_of prices asset) → 2 ^ 61 ≤ reach
       → IsUnevenTowards orders prices asset direction → IsEnd (asked_towards direction even_parts orders prices asset) (pos 0) reach amount
-      → IsEven orders (slice_set prices asset (price_towards direction (price_of prices asset) amount)) asset
+      → IsEven orders (moved_by direction prices asset amount) asset
       × IsWithin (2 ^ 60) (price_towards direction (price_of prices asset) amount)
   -- whether an asset is even depends on no other price
   pub own : (orders : List Order) (prices others : List ℤ) (asset : ℕ)

@@ -1,12 +1,13 @@
 //! What holds at even prices. Each law is the contract of a function that does nothing.
-ghost use Rattle.even_prices.specs.Laws.{EvenResidualsAreBounded, ActiveBoundsAreWithinTolerances, SteadyOrdersWidenNothing, NobodyTradesAlone, UnevenIsTested, MovesMakeEven, SinglesEndEven};
+ghost use Rattle.even_prices.specs.Laws.{EvenResidualsAreBounded, ActiveBoundsAreWithinTolerances, SteadyOrdersWidenNothing, NobodyTradesAlone, UnevenIsTested, MovesMakeEven, EvenMovesLowerTheDual, SinglesEndEven};
 
 /// The imbalance of an even asset is at most its bound by active legs, however the demands are rounded.
 pub fn even_residuals_are_bounded()
     ensures { EvenResidualsAreBounded }
 {}
 
-/// The bound by active legs is at most the tolerance of the asset.
+/// The bound by active legs is at most the tolerance of the asset. So at even prices each imbalance is within its tolerance,
+/// and what is promised of such imbalances holds.
 pub fn active_bounds_are_within_tolerances()
     ensures { ActiveBoundsAreWithinTolerances }
 {}
@@ -19,8 +20,8 @@ pub fn steady_orders_widen_nothing()
 {}
 
 /// Who has nobody to trade with trades nothing, whatever the weights and the rate. Of an even asset that nobody sells, or
-/// that nobody buys, no order demands 1/256 of a unit. An order that is alone at even prices has 0 as its demand rounded
-/// down, and each other rate leaves more.
+/// that nobody buys, no order demands 1/256 of a unit, and a unit more of any order adds to the imbalance. An order that is
+/// alone at even prices has 0 as its demand rounded down, and each other rate leaves a larger imbalance.
 pub fn nobody_trades_alone()
     ensures { NobodyTradesAlone }
 {}
@@ -33,6 +34,12 @@ pub fn uneven_is_tested()
 /// A move of an asset that isn't even makes it even, unless its reach ends it.
 pub fn moves_make_even()
     ensures { MovesMakeEven }
+{}
+
+/// Each grain of such a move but the last lowers the exact dual value by 1/256 of a grain or more. The last one may raise it,
+/// by at most half of the slope bound.
+pub fn even_moves_lower_the_dual()
+    ensures { EvenMovesLowerTheDual }
 {}
 
 /// In a book in which each order names one asset, one move of each asset that isn't even makes all prices even: from
