@@ -1,10 +1,11 @@
 -- Imbalances at even prices.
-use Rattle.std.proofs.Common.{◌≡◌, ⊎_elim, ℕ, ◌+◌, ◌*◌, ◌≤◌, ◌<◌, ℤ, pos, ◌≤ℤ◌, ◌+ℤ◌, Bool, false, not, List, length, refl, subst, arith}
+use Rattle.std.proofs.Common.{◌≡◌, ⊎_elim, ℕ, ◌+◌, ◌*◌, ◌≤◌, ◌<◌, ℤ, pos, ◌≤ℤ◌, ◌+ℤ◌, Bool, false, not, List, length, map, refl, ap, sym, subst, ◌∙◌, arith}
 use Rattle.std.specs.Prelude.{All, neg_ℤ, unsigned_abs, slice_index_or}
 use Rattle.std.specs.List.{sum_by, filter}
 use Rattle.std.specs.Int.{div_ceil}
 use Rattle.std.proofs.lemmas.Int.{ints}
 use Rattle.std.proofs.lemmas.Bool.{cases_Bool}
+use Rattle.std.proofs.lemmas.List.{length-map}
 use Rattle.std.proofs.lemmas.List.Filters.{sum_by-filter_both}
 use Rattle.weight_rows.specs.Rows.{weight_in}
 use Rattle.demand_curve.proofs.Quotients.{up_within, up_times}
@@ -15,7 +16,8 @@ use Rattle.flow_orders.specs.Trades.{Trade, trades, residual}
 use Rattle.flow_orders.proofs.Book.{IsConsistent, squares}
 use Rattle.flow_orders.proofs.Residuals.{residual_between}
 use Rattle.flow_orders.proofs.TradeFacts.{before_fills, before-trades, All-trades}
-use Rattle.even_prices.specs.Even.{IsEven}
+use Rattle.flow_orders.specs.Outcomes.{Fill}
+use Rattle.even_prices.specs.Even.{IsEven, AreEven}
 use Rattle.even_prices.specs.Active.{is_active, IsSteady}
 use Rattle.even_prices.specs.Laws.{AreRounded, EvenResidualsAreBounded, ActiveBoundsAreWithinTolerances, SteadyOrdersWidenNothing}
 use Rattle.even_prices.proofs.Counted.{LeavesStill, near, low_most, high_least}
@@ -84,9 +86,20 @@ fewer_orders counts orders asset =
     let slopes = up_order (squares (filter counts orders) asset) (squares orders asset) (some_least (λ (o : Order). unsigned_abs (weight_in o.row asset) * unsigned_abs (weight_in o.row asset)) counts orders) in
     omega (arith, weights, slopes)
 
+-- at even prices each imbalance is within its tolerance
+pub within_tolerances : (orders : List Order) (prices : List ℤ) (rates : List ℕ) → All IsOrder orders → AreRounded orders prices rates → AreEven orders prices
+    → (asset : ℕ) → asset < length prices → unsigned_abs (residual (trades orders rates) asset) ≤ residual_bound orders asset
+within_tolerances orders prices rates each rounded even asset within =
+    omega (arith, even_residuals_are_bounded orders prices rates asset each within rounded (even asset within), fewer_orders (is_active prices) orders asset)
+
 pub active_bounds_are_within_tolerances : ActiveBoundsAreWithinTolerances
 active_bounds_are_within_tolerances = record {
   bound = λ orders prices asset. fewer_orders (is_active prices) orders asset;
-  residuals = λ orders prices rates each rounded even asset within.
-      omega (arith, even_residuals_are_bounded orders prices rates asset each within rounded (even asset within), fewer_orders (is_active prices) orders asset);
+  residuals = within_tolerances;
+  clearings = λ orders start c each count numbers rounded even asset within.
+      let fills : length (map (λ (f : Fill). f.order) c.fills) ≡ length c.fills = length-map c.fills (λ (f : Fill). f.order) in
+      let all : length (map (λ (o : Order). o.number) orders) ≡ length orders = length-map orders (λ (o : Order). o.number) in
+      let rates : length (map (λ (f : Fill). f.rate) c.fills) ≡ length c.fills = length-map c.fills (λ (f : Fill). f.rate) in
+      let one_each : length (map (λ (f : Fill). f.rate) c.fills) ≡ length orders = rates ∙ sym fills ∙ ap length numbers ∙ all in
+      within_tolerances orders c.prices (map (λ (f : Fill). f.rate) c.fills) each (record { one_each = one_each; roundings = rounded }) even asset (omega (arith, count, within));
 }

@@ -1,9 +1,9 @@
-pub mod Wholes
-pub mod Counted
+mod Wholes
+mod Counted
 pub mod Steadiness
 pub mod EvenLaws
 pub mod Alone
-pub mod Columns
+mod Columns
 pub mod Tested
 pub mod MovedEven
 pub mod Lowering

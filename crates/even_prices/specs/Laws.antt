@@ -1,11 +1,12 @@
 -- What holds at even prices.
-use Rattle.std.specs.Prelude.{◌≡◌, ◌≢◌, ◌⊎◌, ◌↔◌, ℕ, ◌+◌, ◌-◌, ◌*◌, ◌^◌, ◌<◌, ◌≤◌, ℤ, pos, ◌+ℤ◌, ◌≤ℤ◌, unsigned_abs, List, [], ◌∷◌, length, slice_set, All, Bool, true, false}
+use Rattle.std.specs.Prelude.{◌≡◌, ◌≢◌, ◌⊎◌, ◌↔◌, ℕ, ◌+◌, ◌-◌, ◌*◌, ◌^◌, ◌<◌, ◌≤◌, ℤ, pos, ◌+ℤ◌, ◌≤ℤ◌, unsigned_abs, List, [], ◌∷◌, length, map, slice_set, All, Bool, true, false}
 use Rattle.std.specs.List.{filter, sum_by, range_with_len}
 use Rattle.weight_rows.specs.Rows.{weight_in, price_of, IsPricedBy}
 use Rattle.demand_curve.specs.Demand.{IsWithin, IsRounding, scaled_demand, span, floor_rate}
 use Rattle.flow_orders.specs.Orders.{Order, IsOrder, terms_of}
 use Rattle.flow_orders.specs.Excess.{price_for, steepness, residual_bound, low_part_in, high_part_in}
 use Rattle.flow_orders.specs.Trades.{trades, residual}
+use Rattle.flow_orders.specs.Outcomes.{Fill, Clearing, trades_of}
 use Rattle.flow_orders.specs.Duals.{IsCommonPart, exact_dual}
 use Rattle.excess_bounds.specs.declared.directions.Direction.{Direction}
 use Rattle.excess_bounds.specs.Directions.{asked_towards, price_towards}
@@ -32,6 +33,12 @@ pub record ActiveBoundsAreWithinTolerances : Type 0 where
   -- so each imbalance is within its tolerance, whatever way demands are rounded
   pub residuals : (orders : List Order) (prices : List ℤ) (rates : List ℕ) → All IsOrder orders → AreRounded orders prices rates → AreEven orders prices
       → (asset : ℕ) → asset < length prices → unsigned_abs (residual (trades orders rates) asset) ≤ residual_bound orders asset
+  -- and of a clearing at even prices with one price each, and a rate under each number that is a rounding, the imbalances are as bounded as
+  -- those of an admissible one
+  pub clearings : (orders : List Order) (start : List ℤ) (c : Clearing) → All IsOrder orders
+      → length c.prices ≡ length start → map (λ (f : Fill). f.order) c.fills ≡ map (λ (o : Order). o.number) orders
+      → All (λ t. IsRounding (terms_of t.order) t.traded (price_for c.prices t.order)) (trades_of orders c.fills) → AreEven orders c.prices
+      → (asset : ℕ) → asset < length start → unsigned_abs (residual (trades_of orders c.fills) asset) ≤ residual_bound orders asset
 
 -- an order whose demand is the same at all prices within a grain widens nobody's residual
 pub record SteadyOrdersWidenNothing : Type 0 where
