@@ -5,19 +5,13 @@ ghost use Rattle.weight_rows.specs.Rows.{most_weight, price_of};
 ghost use Rattle.demand_curve.specs.Demand.{most_rate, floor_in, ceil_in};
 ghost use Rattle.flow_orders.specs.Orders.{most_orders};
 ghost use Rattle.flow_orders.specs.Excess.{low_excess_in, high_excess_in};
-ghost use Rattle.excess_bounds.specs.Parts.{part_by_sign};
 ghost use Rattle.excess_bounds.specs.Workspace.{ArePriced};
 ghost use Rattle.even_prices.specs.Even.{even_parts};
 ghost use Rattle.even_prices.specs.Private.{low_beside, high_beside};
 
+use crate::demands::{demand_beside, units};
 use demand_curve::PartRoundings;
 use excess_bounds::{Cell, Excess, Quote, Workspace};
-
-// How many parts of a unit an excess is counted in.
-pub(crate) const PARTS: u16 = 256;
-
-// A price of a portfolio that is past all limits, in grains.
-const FAR: i128 = 1 << 78;
 
 // Returns the excess of an asset in parts once its price is `grain` grains higher.
 pub(crate) fn excess_beside(work: &Workspace<'_>, asset: u16, grain: i32) -> Excess
@@ -66,7 +60,7 @@ fn part_beside(quotes: &[Quote], cell: Cell, grain: i32) -> Excess
     ensures low_bound { unsigned_abs result.low ≤ 2 ^ 44 }
     ensures high_bound { unsigned_abs result.high ≤ 2 ^ 44 }
 {
-    let demand = demand_beside(&quotes[cell.place as usize], cell.weight * grain);
+    let demand = demand_after(&quotes[cell.place as usize], cell.weight * grain);
     Excess {
         low: units(cell.weight, demand.floor, demand.ceil),
         high: units(cell.weight, demand.ceil, demand.floor),
@@ -74,24 +68,12 @@ fn part_beside(quotes: &[Quote], cell: Cell, grain: i32) -> Excess
 }
 
 // Returns the demand of an order in parts once the price of its portfolio is `step` grains higher.
-fn demand_beside(quote: &Quote, step: i32) -> PartRoundings
+fn demand_after(quote: &Quote, step: i32) -> PartRoundings
     requires { unsigned_abs step ≤ most_weight }
     ensures floor { result.floor ≡ floor_in even_parts quote.now.terms (quote.now.price +ℤ step) }
     ensures ceil { result.ceil ≡ ceil_in even_parts quote.now.terms (quote.now.price +ℤ step) }
     ensures floor_most { result.floor ≤ even_parts * most_rate }
     ensures ceil_most { result.ceil ≤ even_parts * most_rate }
 {
-    let price = (quote.price() + i128::from(step)).clamp(-FAR, FAR);
-    quote.curve().roundings_in(PARTS, price)
-}
-
-// Returns a weight times a rate in parts: `bought` if the weight buys, `sold` if it sells.
-fn units(weight: i32, bought: u64, sold: u64) -> i64
-    requires weight { unsigned_abs weight ≤ most_weight }
-    requires bought { bought ≤ even_parts * most_rate }
-    requires sold { sold ≤ even_parts * most_rate }
-    ensures value { result ≡ part_by_sign weight bought sold }
-    ensures bound { unsigned_abs result ≤ 2 ^ 44 }
-{
-    i64::from(weight) * (if weight < 0 { sold } else { bought }) as i64
+    demand_beside(&quote.curve(), quote.price(), step)
 }

@@ -18,6 +18,7 @@
 #![tactic(auto)]
 
 mod beside;
+mod demands;
 pub mod laws;
 mod testing;
 

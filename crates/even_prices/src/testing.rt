@@ -7,7 +7,8 @@ ghost use Rattle.excess_bounds.specs.Workspace.{ArePriced};
 ghost use Rattle.even_prices.specs.Even.{even_parts, IsEven, AreEven, IsFirstUneven, is_uneven};
 ghost use Rattle.even_prices.specs.Directions.{IsUnevenTowards};
 
-use crate::beside::{PARTS, excess_beside};
+use crate::beside::excess_beside;
+use crate::demands::PARTS;
 use excess_bounds::{Direction, Excess, Workspace};
 
 /// Returns whether an asset is even at the prices of a search.
