@@ -7,4 +7,6 @@ mod Columns
 pub mod Tested
 pub mod MovedEven
 pub mod Lowering
+mod Adding
+mod SideSums
 pub mod SinglesEven

@@ -50,7 +50,7 @@ second_holds true b e = refl
 second_holds false b e = e
 
 -- what a test denies isn't so
-denied : {P : Type 0} (tested : Bool) → tested ≡ false → IsTrue tested ↔ P → ¬ P
+pub denied : {P : Type 0} (tested : Bool) → tested ≡ false → IsTrue tested ↔ P → ¬ P
 denied tested fails tells holds = true≢false (sym (tells.1 holds) ∙ fails)
 
 -- an excess isn't on the wrong side, or that a grain further is
