@@ -26,8 +26,8 @@ impl Model for Row {
 }
 
 impl Row {
-    // A row of so many zeros.
-    pub(crate) fn new(alloc: Global, count: usize) -> Result<Row, AllocError>
+    /// A row of so many zeros.
+    pub fn new(alloc: Global, count: usize) -> Result<Row, AllocError>
         ensures { IfOk result (λ r. length r ≡ count) }
     {
         let numbers = vec![in alloc; Number::zero(); count]?;
