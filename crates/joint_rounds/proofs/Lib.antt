@@ -1,1 +1,3 @@
 pub mod StateFacts
+pub mod RowAdding
+pub mod Gathering

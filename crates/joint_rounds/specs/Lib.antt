@@ -1,1 +1,4 @@
 pub mod OrderStates
+pub mod Rounds
+pub mod Sums
+pub mod Steps

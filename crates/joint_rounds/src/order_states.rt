@@ -188,7 +188,7 @@ fn stiffness(m: u64, line: u128, v: i128, share: u32) -> u128
 }
 
 // A product that fits, with its size as a clause.
-fn product(x: i128, y: i128) -> i128
+pub(crate) fn product(x: i128, y: i128) -> i128
     requires { unsigned_abs x * unsigned_abs y < 2 ^ 126 }
     ensures value { result ≡ x *ℤ y }
     ensures size { unsigned_abs result ≡ unsigned_abs x * unsigned_abs y }
