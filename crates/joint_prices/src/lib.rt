@@ -30,4 +30,4 @@ pub use numbers::{Number, cut, minus, over, quotient, scale, times, whole};
 pub use order_states::line_of;
 pub use out_of_memory::Memory;
 pub use searching::{Settles, joint_prices};
-pub use solving::{Row, solve};
+pub use solving::{Row, solve, whole_all};

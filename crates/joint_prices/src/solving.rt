@@ -132,8 +132,8 @@ pub(crate) fn fill_all(grid: &[Sums], sides: &[i128], rows: &mut [Row])
     }
 }
 
-// The moves in whole grains.
-pub(crate) fn whole_all(found: &[Number], by: &mut [i64])
+/// The numbers rounded towards 0 to whole ones, each cut to 2^62 in absolute value.
+pub fn whole_all(found: &[Number], by: &mut [i64])
     requires count { length by.old ≡ length found.now }
     requires range { All IsPrice by.old }
     ensures value { by.new ≡ map whole found.now }

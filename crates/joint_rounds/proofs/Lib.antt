@@ -1,3 +1,4 @@
 pub mod StateFacts
 pub mod RowAdding
 pub mod Gathering
+pub mod VectorFacts

@@ -3,6 +3,8 @@
 
 mod moving;
 mod order_states;
+mod rounds;
 mod sums;
+mod vectors;
 
 pub use order_states::OrderState;
