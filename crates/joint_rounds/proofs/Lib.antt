@@ -2,3 +2,4 @@ pub mod StateFacts
 pub mod RowAdding
 pub mod Gathering
 pub mod VectorFacts
+pub mod RoundFacts

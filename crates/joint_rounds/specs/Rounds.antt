@@ -71,17 +71,26 @@ is_little [] open_parts = true
 is_little (r ∷ rs) [] = true
 is_little (r ∷ rs) (w ∷ open_parts) = nat_le (unsigned_abs (parts r)) (w / 4) && is_little rs open_parts
 
--- At most k rounds. x are the moves so far, d is the direction, and r what is left; m are the assets' sizes. Each moves exactly as far along its direction as
--- leaves least, whatever the direction is, and both quotients are taken from the direction itself, so that roundings can't add up.
+-- how far prices move along a direction, with r left: to where least is left
+abbrev pub stride : List Order → List OrderState → List Num → List Num → Num
+stride os zs d r = over (dot d r) (dot d (flows os zs d))
+
+-- what is left then
+abbrev pub left_after : List Order → List OrderState → List Num → List Num → List Num
+left_after os zs d r = reduced (stride os zs d r) (flows os zs d) r
+
+-- the direction z less its part along the direction d
+abbrev pub turned : List Order → List OrderState → List Num → List Num → List Num
+turned os zs d z = reduced (over (dot z (flows os zs d)) (dot d (flows os zs d))) d z
+
+-- At most k rounds. x are the moves so far, d is the direction, and r what is left; m are the assets' sizes. Both quotients of a round are taken from the
+-- direction itself, and none is carried along, so roundings don't add up: each round is an exact search along its direction, whatever that is.
 unfoldable pub rounds : ℕ → List Order → List OrderState → List ℕ → List Num → List Num → List Num → List Num → List Num
 rounds zero os zs open_parts m x d r = x
 rounds (suc k) os zs open_parts m x d r =
     if is_little r open_parts then x else
-    (let q = flows os zs d in
-    let f = over (dot d r) (dot d q) in
-    let s = reduced f q r in
-    let z = zip_with over s m in
-    rounds k os zs open_parts m (reduced (minus zero_num f) d x) (reduced (over (dot z q) (dot d q)) d z) s)
+    (let s = left_after os zs d r in
+    rounds k os zs open_parts m (reduced (minus zero_num (stride os zs d r)) d x) (turned os zs d (zip_with over s m)) s)
 
 -- by how much each price moves, in money: what at most 100 rounds find
 unfoldable pub by_rounds : ℕ → List ℕ → List Order → List OrderState → List ℤ
