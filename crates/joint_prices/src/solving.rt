@@ -115,8 +115,8 @@ fn fill_row(numbers: &mut [Number], asset: usize, sums: &Sums, side: i128)
     numbers[count] = cut(side, 50);
 }
 
-// The upper triangle of the system, of all sums and right sides.
-pub(crate) fn fill_all(grid: &[Sums], sides: &[i128], rows: &mut [Row])
+/// Makes the upper triangle of a system of all sums and right sides, which are scaled by 2^50 for it.
+pub fn fill_all(grid: &[Sums], sides: &[i128], rows: &mut [Row])
     requires triangle { IsTriangle rows.old }
     requires count { length rows.old ≡ length sides.now }
     requires square { IsSquare (length sides.now) grid.now }

@@ -1,6 +1,7 @@
 -- Sums over the orders, added up one order after the other.
 use Rattle.std.proofs.Common.{◌≡◌, ℕ, ◌+◌, ◌*◌, ◌^◌, ◌≤◌, ◌<◌, ℤ, pos, ◌+ℤ◌, ◌*ℤ◌, List, [], ◌∷◌, length, drop, get_or, refl, ap, ◌∙◌, arith}
 use Rattle.std.specs.Prelude.{unsigned_abs}
+use Rattle.std.proofs.Math.Nat.{mul-le-mul, mul-le-mul_right}
 use Rattle.std.proofs.lemmas.Int.{ints}
 use Rattle.std.proofs.lemmas.List.{drop_more, drop_all}
 use Rattle.list_sums.proofs.Products.{unsigned_abs-add}
@@ -11,33 +12,33 @@ use Rattle.joint_prices.specs.Sums.{AreSmall}
 use Rattle.joint_rounds.specs.OrderStates.{OrderState}
 use Rattle.joint_rounds.specs.Rounds.{sum_with}
 use Rattle.joint_rounds.specs.Sums.{IsAdded, AreGathered}
-use Rattle.joint_rounds.proofs.RowAdding.{IsLight}
+use Rattle.joint_rounds.proofs.RowAdding.{IsLightBy}
 
--- what the orders before a place add was added
-pub record IsGathering (f : ℕ → Order → OrderState → ℤ) (os : List Order) (zs : List OrderState) (old : List ℤ) (i : ℕ) (now : List ℤ) : Type 0 where
+-- what the orders before a place add was added, each at most so much
+pub record IsGathering (most : ℕ) (f : ℕ → Order → OrderState → ℤ) (os : List Order) (zs : List OrderState) (old : List ℤ) (i : ℕ) (now : List ℤ) : Type 0 where
   pub count : length now ≡ length old
   pub each : (a : ℕ) → a < length old → price_of now a +ℤ sum_with (f a) (drop i os) (drop i zs) ≡ price_of old a +ℤ sum_with (f a) os zs
-  pub small : (a : ℕ) → a < length old → unsigned_abs (price_of now a) ≤ 2 ^ 20 + i * 2 ^ 108
+  pub small : (a : ℕ) → a < length old → unsigned_abs (price_of now a) ≤ 2 ^ 20 + i * most
 
-pub none_gathered : (f : ℕ → Order → OrderState → ℤ) (os : List Order) (zs : List OrderState) (old : List ℤ) → AreSmall (2 ^ 20) old → IsGathering f os zs old 0 old
-none_gathered f os zs old small = record {
+pub none_gathered : (most : ℕ) (f : ℕ → Order → OrderState → ℤ) (os : List Order) (zs : List OrderState) (old : List ℤ) → AreSmall (2 ^ 20) old → IsGathering most f os zs old 0 old
+none_gathered most f os zs old small = record {
   count = refl;
   each = λ a inside. refl;
   small = λ a inside. omega (arith, small a inside);
 }
 
-sum_more : (f : Order → OrderState → ℤ) (os : List Order) (zs : List OrderState) (i : ℕ) (o : Order) (z : OrderState) → i < length os → i < length zs → o ≡ get_or os i o → z ≡ get_or zs i z
+pub sum_more : (f : Order → OrderState → ℤ) (os : List Order) (zs : List OrderState) (i : ℕ) (o : Order) (z : OrderState) → i < length os → i < length zs → o ≡ get_or os i o → z ≡ get_or zs i z
     → sum_with f (drop i os) (drop i zs) ≡ f o z +ℤ sum_with f (drop (i + 1) os) (drop (i + 1) zs)
 sum_more f os zs i o z inside there o_is z_is =
     rw (drop_more os i o inside, drop_more zs i z there, ← o_is, ← z_is) refl
 
-sum_none : (f : Order → OrderState → ℤ) (os : List Order) (zs : List OrderState) (i : ℕ) → length os ≤ i → sum_with f (drop i os) (drop i zs) ≡ pos 0
+pub sum_none : (f : Order → OrderState → ℤ) (os : List Order) (zs : List OrderState) (i : ℕ) → length os ≤ i → sum_with f (drop i os) (drop i zs) ≡ pos 0
 sum_none f os zs i past = rw (drop_all i os past) refl
 
-pub one_gathered : (f : ℕ → Order → OrderState → ℤ) (g : ℤ → ℤ) (os : List Order) (zs : List OrderState) (old : List ℤ) (i : ℕ) (now next : List ℤ) (o : Order) (z : OrderState)
-    → i < length os → length zs ≡ length os → o ≡ get_or os i o → z ≡ get_or zs i z → IsOrder o → ((a : ℕ) → f a o z ≡ g (weight_in o.row a)) → IsLight g
-    → IsGathering f os zs old i now → IsAdded g o.row now next → IsGathering f os zs old (i + 1) next
-one_gathered f g os zs old i now next o z within counts o_is z_is order part_is light held added =
+pub one_gathered : (most : ℕ) (f : ℕ → Order → OrderState → ℤ) (g : ℤ → ℤ) (os : List Order) (zs : List OrderState) (old : List ℤ) (i : ℕ) (now next : List ℤ) (o : Order) (z : OrderState)
+    → i < length os → length zs ≡ length os → o ≡ get_or os i o → z ≡ get_or zs i z → IsOrder o → ((a : ℕ) → f a o z ≡ g (weight_in o.row a)) → IsLightBy most g
+    → IsGathering most f os zs old i now → IsAdded g o.row now next → IsGathering most f os zs old (i + 1) next
+one_gathered most f g os zs old i now next o z within counts o_is z_is order part_is light held added =
     let there : i < length zs = omega (arith, within, counts) in
     record {
       count = added.count ∙ held.count;
@@ -50,15 +51,15 @@ one_gathered f g os zs old i now next o z within counts o_is z_is order part_is 
           rw here (omega (arith, unsigned_abs-add (price_of now a) (g (weight_in o.row a)), part, held.small a inside));
     }
 
-pub all_gathered : (f : ℕ → Order → OrderState → ℤ) (os : List Order) (zs : List OrderState) (old : List ℤ) (i : ℕ) (now : List ℤ) → length os ≤ i → IsGathering f os zs old i now → AreGathered f os zs old now
-all_gathered f os zs old i now past all = record {
+pub all_gathered : (most : ℕ) (f : ℕ → Order → OrderState → ℤ) (os : List Order) (zs : List OrderState) (old : List ℤ) (i : ℕ) (now : List ℤ) → length os ≤ i → IsGathering most f os zs old i now → AreGathered f os zs old now
+all_gathered most f os zs old i now past all = record {
   count = all.count;
   each = λ a inside. omega (arith, ints, all.each a inside, sum_none (f a) os zs i past);
 }
 
-pub gathered_small : (f : ℕ → Order → OrderState → ℤ) (os : List Order) (zs : List OrderState) (old : List ℤ) (i : ℕ) (now : List ℤ) → i ≤ 2 ^ 17 → IsGathering f os zs old i now → AreSmall (2 ^ 125 + 2 ^ 20) now
-gathered_small f os zs old i now few all a inside = omega (arith, all.small a (omega (arith, inside, all.count)), few)
+pub gathered_small : (most : ℕ) (f : ℕ → Order → OrderState → ℤ) (os : List Order) (zs : List OrderState) (old : List ℤ) (i : ℕ) (now : List ℤ) → i ≤ 2 ^ 17 → IsGathering most f os zs old i now → AreSmall (2 ^ 17 * most + 2 ^ 20) now
+gathered_small most f os zs old i now few all a inside = omega (arith, all.small a (omega (arith, inside, all.count)), mul-le-mul_right most few)
 
 -- on the way each sum is small enough for one order more
-pub gathering_small : (f : ℕ → Order → OrderState → ℤ) (os : List Order) (zs : List OrderState) (old : List ℤ) (i : ℕ) (now : List ℤ) → i ≤ 2 ^ 17 → IsGathering f os zs old i now → AreSmall (2 ^ 126) now
-gathering_small f os zs old i now few all a inside = omega (arith, all.small a (omega (arith, inside, all.count)), few)
+pub gathering_small : (most : ℕ) (f : ℕ → Order → OrderState → ℤ) (os : List Order) (zs : List OrderState) (old : List ℤ) (i : ℕ) (now : List ℤ) → most ≤ 2 ^ 108 → i ≤ 2 ^ 17 → IsGathering most f os zs old i now → AreSmall (2 ^ 126) now
+gathering_small most f os zs old i now light few all a inside = omega (arith, all.small a (omega (arith, inside, all.count)), mul-le-mul few light)

@@ -3,3 +3,4 @@ pub mod RowAdding
 pub mod Gathering
 pub mod VectorFacts
 pub mod RoundFacts
+pub mod Pairing

@@ -72,9 +72,12 @@ all_added row f old j new none lawful past before = record {
   each = λ a inside. before.each a inside ∙ ap (λ z. price_of old a +ℤ z) (ap (int_sum_by (brings f a)) (take_all j row past) ∙ all_bring f a row none (lawful_apart row lawful));
 }
 
--- what f makes of each weight of a vector is small
+-- what f makes of each weight of a vector is within a bound
+abbrev pub IsLightBy : ℕ → (ℤ → ℤ) → Type 0
+IsLightBy bound f = (w : ℤ) → unsigned_abs w ≤ most_weight → unsigned_abs (f w) ≤ bound
+
 abbrev pub IsLight : (ℤ → ℤ) → Type 0
-IsLight f = (w : ℤ) → unsigned_abs w ≤ most_weight → unsigned_abs (f w) ≤ 2 ^ 108
+IsLight f = IsLightBy (2 ^ 108) f
 
 brings_small : (f : ℤ → ℤ) (asset : ℕ) (e : Entry) → IsLight f → unsigned_abs e.weight ≤ most_weight → unsigned_abs (brings f asset e) ≤ 2 ^ 108
 unfolding brings
@@ -110,6 +113,10 @@ square_is z w = refl
 
 pub light_row : (z : ℤ) → unsigned_abs z ≤ 2 ^ 96 → IsLight (λ w. w *ℤ z)
 light_row z small w weight = omega (arith, unsigned_abs-mul_le w z 4096 (2 ^ 96) weight small)
+
+-- what is bought
+pub light_aim : (z : ℤ) → unsigned_abs z ≤ 2 ^ 59 → IsLightBy (2 ^ 71) (λ w. w *ℤ z)
+light_aim z small w weight = omega (arith, unsigned_abs-mul_le w z 4096 (2 ^ 59) weight small)
 
 pub light_square : (z : ℤ) → unsigned_abs z ≤ 2 ^ 62 → IsLight (λ w. w *ℤ (w *ℤ z))
 light_square z small w weight =

@@ -12,21 +12,12 @@ ghost use Rattle.joint_rounds.specs.Rounds.{excess, size, flows, stride, left_af
 ghost use Rattle.joint_rounds.specs.Sums.{IsFlat, HasRoom};
 
 use crate::order_states::OrderState;
-use crate::sums::{gather_aims, gather_flows, gather_sizes};
+use crate::sums::{fill, gather_aims, gather_flows, gather_sizes};
 use crate::vectors::{copy, cut_all, divide, dot, flatten, is_little, reduce};
 use flow_orders::Order;
 use joint_prices::{Number, minus, over, scale, whole_all};
 use std::alloc::{AllocError, Global};
 use std::marker::Model;
-
-// Sets each sum to a number.
-fn fill(number: i128, sums: &mut [i128])
-    ensures { HasEach (length sums.old) (λ a. number) sums.new }
-{
-    for a in 0..sums.len() {
-        sums[a] = number;
-    }
-}
 
 // The excess of each asset, in units.
 fn excesses(orders: &[Order], states: &[OrderState], sums: &mut [i128], into: &mut [Number])

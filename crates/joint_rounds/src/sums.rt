@@ -3,6 +3,7 @@ ghost use Rattle.std.specs.Prelude.{◌≡◌, ℕ, ◌+◌, ◌*◌, ◌/◌, �
 ghost use Rattle.weight_rows.specs.Rows.{most_weight, IsPricedBy, price_of};
 ghost use Rattle.flow_orders.specs.Orders.{IsOrder};
 ghost use Rattle.flow_orders.specs.Excess.{price_for};
+ghost use Rattle.flow_orders.specs.Residuals.{HasEach};
 ghost use Rattle.joint_prices.specs.Numbers.{scaled};
 ghost use Rattle.joint_prices.specs.Sums.{AreSmall};
 ghost use Rattle.joint_rounds.specs.OrderStates.{aim};
@@ -13,6 +14,15 @@ use crate::order_states::{OrderState, product};
 use flow_orders::Order;
 use joint_prices::scale;
 use weight_rows::{Entry, WeightRow};
+
+// Sets each sum to a number.
+pub(crate) fn fill(number: i128, sums: &mut [i128])
+    ensures { HasEach (length sums.old) (λ a. number) sums.new }
+{
+    for a in 0..sums.len() {
+        sums[a] = number;
+    }
+}
 
 // Adds a leg's weight times a factor to the sum of its asset.
 fn add_entry(entry: &Entry, factor: i128, sums: &mut [i128])
@@ -88,7 +98,7 @@ fn add_aim(order: &Order, state: OrderState, sums: &mut [i128])
     requires small { AreSmall (2 ^ 126) sums.old }
     ensures sums { IsAdded (λ w. w *ℤ aim state) order.now.row sums.old sums.new }
     ensures order { IsOrder order.now }
-    ensures aim { unsigned_abs (aim state) ≤ 2 ^ 96 }
+    ensures aim { unsigned_abs (aim state) ≤ 2 ^ 59 }
 {
     add_row(order.row(), state.aim(), sums);
 }
@@ -145,7 +155,7 @@ pub(crate) fn gather_aims(orders: &[Order], states: &[OrderState], sums: &mut [i
     requires places { All (λ o. IsPricedBy o.row sums.old) orders.now }
     requires small { AreSmall (2 ^ 20) sums.old }
     ensures sums { AreGathered aim_part orders.now states.now sums.old sums.new }
-    ensures small { AreSmall (2 ^ 125 + 2 ^ 20) sums.new }
+    ensures small { AreSmall (2 ^ 119) sums.new }
 {
     for i in 0..orders.len() {
         add_aim(&orders[i], states[i], sums);

@@ -10,5 +10,5 @@ loop-i-preserved c =
     let o = c.index-orders-i.result in
     let z = c.index-states-i.result in
     let y = scaled (price_for c.args.flat.now o *ℤ pos z.slope) (pos 28) in
-    one_gathered _ (λ w. w *ℤ y) _ _ _ c.loop-i.i c.loop-i.sums _ o z c.loop-i-test.true c.requires.count c.index-orders-i.is c.index-states-i.is
+    one_gathered _ _ (λ w. w *ℤ y) _ _ _ c.loop-i.i c.loop-i.sums _ o z c.loop-i-test.true c.requires.count c.index-orders-i.is c.index-states-i.is
     c.add_flow.ensures.order (λ a. refl) (light_row y c.add_flow.ensures.flow) c.loop-i.invariant c.add_flow.ensures.sums
