@@ -4,3 +4,4 @@ pub mod Gathering
 pub mod VectorFacts
 pub mod RoundFacts
 pub mod Pairing
+pub mod Reaching

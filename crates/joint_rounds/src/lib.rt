@@ -10,4 +10,5 @@ mod sums;
 mod vectors;
 
 pub use order_states::OrderState;
-pub use searching::TestsEven;
+pub use out_of_memory::Memory;
+pub use searching::{TestsEven, joint_prices_by, joint_prices_quickly, joint_prices_slowly};

@@ -67,7 +67,14 @@ fn begin_flow(c: i64) -> i128
 }
 
 // How much less of each asset is asked for as prices move by a direction. It costs two passes over the legs of all orders.
-fn flows(orders: &[Order], states: &[OrderState], direction: &[Number], flat: &mut [i64], sums: &mut [i128], into: &mut [Number])
+fn flows(
+    orders: &[Order],
+    states: &[OrderState],
+    direction: &[Number],
+    flat: &mut [i64],
+    sums: &mut [i128],
+    into: &mut [Number],
+)
     requires count { length states.now ≡ length orders.now }
     requires few { length orders.now ≤ 2 ^ 17 }
     requires places { All (λ o. IsPricedBy o.row sums.old) orders.now }
@@ -157,7 +164,9 @@ fn make_rounds(
         if is_little(left, open_parts) {
             return;
         }
-        round(orders, states, sizes, moves, direction, left, flow, turn, flat, sums);
+        round(
+            orders, states, sizes, moves, direction, left, flow, turn, flat, sums,
+        );
     }
 }
 
@@ -200,7 +209,9 @@ fn solve_in(
     sizes_of(orders, states, sums, sizes);
     clear(moves);
     divide(left, sizes, direction);
-    make_rounds(orders, states, open_parts, sizes, moves, direction, left, flow, turn, flat, sums);
+    make_rounds(
+        orders, states, open_parts, sizes, moves, direction, left, flow, turn, flat, sums,
+    );
     whole_all(moves, by);
 }
 

@@ -13,8 +13,8 @@ returns c =
     let down = rw (n, opposite) at c.or_zero-2.ensures.value in
     rw c.from-3.ensures (record {
       value = stiff_is c.args.m c.args.line c.args.share c.args.v c.bent_line.result c.times_share-up.result c.times_share-down.result c.bent_line.ensures.value
-      (rw (up, c.from-m.ensures, c.from.ensures) at c.times_share-up.ensures.value)
-      (rw (down, c.from-m.ensures, c.from-2.ensures) at c.times_share-down.ensures.value);
+          (rw (up, c.from-m.ensures, c.from.ensures) at c.times_share-up.ensures.value)
+          (rw (down, c.from-m.ensures, c.from-2.ensures) at c.times_share-down.ensures.value);
       some = omega arith;
       most = omega (arith, c.bent_line.ensures.most, c.times_share-up.ensures.most, c.times_share-down.ensures.most);
     })

@@ -27,8 +27,8 @@ loop-a-preserved c =
     rw (m, value) (
       inv.0 ∙ top_more c.args.ds.now c.loop-a.a t d c.loop-a-test.true c.index-ds-a.is,
       All-more (λ (x : Num). x.e ≤ℤ int_max t d.e) c.args.ds.now c.loop-a.a d c.loop-a-test.true
-      (All-weaker (λ (x : Num). x.e ≤ℤ t) (λ (x : Num). x.e ≤ℤ int_max t d.e) (λ x below. omega (arith, ints, clamps, below)) (take c.loop-a.a c.args.ds.now) inv.1)
-      (rw (← c.index-ds-a.is) (omega (arith, ints, clamps))),
+          (All-weaker (λ (x : Num). x.e ≤ℤ t) (λ (x : Num). x.e ≤ℤ int_max t d.e) (λ x below. omega (arith, ints, clamps, below)) (take c.loop-a.a c.args.ds.now) inv.1)
+          (rw (← c.index-ds-a.is) (omega (arith, ints, clamps))),
       omega (arith, ints, clamps, small, inv.2),
     )
 
