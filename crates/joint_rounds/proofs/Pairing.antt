@@ -2,7 +2,6 @@
 use Rattle.std.proofs.Common.{◌≡◌, ℕ, ◌+◌, ◌-◌, ◌*◌, ◌^◌, ◌≤◌, ◌<◌, ℤ, pos, ◌+ℤ◌, ◌*ℤ◌, eqb, ⊎_elim, map, List, [], ◌∷◌, ◌++◌, length, drop, get_or, refl, ap, ◌∙◌, arith}
 use Rattle.std.specs.Prelude.{unsigned_abs}
 use Rattle.std.proofs.lemmas.Int.{ints}
-use Rattle.std.proofs.lemmas.List.{drop_more, drop_all}
 use Rattle.std.specs.List.{range_with_len}
 use Rattle.std.proofs.lemmas.List.FromFn.{get_or-map-range_with_len, length-map-range_with_len}
 use Rattle.std.proofs.lemmas.Bool.{cases_Bool}
@@ -11,7 +10,7 @@ use Rattle.weight_rows.specs.Rows.{weight_in, price_of}
 use Rattle.weight_rows.proofs.RowLawProofs.{weights_are_small}
 use Rattle.flow_orders.specs.Orders.{Order, IsOrder}
 use Rattle.flow_orders.specs.Residuals.{HasEach}
-use Rattle.joint_prices.specs.Numbers.{Num, cut, whole}
+use Rattle.joint_prices.specs.Numbers.{cut, whole}
 use Rattle.joint_prices.specs.Solving.{solved}
 use Rattle.joint_prices.specs.Sums.{IsSquareAdded, IsSquare, AreSquareSmall, sums_of, row_from, rows_from}
 use Rattle.joint_prices.proofs.Filling.{map_range_same}

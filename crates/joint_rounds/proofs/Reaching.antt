@@ -1,17 +1,15 @@
 -- The loop of a search.
-use Rattle.std.proofs.Common.{◌≡◌, ℕ, zero, suc, ◌+◌, ◌-◌, ◌*◌, ◌^◌, ◌<◌, ◌≤◌, ℤ, Bool, true, false, List, length, map, get_or, take, ◌++◌, ◌∷◌, [], refl, ap, sym, ◌∙◌, arith, ◌+ℤ◌, ⊎_elim}
+use Rattle.std.proofs.Common.{◌≡◌, ℕ, zero, suc, ◌+◌, ◌-◌, ◌*◌, ◌^◌, ◌<◌, ◌≤◌, ℤ, Bool, true, false, List, length, map, ◌∷◌, [], refl, ap, sym, ◌∙◌, arith, ◌+ℤ◌, ⊎_elim}
 use Rattle.std.proofs.lemmas.Bool.{cases_Bool}
 use Rattle.std.proofs.lemmas.Int.{ints, clamps}
 use Rattle.std.specs.Prelude.{All}
 use Rattle.std.proofs.lemmas.List.{length-map}
-use Rattle.weight_rows.specs.Rows.{IsPrice, IsPricedBy}
+use Rattle.weight_rows.specs.Rows.{IsPrice}
 use Rattle.flow_orders.specs.Orders.{Order}
 use Rattle.joint_prices.specs.Numbers.{within}
 use Rattle.joint_prices.specs.OrderStates.{IsShare, IsNear}
 use Rattle.joint_prices.proofs.Reaching.{half_each}
 use Rattle.joint_rounds.specs.OrderStates.{OrderState, grains}
-use Rattle.joint_rounds.specs.Rounds.{by_rounds}
-use Rattle.joint_rounds.specs.Elimination.{by_elimination}
 use Rattle.joint_rounds.specs.Steps.{order_states, moves, priced, shared, reached, joint_prices_by}
 
 within_near : (x : ℤ) → IsNear (within 61 x)

@@ -1,18 +1,18 @@
 -- Adding what a function makes of the weights of a weight vector to sums, leg by leg.
-use Rattle.std.proofs.Common.{◌≡◌, ◌≢◌, ℕ, zero, suc, ◌+◌, ◌*◌, ◌^◌, ◌<◌, ◌≤◌, ℤ, pos, negsuc, ◌+ℤ◌, ◌*ℤ◌, eqb, cond, List, [], ◌∷◌, length, map, take, get_or, set, refl, sym, ap, ◌∙◌, subst, ⊎_elim, arith}
-use Rattle.std.specs.Prelude.{unsigned_abs, ◌/◌, All}
+use Rattle.std.proofs.Common.{◌≡◌, ◌≢◌, ℕ, zero, suc, ◌+◌, ◌*◌, ◌^◌, ◌<◌, ◌≤◌, ℤ, pos, ◌+ℤ◌, ◌*ℤ◌, eqb, cond, List, [], ◌∷◌, length, map, take, get_or, set, refl, sym, ap, ◌∙◌, subst, ⊎_elim, arith}
+use Rattle.std.specs.Prelude.{unsigned_abs, All}
 use Rattle.std.proofs.Math.IntN.{zero-*ℤ}
 use Rattle.std.proofs.Math.Nat.{div-le_of_le-mul}
 use Rattle.std.proofs.lemmas.Int.{ints, unsigned_abs-mul}
 use Rattle.std.proofs.lemmas.Bool.{ne_eqb}
 use Rattle.std.proofs.lemmas.Bool.Decides.{eqb_tells}
-use Rattle.std.proofs.lemmas.List.{get_or-set_other, get_or-set_same, take_all, length-set, length-take, length-map}
+use Rattle.std.proofs.lemmas.List.{get_or-set_other, get_or-set_same, take_all, length-set, length-take}
 use Rattle.std.proofs.lemmas.List.Elements.{All-take}
 use Rattle.list_sums.specs.Sums.{int_sum_by}
-use Rattle.list_sums.proofs.Products.{unsigned_abs-add, unsigned_abs-mul_le, *ℤ-add, *ℤ-assoc}
+use Rattle.list_sums.proofs.Products.{unsigned_abs-add, unsigned_abs-mul_le, *ℤ-assoc}
 use Rattle.list_sums.proofs.SumLemmas.{int_sum_by_more, int_sum_by-zeros, unsigned_abs-int_sum_by}
 use Rattle.weight_rows.specs.declared.entries.Entry.{Entry}
-use Rattle.weight_rows.specs.Rows.{most_weight, most_entries, IsWeightVector, IsPrice, weight_in, price_of, portfolio_price}
+use Rattle.weight_rows.specs.Rows.{most_weight, IsWeightVector, IsPrice, weight_in, price_of, portfolio_price}
 use Rattle.weight_rows.proofs.RowLemmas.{price_is_bounded}
 use Rattle.joint_prices.proofs.RowSums.{AreApart, lawful_apart}
 use Rattle.joint_prices.specs.Numbers.{scaled}

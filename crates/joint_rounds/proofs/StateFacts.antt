@@ -2,10 +2,10 @@
 use Rattle.std.proofs.Common.{◌≡◌, ℕ, ◌+◌, ◌-◌, ◌*◌, ◌^◌, ◌≤◌, ◌<◌, ℤ, pos, negsuc, ◌+ℤ◌, ◌-ℤ◌, ◌*ℤ◌, int_div, refl, sym, ⊎_elim, arith}
 use Rattle.std.specs.Prelude.{neg_ℤ, unsigned_abs, ◌/◌}
 use Rattle.std.specs.Int.{int_min, int_max, div_ceil}
-use Rattle.std.proofs.Math.Nat.{mul-le-mul, mul-le-mul_left, mul-le-mul_right, div-mul-le_self, div-le_of_le-mul, div-eq_of_lt, lt-div-mul-add, pow-le-pow_right}
+use Rattle.std.proofs.Math.Nat.{mul-le-mul, mul-le-mul_left, div-mul-le_self, div-le_of_le-mul, div-eq_of_lt, lt-div-mul-add, pow-le-pow_right}
 use Rattle.std.proofs.lemmas.Bool.{cases_lt}
 use Rattle.std.proofs.lemmas.Int.{ints}
-use Rattle.list_sums.proofs.Products.{unsigned_abs-add, unsigned_abs-mul_le}
+use Rattle.list_sums.proofs.Products.{unsigned_abs-mul_le}
 use Rattle.demand_curve.specs.Numbers.{or_zero}
 use Rattle.demand_curve.specs.Demand.{Terms}
 use Rattle.joint_prices.specs.Numbers.{scaled}

@@ -1,16 +1,16 @@
 -- Facts on vectors of floating point numbers.
-use Rattle.std.proofs.Common.{◌≡◌, ℕ, zero, suc, ◌+◌, ◌*◌, ◌^◌, ◌<◌, ◌≤◌, ℤ, pos, negsuc, ◌+ℤ◌, ◌-ℤ◌, ◌≤ℤ◌, List, [], ◌∷◌, ◌++◌, length, map, take, drop, get_or, refl, sym, ap, ◌∙◌, subst, arith}
-use Rattle.std.specs.Prelude.{All, unsigned_abs, neg_ℤ, nat_le, ◌/◌, ◌&&◌, Bool, true, false}
+use Rattle.std.proofs.Common.{◌≡◌, ℕ, ◌+◌, ◌^◌, ◌<◌, ◌≤◌, ℤ, pos, ◌+ℤ◌, ◌-ℤ◌, ◌≤ℤ◌, List, [], ◌∷◌, length, map, drop, get_or, refl, sym, ap, ◌∙◌, arith}
+use Rattle.std.specs.Prelude.{unsigned_abs, neg_ℤ}
 use Rattle.std.specs.Int.{int_min, int_max}
 use Rattle.std.proofs.Math.Nat.{div-le_of_le-mul, pow-le-pow_right}
 use Rattle.std.proofs.lemmas.Int.{ints, clamps}
-use Rattle.std.proofs.lemmas.List.{drop_more, drop_all, take_more, take_all}
+use Rattle.std.proofs.lemmas.List.{drop_more, drop_all}
 use Rattle.std.specs.List.{range_with_len}
 use Rattle.weight_rows.specs.Rows.{price_of}
 use Rattle.joint_prices.specs.Numbers.{Num, zero_num, scaled, within, minus, whole, cut}
 use Rattle.joint_prices.proofs.NumberFacts.{quot_size}
 use Rattle.joint_prices.specs.Solving.{less}
-use Rattle.joint_rounds.specs.Rounds.{top, flat_by, dot, parts, is_little}
+use Rattle.joint_rounds.specs.Rounds.{top, dot, parts}
 
 pub dot_begins : (xs ys : List Num) → dot xs ys ≡ less zero_num (map (minus zero_num) xs) ys
 unfolding dot

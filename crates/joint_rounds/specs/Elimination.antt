@@ -1,11 +1,11 @@
 -- The system of a step, solved by elimination. Both sides are scaled by 2^82.
-use Rattle.std.specs.Prelude.{◌≡◌, ℕ, ◌-◌, ◌*◌, ◌^◌, ◌<◌, ◌==◌, if◌then◌else◌, ℤ, pos, ◌+ℤ◌, ◌*ℤ◌, List, [], ◌∷◌, ◌++◌, length, map, All}
+use Rattle.std.specs.Prelude.{◌≡◌, ℕ, ◌-◌, ◌*◌, ◌^◌, ◌<◌, ◌==◌, if◌then◌else◌, ℤ, pos, ◌+ℤ◌, ◌*ℤ◌, List, [], ◌∷◌, ◌++◌, length, map}
 use Rattle.std.specs.List.{range_with_len}
-use Rattle.weight_rows.specs.Rows.{weight_in, price_of, IsPrice}
+use Rattle.weight_rows.specs.Rows.{weight_in, price_of}
 use Rattle.flow_orders.specs.Orders.{Order}
 use Rattle.joint_prices.specs.Numbers.{Num, cut, whole}
 use Rattle.joint_prices.specs.Solving.{solved, IsTriangle}
-use Rattle.joint_prices.specs.Sums.{IsSquare, AreSquareSmall, AreSmall, sums_of}
+use Rattle.joint_prices.specs.Sums.{IsSquare, AreSquareSmall, sums_of}
 use Rattle.joint_rounds.specs.OrderStates.{OrderState}
 use Rattle.joint_rounds.specs.Rounds.{sum_with, aim_part}
 

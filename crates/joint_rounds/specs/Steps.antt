@@ -1,5 +1,5 @@
 -- Joint prices of large books: the steps of an interior point method, whose systems are solved by rounds or by elimination.
-use Rattle.std.specs.Prelude.{ℕ, zero, suc, ◌+◌, ◌^◌, nat_le, if◌then◌else◌, ℤ, pos, ◌+ℤ◌, Bool, true, List, length, map}
+use Rattle.std.specs.Prelude.{ℕ, zero, suc, ◌+◌, ◌^◌, nat_le, if◌then◌else◌, ℤ, ◌+ℤ◌, Bool, true, List, length, map}
 use Rattle.flow_orders.specs.Orders.{Order}
 use Rattle.flow_orders.specs.Excess.{price_for}
 use Rattle.joint_prices.specs.Numbers.{within}

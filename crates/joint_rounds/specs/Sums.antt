@@ -1,5 +1,5 @@
 -- Sums over the orders for each asset, as loops add them up.
-use Rattle.std.specs.Prelude.{ℕ, ◌+◌, ◌*◌, ◌^◌, ◌≤◌, ◌≡◌, ℤ, ◌+ℤ◌, unsigned_abs, List, length, All}
+use Rattle.std.specs.Prelude.{ℕ, ◌+◌, ◌^◌, ◌≤◌, ◌≡◌, ℤ, ◌+ℤ◌, unsigned_abs, List, length, All}
 use Rattle.weight_rows.specs.declared.entries.Entry.{Entry}
 use Rattle.weight_rows.specs.Rows.{weight_in, price_of}
 use Rattle.flow_orders.specs.Orders.{Order}

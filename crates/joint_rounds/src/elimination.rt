@@ -1,11 +1,10 @@
 //! The system of a step, solved by elimination: for few assets, and where orders are too steep and too few for rounds.
-ghost use Rattle.std.specs.Prelude.{◌≡◌, ℕ, ◌+◌, ◌*◌, ◌^◌, ◌<◌, ◌≤◌, pos, unsigned_abs, length, map, All, IfOk};
+ghost use Rattle.std.specs.Prelude.{◌≡◌, ℕ, ◌+◌, ◌*◌, ◌^◌, ◌<◌, ◌≤◌, pos, length, map, All, IfOk};
 ghost use Rattle.std.specs.List.{range_with_len};
 ghost use Rattle.weight_rows.specs.Rows.{IsPrice, IsPricedBy};
 ghost use Rattle.flow_orders.specs.Orders.{IsOrder};
-ghost use Rattle.flow_orders.specs.Residuals.{HasEach};
 ghost use Rattle.joint_prices.specs.Solving.{IsTriangle};
-ghost use Rattle.joint_prices.specs.Sums.{IsSquare, IsSquareAdded, AreSquareSmall, AreSmall};
+ghost use Rattle.joint_prices.specs.Sums.{IsSquare, IsSquareAdded, AreSquareSmall};
 ghost use Rattle.joint_rounds.specs.Elimination.{diagonal, no_grid, ArePaired, HasRoomFor, by_elimination};
 
 use crate::order_states::OrderState;

@@ -1,7 +1,7 @@
 //! The loops of a step over orders and over assets, beside those of the rounds.
-ghost use Rattle.std.specs.Prelude.{◌≡◌, ℕ, ◌+◌, ◌*◌, ◌^◌, ◌<◌, ◌≤◌, ◌+ℤ◌, pos, unsigned_abs, length, map, All};
+ghost use Rattle.std.specs.Prelude.{◌≡◌, ◌+◌, ◌^◌, ◌<◌, ◌≤◌, ◌+ℤ◌, length, map, All};
 ghost use Rattle.weight_rows.specs.Rows.{IsPrice, IsPricedBy};
-ghost use Rattle.flow_orders.specs.Orders.{IsOrder, terms_of};
+ghost use Rattle.flow_orders.specs.Orders.{terms_of};
 ghost use Rattle.flow_orders.specs.Excess.{price_for};
 ghost use Rattle.joint_prices.specs.Numbers.{within};
 ghost use Rattle.joint_prices.specs.OrderStates.{IsShare, line as line_in};

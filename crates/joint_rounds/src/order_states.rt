@@ -1,6 +1,6 @@
 //! The state of an order in a step: what its share of its batch maximum lacks, and the slope of its demand, by its share and the price of
 //! its portfolio.
-ghost use Rattle.std.specs.Prelude.{◌≡◌, ℕ, ◌^◌, ◌<◌, ◌≤◌, ◌*◌, ◌/◌, ◌+◌, ◌-◌, ◌*ℤ◌, ◌-ℤ◌, ◌+ℤ◌, pos, neg_ℤ, int_div, unsigned_abs};
+ghost use Rattle.std.specs.Prelude.{◌≡◌, ◌^◌, ◌<◌, ◌≤◌, ◌*◌, ◌/◌, ◌+◌, ◌-◌, ◌*ℤ◌, ◌-ℤ◌, pos, neg_ℤ, unsigned_abs};
 ghost use Rattle.std.specs.Int.{int_min, int_max, div_ceil};
 ghost use Rattle.demand_curve.specs.Numbers.{or_zero};
 ghost use Rattle.demand_curve.specs.Demand.{most_rate};

@@ -1,5 +1,5 @@
 //! The search for prices at which all assets are even.
-ghost use Rattle.std.specs.Prelude.{◌≡◌, ℕ, ◌+◌, ◌*◌, ◌^◌, ◌<◌, ◌≤◌, nat_le, length, map, All, IfOk, List, ℤ, Bool, true};
+ghost use Rattle.std.specs.Prelude.{◌≡◌, ℕ, ◌+◌, ◌^◌, ◌<◌, ◌≤◌, length, map, All, IfOk, List, ℤ, Bool, true};
 ghost use Rattle.weight_rows.specs.Rows.{IsPrice, IsPricedBy};
 ghost use Rattle.flow_orders.specs.Orders.{Order, terms_of};
 ghost use Rattle.joint_prices.specs.OrderStates.{IsShare, IsNear, line as line_in};

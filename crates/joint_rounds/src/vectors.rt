@@ -1,9 +1,9 @@
 //! Vectors of floating point numbers, one number for each asset.
-ghost use Rattle.std.specs.Prelude.{◌≡◌, ℕ, ◌+◌, ◌*◌, ◌/◌, ◌^◌, ◌<◌, ◌≤◌, ℤ, pos, neg_ℤ, ◌+ℤ◌, ◌-ℤ◌, ◌≤ℤ◌, nat_le, unsigned_abs, length, map, drop, List, All};
+ghost use Rattle.std.specs.Prelude.{◌≡◌, ◌+◌, ◌/◌, ◌^◌, ◌<◌, ◌≤◌, ℤ, pos, neg_ℤ, ◌+ℤ◌, ◌-ℤ◌, ◌≤ℤ◌, nat_le, unsigned_abs, length, map, All};
 ghost use Rattle.std.specs.Int.{int_min, int_max};
 ghost use Rattle.std.specs.List.{range_with_len};
 ghost use Rattle.weight_rows.specs.Rows.{price_of};
-ghost use Rattle.joint_prices.specs.Numbers.{scaled, cut, over as quotient_of};
+ghost use Rattle.joint_prices.specs.Numbers.{cut, over as quotient_of};
 ghost use Rattle.joint_prices.specs.Solving.{reduced};
 ghost use Rattle.joint_prices.specs.Steps.{zip_with};
 ghost use Rattle.joint_prices.specs.Sums.{AreSmall};

@@ -1,9 +1,9 @@
-use Rattle.std.proofs.Common.{◌≡◌, ◌∙◌, length, map, sym, subst, ap}
+use Rattle.std.proofs.Common.{◌∙◌, length, map, subst, ap}
 use Rattle.std.specs.Prelude.{pos}
 use Rattle.flow_orders.specs.Residuals.{HasEach}
 use Rattle.joint_prices.specs.Numbers.{whole}
 use Rattle.joint_prices.specs.Solving.{solved}
-use Rattle.joint_rounds.specs.Elimination.{no_grid, ArePaired}
+use Rattle.joint_rounds.specs.Elimination.{ArePaired}
 use Rattle.joint_rounds.proofs.Pairing.{square_at_first, grid_small_at_first, elimination_is}
 use Rattle.joint_rounds.proofs.elimination.solve_in.Goals as goal
 

@@ -1,7 +1,7 @@
-use Rattle.std.proofs.Common.{◌≡◌, ◌^◌, ◌≤◌, ◌*ℤ◌, ◌∙◌, pos, ap, refl, arith}
+use Rattle.std.proofs.Common.{◌^◌, ◌≤◌, ◌*ℤ◌, pos, ap, refl, arith}
 use Rattle.std.specs.Prelude.{unsigned_abs}
 use Rattle.std.specs.Int.{w32, w128}
-use Rattle.std.proofs.lemmas.Int.{ints, to_z-of_z, to_z_pos, fits_signed_mul}
+use Rattle.std.proofs.lemmas.Int.{to_z-of_z, to_z_pos, fits_signed_mul}
 use Rattle.list_sums.proofs.Products.{unsigned_abs-mul_le}
 use Rattle.joint_rounds.proofs.StateFacts.{money_is, scaled_small}
 use Rattle.joint_rounds.proofs.order_states.money.Goals as goal

@@ -1,4 +1,4 @@
-use Rattle.std.proofs.Common.{◌∙◌, arith}
+use Rattle.std.proofs.Common.{◌∙◌}
 use Rattle.joint_rounds.proofs.StateFacts.{slope_is, slope_most}
 use Rattle.joint_rounds.proofs.order_states.slope.Goals as goal
 

@@ -1,4 +1,4 @@
-use Rattle.std.proofs.Common.{ap, ◌+◌, arith}
+use Rattle.std.proofs.Common.{ap, ◌+◌}
 use Rattle.joint_rounds.proofs.StateFacts.{tau_none, tau_some, tau_most}
 use Rattle.joint_rounds.proofs.order_states.tau.Goals as goal
 

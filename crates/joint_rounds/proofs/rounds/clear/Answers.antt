@@ -1,7 +1,7 @@
 use Rattle.std.proofs.Common.{◌∙◌, arith}
 use Rattle.std.proofs.lemmas.List.{length-set}
 use Rattle.joint_prices.specs.Numbers.{Num, zero_num}
-use Rattle.joint_prices.proofs.Filling.{mapped_more, mapped_all}
+use Rattle.joint_prices.proofs.Filling.{mapped_more}
 use Rattle.joint_rounds.proofs.rounds.clear.Goals as goal
 
 pub loop-a-preserved : goal.loop-a-preserved

@@ -1,4 +1,4 @@
-use Rattle.std.proofs.Common.{◌≡◌, ◌∙◌, ◌-ℤ◌, pos, sym, ap, arith}
+use Rattle.std.proofs.Common.{◌∙◌, ◌-ℤ◌, pos, ap, arith}
 use Rattle.std.specs.Int.{w32}
 use Rattle.std.proofs.lemmas.Int.{ints, to_z-of_z, fits_signed_from_abs}
 use Rattle.joint_rounds.proofs.RoundFacts.{flows_are}

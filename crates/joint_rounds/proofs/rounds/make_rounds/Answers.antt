@@ -1,4 +1,4 @@
-use Rattle.std.proofs.Common.{◌≡◌, ◌∙◌, ◌-◌, ◌+◌, suc, sym, refl, arith}
+use Rattle.std.proofs.Common.{◌≡◌, ◌∙◌, ◌-◌, ◌+◌, suc, sym, arith}
 use Rattle.joint_rounds.proofs.RoundFacts.{rounds_more, rounds_little, rounds_spent}
 use Rattle.joint_rounds.proofs.rounds.make_rounds.Goals as goal
 

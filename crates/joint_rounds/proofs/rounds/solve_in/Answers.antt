@@ -1,4 +1,4 @@
-use Rattle.std.proofs.Common.{◌≡◌, ◌∙◌, length, map, sym, ap}
+use Rattle.std.proofs.Common.{◌∙◌, length, map, sym, ap}
 use Rattle.std.specs.List.{range_with_len}
 use Rattle.joint_rounds.specs.Rounds.{excess, size}
 use Rattle.joint_rounds.proofs.RoundFacts.{by_rounds_is, zeros_alike}

@@ -1,10 +1,9 @@
-use Rattle.std.proofs.Common.{◌≡◌, ◌^◌, ◌*◌, ◌*ℤ◌, ◌≤◌, ◌<◌, ◌∙◌, pos, ap, subst, refl, arith}
+use Rattle.std.proofs.Common.{◌^◌, ◌≤◌, pos, refl, arith}
 use Rattle.std.specs.Prelude.{unsigned_abs}
 use Rattle.std.specs.Int.{w128}
-use Rattle.std.proofs.lemmas.Int.{ints, to_z-of_z}
+use Rattle.std.proofs.lemmas.Int.{to_z-of_z}
 use Rattle.std.proofs.Math.Nat.{mul-le-mul}
 use Rattle.weight_rows.specs.Rows.{portfolio_price}
-use Rattle.joint_prices.specs.Numbers.{scaled}
 use Rattle.joint_rounds.proofs.RowAdding.{flat_price, flow_small}
 use Rattle.joint_rounds.proofs.sums.flow_of.Goals as goal
 

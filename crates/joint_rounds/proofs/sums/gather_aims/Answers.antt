@@ -1,4 +1,4 @@
-use Rattle.std.proofs.Common.{◌*ℤ◌, refl, arith}
+use Rattle.std.proofs.Common.{◌*ℤ◌, refl}
 use Rattle.joint_rounds.specs.OrderStates.{aim}
 use Rattle.joint_rounds.proofs.RowAdding.{light_aim}
 use Rattle.joint_rounds.proofs.Gathering.{one_gathered}

@@ -1,4 +1,4 @@
-use Rattle.std.proofs.Common.{◌*ℤ◌, pos, refl, arith}
+use Rattle.std.proofs.Common.{◌*ℤ◌, pos, refl}
 use Rattle.flow_orders.specs.Excess.{price_for}
 use Rattle.joint_prices.specs.Numbers.{scaled}
 use Rattle.joint_rounds.proofs.RowAdding.{light_row}

@@ -1,4 +1,4 @@
-use Rattle.std.proofs.Common.{◌≡◌, length, map, drop}
+use Rattle.std.proofs.Common.{◌≡◌, map, drop}
 use Rattle.joint_prices.specs.Numbers.{zero_num, minus}
 use Rattle.joint_prices.specs.Solving.{less}
 use Rattle.joint_rounds.specs.Rounds.{dot}

@@ -1,11 +1,10 @@
-use Rattle.std.proofs.Common.{to_z, ◌≡◌, ◌≤◌, ◌^◌, ◌≤ℤ◌, ◌∙◌, ◌+◌, take, length, get_or, refl, ap, sym, subst, arith}
+use Rattle.std.proofs.Common.{to_z, ◌≡◌, ◌≤◌, ◌^◌, ◌≤ℤ◌, ◌∙◌, take, ap, sym, subst, arith}
 use Rattle.std.specs.Prelude.{All, unsigned_abs}
 use Rattle.std.specs.Int.{int_max, w32}
 use Rattle.std.proofs.lemmas.Int.{ints, clamps, to_z-of_z}
 use Rattle.std.proofs.lemmas.List.{take_all}
 use Rattle.std.proofs.lemmas.List.Elements.{All-more, All-weaker}
 use Rattle.joint_prices.specs.Numbers.{Num}
-use Rattle.joint_rounds.specs.Rounds.{top}
 use Rattle.joint_rounds.proofs.VectorFacts.{top_begins, top_more, top_ends}
 use Rattle.joint_rounds.proofs.vectors.top.Goals as goal
 
