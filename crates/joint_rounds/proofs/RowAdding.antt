@@ -118,7 +118,7 @@ light_row z small w weight = omega (arith, unsigned_abs-mul_le w z 4096 (2 ^ 96)
 pub light_aim : (z : ℤ) → unsigned_abs z ≤ 2 ^ 59 → IsLightBy (2 ^ 71) (λ w. w *ℤ z)
 light_aim z small w weight = omega (arith, unsigned_abs-mul_le w z 4096 (2 ^ 59) weight small)
 
-pub light_square : (z : ℤ) → unsigned_abs z ≤ 2 ^ 62 → IsLight (λ w. w *ℤ (w *ℤ z))
+pub light_square : (z : ℤ) → unsigned_abs z ≤ 2 ^ 62 → IsLightBy (2 ^ 86) (λ w. w *ℤ (w *ℤ z))
 light_square z small w weight =
     let first : unsigned_abs (w *ℤ z) ≤ 2 ^ 74 = omega (arith, unsigned_abs-mul_le w z 4096 (2 ^ 62) weight small) in
     omega (arith, unsigned_abs-mul_le w (w *ℤ z) 4096 (2 ^ 74) weight first)
@@ -129,7 +129,7 @@ light_row_by z small = light_row z small
 
 pub light_square_by : (z : ℤ) → unsigned_abs z ≤ 2 ^ 62 → IsLight (square_by z)
 unfolding square_by
-light_square_by z small = light_square z small
+light_square_by z small w weight = omega (arith, light_square z small w weight)
 
 pub row_added : (row : List Entry) (z : ℤ) (old : List ℤ) (j : ℕ) (new : List ℤ) → IsWeightVector row → length row ≤ j → AreAdded row (row_by z) old j new → IsAdded (λ w. w *ℤ z) row old new
 unfolding row_by

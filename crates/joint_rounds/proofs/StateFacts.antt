@@ -208,3 +208,7 @@ pub lifted_fits : (x p : ℤ) (k : ℕ) → unsigned_abs x ≤ 2 ^ 62 → p ≡ 
 lifted_fits x p k small p_is few =
     let most : unsigned_abs p ≤ 2 ^ 18 = rw p_is (pow-le-pow_right {n = 2} (omega arith) few) in
     omega (arith, mul-le-mul small most)
+
+pub grains_small : (x : ℤ) → unsigned_abs x ≤ 2 ^ 80 → unsigned_abs (scaled x (pos 8)) ≤ 2 ^ 72
+unfolding scaled
+grains_small x small = rw (quot_size x (2 ^ 8)) (div-le_of_le-mul (2 ^ 8) (omega (arith, small)))

@@ -85,5 +85,5 @@ pub record IsOrderState (z : OrderState) : Type 0 where
   pub share : IsShare z.share
   pub lack : unsigned_abs z.lack ≤ 2 ^ 34
   pub some : 1 ≤ z.stiffness
-  pub stiffness : z.stiffness < 2 ^ 91
+  pub stiffness : z.stiffness < 2 ^ 88
   pub slope : z.slope ≤ 2 ^ 62

@@ -83,8 +83,8 @@ left_after os zs d r = reduced (stride os zs d r) (flows os zs d) r
 abbrev pub turned : List Order → List OrderState → List Num → List Num → List Num
 turned os zs d z = reduced (over (dot z (flows os zs d)) (dot d (flows os zs d))) d z
 
--- At most k rounds. x are the moves so far, d is the direction, and r what is left; m are the assets' sizes. Both quotients of a round are taken from the
--- direction itself, and none is carried along, so roundings don't add up: each round is an exact search along its direction, whatever that is.
+-- At most k rounds. x are the moves so far, d is the direction, and r what is left; m are the assets' sizes. Both quotients of a round are taken
+-- from the direction itself, and none is carried along, so roundings don't add up: each round is an exact search along its direction.
 unfoldable pub rounds : ℕ → List Order → List OrderState → List ℕ → List Num → List Num → List Num → List Num → List Num
 rounds zero os zs open_parts m x d r = x
 rounds (suc k) os zs open_parts m x d r =

@@ -33,8 +33,8 @@ reached even open_parts direct fall os (suc k) s prices ts =
     let by = moves direct open_parts prices os zs in
     reached even open_parts direct fall os k (s + fall) (priced s prices by) (shared by os zs))
 
--- the joint prices of orders and start prices, given the test whether all assets are even at prices, and how much roundings of the orders' demands leave open of
--- each asset there, in parts of 1/256 of a unit: at most 100 steps, from half of each batch maximum
+-- the joint prices of orders and start prices, given the test whether all assets are even at prices, and how much roundings of the orders'
+-- demands leave open of each asset there, in parts of 1/256 of a unit: at most 100 steps, from half of each batch maximum
 unfoldable pub joint_prices_by : (List ℤ → Bool) → (List ℤ → List ℕ) → Bool → ℕ → List Order → List ℤ → List ℤ
 joint_prices_by even open_parts direct fall os start = reached even open_parts direct fall os 100 0 start (map (λ o. 2 ^ 31) os)
 

@@ -67,7 +67,7 @@ fn power(k: u32) -> i128
 pub(crate) fn grains(s: u32, x: i64) -> i128
     requires { unsigned_abs x ≤ 2 ^ 62 }
     ensures value { result ≡ grains s x }
-    ensures small { unsigned_abs result ≤ 2 ^ 80 }
+    ensures small { unsigned_abs result ≤ 2 ^ 72 }
 {
     scale(product(i128::from(x), power(coarseness(s))), 8)
 }
@@ -152,10 +152,10 @@ fn negated(v: i128) -> i128
 
 // The multiplier of a bound times the share's distance from the other one.
 fn times_share(money: u128, share: u64) -> u128
-    requires money { money ≤ 2 ^ 88 }
+    requires money { money ≤ 2 ^ 87 + 2 ^ 30 }
     requires share { share ≤ one }
     ensures value { result ≡ money * share }
-    ensures most { result ≤ 2 ^ 120 }
+    ensures most { result ≤ (2 ^ 87 + 2 ^ 30) * share }
 {
     money * u128::from(share)
 }
@@ -179,7 +179,7 @@ fn stiffness(m: u64, line: u128, v: i128, share: u32) -> u128
     requires share { IsShare share }
     ensures value { result ≡ stiffness m line v share }
     ensures some { 1 ≤ result }
-    ensures most { result < 2 ^ 91 }
+    ensures most { result < 2 ^ 88 }
 {
     let m = u128::from(m);
     let up = times_share(or_zero(v) + m, ONE - u64::from(share));
@@ -243,7 +243,7 @@ fn lack(m: u64, line: u128, v: i128, share: u32, k: u128) -> i64
     requires share { IsShare share }
     requires value { k ≡ stiffness m line v share }
     requires some { 1 ≤ k }
-    requires most { k < 2 ^ 91 }
+    requires most { k < 2 ^ 88 }
     ensures value { result ≡ lack m v share k }
     ensures small { unsigned_abs result ≤ 2 ^ 34 }
 {
@@ -326,7 +326,7 @@ impl OrderState {
     fn stiffness(self) -> u128
         ensures value { result ≡ self.stiffness }
         ensures some { 1 ≤ result }
-        ensures most { result < 2 ^ 91 }
+        ensures most { result < 2 ^ 88 }
     {
         self.stiffness
     }

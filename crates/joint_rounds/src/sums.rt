@@ -155,7 +155,7 @@ pub(crate) fn gather_aims(orders: &[Order], states: &[OrderState], sums: &mut [i
     requires places { All (λ o. IsPricedBy o.row sums.old) orders.now }
     requires small { AreSmall (2 ^ 20) sums.old }
     ensures sums { AreGathered aim_part orders.now states.now sums.old sums.new }
-    ensures small { AreSmall (2 ^ 119) sums.new }
+    ensures small { AreSmall (2 ^ 88 + 2 ^ 20) sums.new }
 {
     for i in 0..orders.len() {
         add_aim(&orders[i], states[i], sums);
@@ -169,7 +169,7 @@ pub(crate) fn gather_sizes(orders: &[Order], states: &[OrderState], sums: &mut [
     requires places { All (λ o. IsPricedBy o.row sums.old) orders.now }
     requires small { AreSmall (2 ^ 20) sums.old }
     ensures sums { AreGathered size_part orders.now states.now sums.old sums.new }
-    ensures small { AreSmall (2 ^ 125 + 2 ^ 20) sums.new }
+    ensures small { AreSmall (2 ^ 103 + 2 ^ 20) sums.new }
 {
     for i in 0..orders.len() {
         add_size(&orders[i], states[i], sums);

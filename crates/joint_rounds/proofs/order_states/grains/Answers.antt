@@ -1,8 +1,8 @@
-use Rattle.std.proofs.Common.{◌^◌, ◌≤◌, ◌*ℤ◌, ◌∙◌, pos, ap, refl, arith}
+use Rattle.std.proofs.Common.{◌^◌, ◌≤◌, ◌*ℤ◌, ◌∙◌, pos, ap, arith}
 use Rattle.std.specs.Prelude.{unsigned_abs}
 use Rattle.std.specs.Int.{w64, w128}
 use Rattle.std.proofs.lemmas.Int.{to_z-of_z}
-use Rattle.joint_rounds.proofs.StateFacts.{grains_is, scaled_small, lifted_fits}
+use Rattle.joint_rounds.proofs.StateFacts.{grains_is, grains_small, lifted_fits}
 use Rattle.joint_rounds.proofs.order_states.grains.Goals as goal
 
 pub product-requires : goal.product-requires
@@ -33,8 +33,8 @@ returns c =
     let is = rw q at c.scale.ensures.value in
     let most = lifted_fits c.args.x c.power.result c.coarseness.result c.requires c.power.ensures c.coarseness.ensures.most in
     let power = c.power.ensures ∙ ap (λ k. pos (2 ^ k)) c.coarseness.ensures.value in
-    let small : unsigned_abs c.scale.result ≤ unsigned_abs c.product.result = rw is (scaled_small c.product.result (pos 8) 8 refl) in
+    let small : unsigned_abs c.scale.result ≤ 2 ^ 72 = rw is (grains_small c.product.result (omega (arith, size, most))) in
     rw r (record {
       value = grains_is c.args.s c.args.x c.product.result c.scale.result (value ∙ ap (λ y. c.args.x *ℤ y) power) is;
-      small = omega (arith, small, size, most);
+      small = small;
     })

@@ -16,5 +16,5 @@ returns c =
           (rw (up, c.from-m.ensures, c.from.ensures) at c.times_share-up.ensures.value)
           (rw (down, c.from-m.ensures, c.from-2.ensures) at c.times_share-down.ensures.value);
       some = omega arith;
-      most = omega (arith, c.bent_line.ensures.most, c.times_share-up.ensures.most, c.times_share-down.ensures.most);
+      most = omega (arith, c.bent_line.ensures.most, c.times_share-up.ensures.most, c.times_share-down.ensures.most, c.from.ensures, c.from-2.ensures, c.requires.share.1);
     })
