@@ -26,5 +26,9 @@ mod solving;
 mod sums;
 mod systems;
 
+pub use numbers::{Number, cut, minus, over, quotient, scale, times, whole};
+pub use order_states::line_of;
 pub use out_of_memory::Memory;
 pub use searching::{Settles, joint_prices};
+pub use solving::{Row, fill_all, solve, whole_all};
+pub use sums::{Sums, add_square};

@@ -26,8 +26,8 @@ impl Model for Row {
 }
 
 impl Row {
-    // A row of so many zeros.
-    pub(crate) fn new(alloc: Global, count: usize) -> Result<Row, AllocError>
+    /// A row of so many zeros.
+    pub fn new(alloc: Global, count: usize) -> Result<Row, AllocError>
         ensures { IfOk result (λ r. length r ≡ count) }
     {
         let numbers = vec![in alloc; Number::zero(); count]?;
@@ -115,8 +115,8 @@ fn fill_row(numbers: &mut [Number], asset: usize, sums: &Sums, side: i128)
     numbers[count] = cut(side, 50);
 }
 
-// The upper triangle of the system, of all sums and right sides.
-pub(crate) fn fill_all(grid: &[Sums], sides: &[i128], rows: &mut [Row])
+/// Makes the upper triangle of a system of all sums and right sides, which are scaled by 2^50 for it.
+pub fn fill_all(grid: &[Sums], sides: &[i128], rows: &mut [Row])
     requires triangle { IsTriangle rows.old }
     requires count { length rows.old ≡ length sides.now }
     requires square { IsSquare (length sides.now) grid.now }
@@ -132,8 +132,8 @@ pub(crate) fn fill_all(grid: &[Sums], sides: &[i128], rows: &mut [Row])
     }
 }
 
-// The moves in whole grains.
-pub(crate) fn whole_all(found: &[Number], by: &mut [i64])
+/// The numbers rounded towards 0 to whole ones, each cut to 2^62 in absolute value.
+pub fn whole_all(found: &[Number], by: &mut [i64])
     requires count { length by.old ≡ length found.now }
     requires range { All IsPrice by.old }
     ensures value { by.new ≡ map whole found.now }

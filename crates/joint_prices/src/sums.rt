@@ -11,8 +11,9 @@ use weight_rows::{Entry, WeightRow};
 
 /// A row of the matrix: the sums of an asset with each asset.
 #[derive(Drop)]
-pub(crate) struct Sums {
-    numbers: Vec<i128>,
+pub struct Sums {
+    /// The sums, by the assets' numbers.
+    pub numbers: Vec<i128>,
 }
 
 impl Model for Sums {
@@ -24,8 +25,8 @@ impl Model for Sums {
 }
 
 impl Sums {
-    // A row of so many zeros.
-    pub(crate) fn new(alloc: Global, count: usize) -> Result<Sums, AllocError>
+    /// A row of so many zeros.
+    pub fn new(alloc: Global, count: usize) -> Result<Sums, AllocError>
         ensures { IfOk result (λ s. length s ≡ count) }
     {
         let numbers = vec![in alloc; 0; count]?;
@@ -125,8 +126,8 @@ fn weighed(weight: i32, factor: i128) -> i128
     i128::from(weight) * factor
 }
 
-// Adds the outer product of a weight vector with itself, times a factor.
-pub(crate) fn add_square(row: &WeightRow, factor: i128, grid: &mut [Sums])
+/// Adds the outer product of a weight vector with itself, times a factor, to a square matrix. It costs one pass over every two legs.
+pub fn add_square(row: &WeightRow, factor: i128, grid: &mut [Sums])
     requires places { All (λ e. e.asset < length grid.old) row.now }
     requires square { IsSquare (length grid.old) grid.old }
     requires factor { unsigned_abs factor ≤ 2 ^ 74 }

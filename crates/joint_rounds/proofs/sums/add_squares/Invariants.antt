@@ -1,0 +1,5 @@
+use Rattle.joint_rounds.proofs.RowAdding.{AreAdded, square_by}
+use Rattle.joint_rounds.proofs.sums.add_squares.Given as goal
+
+abbrev pub invariant-loop-entry : goal.invariant-loop-entry
+invariant-loop-entry l = AreAdded l.entry-items (square_by l.fn.factor) l.initial.sums l.entry-index l.sums

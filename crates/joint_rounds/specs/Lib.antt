@@ -1,0 +1,5 @@
+pub mod OrderStates
+pub mod Rounds
+pub mod Sums
+pub mod Elimination
+pub mod Steps
