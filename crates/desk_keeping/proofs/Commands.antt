@@ -30,6 +30,7 @@ use Rattle.desk_keeping.specs.Hosting.{Entries, Texts}
 use Rattle.desk_keeping.specs.declared.fault.HostFault.{HostFault}
 use Rattle.desk_keeping.specs.declared.fault.HostFault.TheVariants as host
 use Rattle.desk_keeping.specs.Private.{HostState, stored, ReadsOn, CanRead, FileGoes, LeavesFile, StaysAside, AnswersOne, StopsAt, WhyNot, BreaksOne, AnswersAll, StopsAmong, BreaksAll}
+use Rattle.desk_keeping.proofs.KeepingNone.{none_continued, alone_later}
 use Rattle.desk_keeping.proofs.Files.{moved, along_now, goes_none, goes_more, in_order}
 
 -- the first elements, and one more
@@ -103,10 +104,16 @@ module _ (sender : Recipient) (line : ℕ) (commands : List Command) (h m : Host
   leaves_more now Two Both is_disk both carry leaves = by_books h.book m.book all.goes leaves
     where
       by_books : (b c : Book) → FileGoes b c disk mid One h.session.market all.taken all.made m.session.market → LeavesFile c mid now Two m.session.market → LeavesFile b disk now Both h.session.market
-      by_books (Kept p a) (Kept q d) goes left = λ begin pairs along was legal k holds.
+      by_books (Kept p a) (Kept q d) goes left = λ begin pairs along.
           let to_mid = goes.1 begin pairs along in
-          looks_first begin legal disk mid now to_mid.looks (left begin (pairs ++ all.taken) (along_now begin q d disk mid (pairs ++ all.taken) m.session.market is_disk to_mid) was legal k (looked_legal was legal k disk mid holds to_mid.looks))
-      by_books (Kept p a) (Open q) goes left = λ begin pairs along was legal k holds. carry left (λ s. AtEachMoment disk s (WhileOpening begin disk legal)) ((goes.1 begin pairs along).moments was legal k holds)
+          let from_mid = left begin (pairs ++ all.taken) (along_now begin q d disk mid (pairs ++ all.taken) m.session.market is_disk to_mid) in (
+            (λ was legal k holds. looks_first begin legal disk mid now to_mid.looks (from_mid.0 was legal k (looked_legal was legal k disk mid holds to_mid.looks))),
+            alone_later disk mid now to_mid.looks from_mid.1,
+          )
+      by_books (Kept p a) (Open q) goes left = λ begin pairs along. (
+        (λ was legal k holds. carry left (λ s. AtEachMoment disk s (WhileOpening begin disk legal)) ((goes.1 begin pairs along).moments was legal k holds)),
+        none_continued disk.content begin (pairs ++ all.taken) goes.0 (OnlyLooks disk now) (goes.1 begin pairs along).continues,
+      )
       by_books (Open p) (Open q) goes left = both goes.2 left
       by_books (Open p) (Kept q d) goes left = absurd goes
 

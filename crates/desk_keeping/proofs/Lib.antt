@@ -1,3 +1,4 @@
+mod KeepingNone
 mod Files
 mod Serving
 mod Taking
@@ -11,6 +12,7 @@ mod Leaving
 mod Ending
 mod Broken
 mod Stopped
+mod Untouched
 mod Unopened
 mod Reaching
 mod Comes

@@ -88,7 +88,7 @@ module _ (limit : ℕ) (content : Option (List ℕ)) (begin was : Start) (start 
   -- nothing more was written, and the file perhaps being cut
   left_file : (b : Book) → LeavesFile b now then One h.session.market → IsFileAt begin start b now at.safe at.waiting h.session.market → Ends then (at.safe ++ at.waiting) (length at.safe)
   left_file (Kept place ahead) leaves (none, along) =
-      let moments = leaves begin at.safe (along_now begin place ahead start now at.safe h.session.market is_disk along) was old m (looked_legal was old m start now holds along.looks) in
+      let moments = (leaves begin at.safe (along_now begin place ahead start now at.safe h.session.market is_disk along)).0 was old m (looked_legal was old m start now holds along.looks) in
       subst (λ (l : Entries). Ends then l (length at.safe)) (sym (ap (λ (l : Entries). at.safe ++ l) none ∙ append-nil at.safe))
       (along_ends begin was start old m holds place ahead now at.safe h.session.market along alone then is_then moments)
   left_file (Open place) still file =

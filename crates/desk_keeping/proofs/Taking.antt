@@ -39,7 +39,8 @@ use Rattle.desk_keeping.specs.Faults.{of_disk}
 use Rattle.desk_keeping.specs.Hosting.{Entries}
 use Rattle.desk_keeping.specs.declared.fault.HostFault.{HostFault}
 use Rattle.desk_keeping.specs.declared.fault.HostFault.TheVariants as host
-use Rattle.desk_keeping.specs.Private.{HostState, stored, ReadsOn, ReadsUp, FileGoes, LeavesFile, StaysAside, ServesOne, IsOpen, IsEntryOf, TakesEntry, LeavesEntry, StopsAt, WhyNot, BreaksOne, Replays, AnswersOne}
+use Rattle.desk_keeping.specs.Private.{HostState, stored, ReadsOn, ReadsUp, FileGoes, IsLeftAlone, LeavesFile, StaysAside, ServesOne, IsOpen, IsEntryOf, TakesEntry, LeavesEntry, StopsAt, WhyNot, BreaksOne, Replays, AnswersOne}
+use Rattle.desk_keeping.proofs.KeepingNone.{none_closed, looked_alone}
 use Rattle.desk_keeping.proofs.Files.{moved, goes_more, makes_one, leaves_goes}
 
 -- ---- a file that has no more entries
@@ -61,12 +62,16 @@ none_goes (Open place) (Kept later next) disk now Same m is_disk still found = a
 -- ---- nothing was found
 
 pub leaves_found : (b : Book) (disk now : DiskState) (Same : Type 0) (m : Market) (fault : DiskFault) → IsNotFoundBy b disk now fault → LeavesFile b disk now Same m
-leaves_found (Kept place ahead) disk now Same m fault nothing = λ begin pairs along was legal k holds. by_left begin pairs along was legal k holds nothing.left
+leaves_found (Kept place ahead) disk now Same m fault nothing = λ begin pairs along. ((λ was legal k holds. by_left begin pairs along was legal k holds nothing.left), alone begin pairs along nothing.left)
   where
     by_left : (begin : Start) (pairs : Entries) → IsReadAlong begin place ahead disk disk pairs m → (was : Start) (legal : Entries) (k : Market) → HoldsLegal disk was legal k
         → OnlyLooks disk now ⊎ (IfSome disk.content (IsClosedAt place) × LeavesThese place disk now) → AtEachMoment disk now (WhileOpening begin disk legal)
     by_left begin pairs along was legal k holds (inl looks) = looks_alone begin legal disk now looks
     by_left begin pairs along was legal k holds (inr (closed, leaves)) = cutting begin disk disk pairs m place ahead along closed now leaves was legal k holds
+
+    alone : (begin : Start) (pairs : Entries) → IsReadAlong begin place ahead disk disk pairs m → OnlyLooks disk now ⊎ (IfSome disk.content (IsClosedAt place) × LeavesThese place disk now) → IsLeftAlone disk now
+    alone begin pairs along (inl looks) = looked_alone disk now looks
+    alone begin pairs along (inr (closed, leaves)) = none_closed begin place ahead disk pairs m along closed (OnlyLooks disk now)
 leaves_found (Open place) disk now Same m fault nothing = absurd nothing
 
 -- it stopped at damage
@@ -195,7 +200,7 @@ module _ (h n : HostState) (command : Command) (disk now : DiskState) (Same : Ty
 
   leaves_all : (b : Book) → IsFoundBy b (Kept place next) disk now (Some count) → LeavesFile b disk now Same h.session.market
   leaves_all (Open p) it = absurd it
-  leaves_all (Kept p ahead) it = λ begin pairs along was legal k holds. looks_alone begin legal disk now it.1.looks
+  leaves_all (Kept p ahead) it = λ begin pairs along. ((λ was legal k holds. looks_alone begin legal disk now it.1.looks), looked_alone disk now it.1.looks)
 
   pub breaks_taken : (fault : HostFault) → LeavesEntry fault command h.session t place count next → BreaksOne fault command h n disk now Same
   breaks_taken host.Memory why = leaves_all h.book found

@@ -33,6 +33,8 @@ use Rattle.desk_opening.specs.Books.{IsBookAfter}
 use Rattle.desk_opening.specs.Openings.{HasOpened, HasNotOpened, WasMaking, BeginsOtherwise, TakesBeginning, IsNoBook}
 use Rattle.desk_keeping.specs.Faults.{of_start}
 use Rattle.desk_keeping.specs.Hosting.{Entries, desks_of, AreFirstHosted, HasFirstLines, IsAsBefore, ComesTo, IsOfFile, HostsIn}
+use Rattle.desk_keeping.specs.Private.{IsLeftAlone}
+use Rattle.desk_keeping.proofs.KeepingNone.{none_continued, looked_alone}
 use Rattle.desk_keeping.proofs.Leaving.{continued_old}
 
 module _ (limit : ℕ) (content : Option (List ℕ)) (was : Start) (first : DiskState) (old : Entries) (m : Market) (holds : HoldsLegal first was old m) (now : DiskState) (is_disk : IsDisk now) (out : Output) where
@@ -91,6 +93,23 @@ module _ (limit : ℕ) (content : Option (List ℕ)) (was : Start) (first : Disk
           let is = continued_old opened.begin was first old m holds [] market gets.continues in
           let journal : IsKeptJournal opened.begin old market = subst (λ (l : Entries). IsKeptJournal opened.begin l market) (sym is.0) gets.journal in
           hosts_none Cut opened.begin market is.1 (unbegun opened.begin most_unkept first now old market journal is_disk (gets.moments was old m holds))
+
+-- ---- a file that keeps no valid journal
+
+-- the file and the input weren't opened
+pub alone_not_opened : (limit : ℕ) (first now : DiskState) (before after : Option (List ℕ)) (fault : StartFault) → HasNotOpened limit first now before after fault → IsLeftAlone first now
+alone_not_opened limit first now before after (start.Open fault) (why, looks) = looked_alone first now looks
+alone_not_opened limit first now before after (start.Input fault) (why, looks) = looked_alone first now looks
+alone_not_opened limit first now before after start.Differs (looks, begin, takes, otherwise) = looked_alone first now looks
+alone_not_opened limit first now before after start.Make (begin, takes, making) = if_some first.content _ _ (λ (held : List ℕ) is_new none. absurd (none.0 is_new)) making.is_new
+
+-- they were, and no session was made
+pub alone_opened : (most limit : ℕ) (first now : DiskState) (market : Market) (book : Book) (window : WindowState) (before after : Option (List ℕ)) → HasOpened most limit first now market book window before after → IsLeftAlone first now
+alone_opened most limit first now market book window before after opened = by book opened.file
+  where
+    by : (b : Book) → IsBookAfter opened.begin b first now [] market → IsLeftAlone first now
+    by (Kept place ahead) along = looked_alone first now along.looks
+    by (Open place) gets = none_continued first.content opened.begin [] market (OnlyLooks first now) gets.continues
 
 -- ---- what it comes to
 

@@ -20,6 +20,7 @@ use Rattle.journal_disk.specs.Looking.{OnlyLooks}
 use Rattle.journal_disk.specs.Stepping.{HasEntryAt, StatesAt, IsDamagedAt}
 use Rattle.journal_keeping.specs.Starts.{head_of}
 use Rattle.journal_keeping.specs.Keeping.{HoldsLegal, GoesOn, DuringCall}
+use Rattle.journal_keeping.specs.Openings.{KeepNone}
 use Rattle.journal_keeping.specs.Beginning.{WhileOpening}
 use Rattle.journal_keeping.specs.Outputs.{Output, Gains}
 use Rattle.desk_session.specs.States.{State, CountsAccounts, Answers, Serves, IsUntouched}
@@ -97,11 +98,16 @@ FileGoes (Open place) (Open later) disk now SameDisk before taken made after =
     (taken ≡ []) × (later ≡ place) × SameDisk × Follows IsReadAs IsCanonicalOutcome before made after × All IsPair made
 FileGoes (Open place) (Kept later next) disk now SameDisk before taken made after = ⊥
 
--- What a crash leaves of a file that was read along and perhaps being cut: what it might have left before, or the entries of the file. One that gets more is as it was.
+-- a file that keeps no valid journal, and isn't new, was only looked at
+abbrev pub IsLeftAlone : (start now : DiskState) → Type 0
+IsLeftAlone start now = IfSome start.content (λ held. KeepNone held → OnlyLooks start now)
+
+-- What a crash leaves of a file that was read along and perhaps being cut: what it might have left before, or the entries of the file. If that keeps no valid
+-- journal, it was only looked at. One that gets more is as it was.
 abbrev pub LeavesFile : Book → (disk now : DiskState) (SameDisk : Type 0) → Market → Type 0
 LeavesFile (Kept place ahead) disk now SameDisk market =
     (begin : Start) (pairs : Entries) → IsReadAlong begin place ahead disk disk pairs market
-    → (was : Start) (legal : Entries) (m : Market) → HoldsLegal disk was legal m → AtEachMoment disk now (WhileOpening begin disk legal)
+    → ((was : Start) (legal : Entries) (m : Market) → HoldsLegal disk was legal m → AtEachMoment disk now (WhileOpening begin disk legal)) × IsLeftAlone disk now
 LeavesFile (Open place) disk now SameDisk market = SameDisk
 
 -- ---- commands and lines
