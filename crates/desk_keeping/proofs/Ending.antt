@@ -2,17 +2,20 @@
 use Rattle.std.proofs.Common.{◌≡◌, ◌≢◌, ◌⊎◌, inl, inr, ℕ, ◌+◌, ◌≤◌, ◌<◌, List, [], ◌∷◌, ◌++◌, Option, IfSome, length, length-append, take, refl, sym, ap, subst, ◌∙◌, arith, append_assoc}
 use Rattle.std.proofs.lemmas.Bool.{cases_lt}
 use Rattle.std.proofs.lemmas.List.{append-nil, take_all}
+use Rattle.std.proofs.lemmas.List.Elements.{All-nil}
 use Rattle.std.proofs.Math.Seq.{take-append_seam, take-append-add}
 use Rattle.flow_orders.specs.Outcomes.{IsAdmissibleOutcome}
 use Rattle.journal_records.specs.Formats.{records_of}
+use Rattle.line_records.specs.Lines.{HasNoFeed, ended_by_feeds}
 use Rattle.market_rules.specs.Market.{Market}
 use Rattle.market_history.specs.Histories.{Start, market_of}
 use Rattle.disk_edge.specs.Disks.{DiskState, IsDisk}
-use Rattle.journal_disk.specs.Entries.{entry, most_unkept}
+use Rattle.journal_disk.specs.Entries.{entry, IsNewDisk, most_unkept}
 use Rattle.journal_disk.proofs.GoingOn.{looks_none}
 use Rattle.journal_keeping.specs.Keeping.{HoldsLegal}
 use Rattle.journal_keeping.specs.Outputs.{Output, Gains}
 use Rattle.journal_keeping.proofs.Begun.{looks_alone}
+use Rattle.journal_keeping.proofs.Counts.{if_some}
 use Rattle.desk_messages.specs.Desks.{Desks}
 use Rattle.desk_session.proofs.Going.{first_all, first_texts}
 use Rattle.desk_opening.specs.declared.book.Book.{Book}
@@ -25,7 +28,18 @@ use Rattle.desk_keeping.proofs.Leaving.{EndsFile, along_ends, open_stays, open_f
 
 -- the first lines of an input are these
 abbrev pub AreFirst : ℕ → Option (List ℕ) → Start → List (List ℕ) → Type 0
-AreFirst limit content begin lines = (lines ≡ []) ⊎ IfSome content (λ bytes. HasFirstLines (take limit bytes) begin lines)
+AreFirst limit content begin lines = IfSome content (λ bytes. HasFirstLines (take limit bytes) begin lines)
+
+-- so it begins so
+first_begins : (limit : ℕ) (content : Option (List ℕ)) (begin : Start) (lines : List (List ℕ)) → AreFirst limit content begin lines → AreFirst limit content begin []
+first_begins limit content begin lines are =
+    if_some content _ _ (λ (bytes : List ℕ) first. (ended_by_feeds lines ++ first.0, record { starts = first.1.starts; pieces = All-nil HasNoFeed; whole = first.1.whole })) are
+
+-- A file is continued, or a new one begins as the input does.
+pub begins_as : (limit : ℕ) (content : Option (List ℕ)) (begin was : Start) (start : DiskState) (from m : Market) → AreFirst limit content begin [] → ((begin ≡ was) × (from ≡ m)) ⊎ (IfSome start.content IsNewDisk × (from ≡ market_of begin))
+    → ((begin ≡ was) × (from ≡ m)) ⊎ (IfSome start.content IsNewDisk × (from ≡ market_of begin) × AreFirst limit content begin [])
+begins_as limit content begin was start from m begins (inl same) = inl same
+begins_as limit content begin was start from m begins (inr (is_new, there)) = inr (is_new, there, begins)
 
 -- what lines, their entries and texts, and what became of the file say together
 pub hosts_so : (limit : ℕ) (content : Option (List ℕ)) (Cut : Type 0) (begin was : Start) (start end : DiskState) (old : Entries) (m : Market) (lines : List (List ℕ)) (pairs : Entries) (texts : Texts) (safe count : ℕ) (told : Texts) (out later : Output)
@@ -34,12 +48,12 @@ pub hosts_so : (limit : ℕ) (content : Option (List ℕ)) (Cut : Type 0) (begin
 hosts_so limit content Cut begin was start end old m lines pairs texts safe count told out later asked file are within answered gained = record {
   begin = begin;
   from = file.from;
-  continues = file.continues;
+  continues = begins_as limit content begin was start file.from m (first_begins limit content begin lines are) file.continues;
   new = file.new;
   acknowledged = file.acknowledged;
   runs = file.runs;
   lines = lines;
-  are = are;
+  are = inr are;
   pairs = pairs;
   texts = texts;
   asked = asked;

@@ -131,7 +131,7 @@ module _ (limit : ℕ) (content : Option (List ℕ)) (start : DiskState) (first 
     -- ---- the loop ends
 
     are : AreFirst limit content x.begin x.read
-    are = inr (are_first x.begin limit w content left x.read x.gone)
+    are = are_first x.begin limit w content left x.read x.gone
 
     few_waiting : length h.group ≤ most_unkept
     few_waiting = omega (arith, x.within.short)
@@ -220,7 +220,7 @@ module _ (limit : ℕ) (content : Option (List ℕ)) (start : DiskState) (first 
         -- it wasn't heard to its end
         pub line_broken : (after : Output) (SameOut : Type 0) (fault result : HostFault) → (SameOut → (P : Output → Type 0) → P out → P after) → BreaksLine fault line h mid now then One → StopsHere fault result mid out after SameOut → Results then after rest (Err result)
         line_broken after SameOut fault result carry_out breaks stops = (
-          λ was old m holds. breaks_line limit content x.begin was start old m holds x.alone first x.read h now out x.at few_waiting are then is_disk is_then One one line (inr are_line) mid after SameOut carry_out fault result
+          λ was old m holds. breaks_line limit content x.begin was start old m holds x.alone first x.read h now out x.at few_waiting are then is_disk is_then One one line are_line mid after SameOut carry_out fault result
               (◌≡◌ {A = Result (Unit {0}) HostFault} (Err result) (Err Write)) (λ is. ap (λ (f : HostFault). Err f) is) breaks stops,
           always start.content _ (λ held told. comes_stopped x.begin start held told first x.read h now out x.at limit content rest then is_disk line are_line mid One after SameOut fault result breaks stops),
           line_spared start x.begin first x.read h now then out x.at is_disk line mid One fault breaks,

@@ -36,10 +36,33 @@ use Rattle.desk_keeping.specs.Hosting.{Entries, desks_of, AreFirstHosted, HasFir
 use Rattle.desk_keeping.specs.Private.{IsLeftAlone}
 use Rattle.desk_keeping.proofs.KeepingNone.{none_continued, looked_alone}
 use Rattle.desk_keeping.proofs.Leaving.{continued_old}
+use Rattle.desk_keeping.proofs.Ending.{AreFirst, begins_as}
+
+-- what was taken of an input whose bytes are known
+pub of_known : (content left : Option (List ℕ)) (taken : List ℕ) → Takes content left taken → (P : List ℕ → Type 0) → ((bytes after : List ℕ) → left ≡ Some after → bytes ≡ taken ++ after → P bytes) → IfSome content P
+of_known None left taken takes P f = tt
+of_known (Some bytes) None taken takes P f = absurd takes
+of_known (Some bytes) (Some after) taken takes P f = f bytes after refl takes
+
+-- the first bytes within the limit
+pub take_taken : (limit : ℕ) (bytes taken after : List ℕ) → bytes ≡ taken ++ after → length taken ≤ limit → take limit bytes ≡ taken ++ take (limit - length taken) after
+take_taken limit bytes taken after is few =
+    let spare : limit ≡ length taken + (limit - length taken) = omega (arith, few) in
+    ap (take limit) is ∙ ap (λ (n : ℕ). take n (taken ++ after)) spare ∙ take-append-add taken after (limit - length taken)
+
+-- the beginning of the input was taken, within the limit
+begins_input : (limit : ℕ) (content left : Option (List ℕ)) (begin : Start) → TakesBeginning limit begin content left → IfSome content (λ bytes. HasFirstLines (take limit bytes) begin [])
+begins_input limit content left begin (starts, taken, takes, few) = of_known content left (bytes_before begin ++ taken) takes (λ bytes. HasFirstLines (take limit bytes) begin []) by
+  where
+    by : (bytes after : List ℕ) → left ≡ Some after → bytes ≡ (bytes_before begin ++ taken) ++ after → HasFirstLines (take limit bytes) begin []
+    by bytes after so is = (
+      take (limit - length (bytes_before begin)) (taken ++ after),
+      record { starts = starts; pieces = All-nil HasNoFeed; whole = take_taken limit bytes (bytes_before begin) (taken ++ after) (is ∙ append_assoc (bytes_before begin) taken after) (omega (arith, few, length-append (bytes_before begin) taken)) },
+    )
 
 module _ (limit : ℕ) (content : Option (List ℕ)) (was : Start) (first : DiskState) (old : Entries) (m : Market) (holds : HoldsLegal first was old m) (now : DiskState) (is_disk : IsDisk now) (out : Output) where
   -- no line was heard, and nothing was added
-  hosts_none : (Cut : Type 0) (begin : Start) (from : Market) → ((begin ≡ was) × (from ≡ m)) ⊎ (IfSome first.content IsNewDisk × (from ≡ market_of begin)) → Runs most_unkept begin first now old from [] 0
+  hosts_none : (Cut : Type 0) (begin : Start) (from : Market) → ((begin ≡ was) × (from ≡ m)) ⊎ (IfSome first.content IsNewDisk × (from ≡ market_of begin) × AreFirst limit content begin []) → Runs most_unkept begin first now old from [] 0
       → HostsIn limit content Cut was first now old m out out
   hosts_none Cut begin from continues runs =
       let none : AreFirstHosted begin [] [] [] = first_all IsAdmissibleOutcome (market_of begin) (market_of begin) (desks_of begin) (desks_of begin) 0 [] [] [] [] (refl, refl, refl, refl) in
@@ -73,7 +96,7 @@ module _ (limit : ℕ) (content : Option (List ℕ)) (was : Start) (first : Disk
       let is_new : IsOpening holds.bytes opening.New = subst (λ (o : Option (List ℕ)). IfSome o (λ held. IsOpening held opening.New)) holds.told making.is_new in
       let none = new_again first was old m holds holds.bytes holds.told is_new.0 in
       let journal : IsKeptJournal begin old (market_of begin) = subst (λ (l : Entries). IsKeptJournal begin l (market_of begin)) (sym none) (none_read begin (market_of begin) takes.0 refl) in
-      hosts_none Cut begin (market_of begin) (inr (subst (λ (o : Option (List ℕ)). IfSome o IsNewDisk) (sym holds.told) is_new.0, refl))
+      hosts_none Cut begin (market_of begin) (inr (subst (λ (o : Option (List ℕ)). IfSome o IsNewDisk) (sym holds.told) is_new.0, refl, begins_input limit content rest begin takes))
       (unbegun begin most_unkept first now old (market_of begin) journal is_disk (making.moments was old m holds))
 
   -- the file and the input weren't opened
@@ -92,7 +115,9 @@ module _ (limit : ℕ) (content : Option (List ℕ)) (was : Start) (first : Disk
       by (Open place) gets =
           let is = continued_old opened.begin was first old m holds [] market gets.continues in
           let journal : IsKeptJournal opened.begin old market = subst (λ (l : Entries). IsKeptJournal opened.begin l market) (sym is.0) gets.journal in
-          hosts_none Cut opened.begin market is.1 (unbegun opened.begin most_unkept first now old market journal is_disk (gets.moments was old m holds))
+          let few : length (bytes_before opened.begin ++ window.held) ≤ limit = omega (arith, length-append (bytes_before opened.begin) window.held, opened.place, opened.is_open.within, opened.limited) in
+          let begins = begins_input limit content rest opened.begin (opened.starts, window.held, opened.takes, few) in
+          hosts_none Cut opened.begin market (begins_as limit content opened.begin was first market m begins is.1) (unbegun opened.begin most_unkept first now old market journal is_disk (gets.moments was old m holds))
 
 -- ---- a file that keeps no valid journal
 
@@ -113,18 +138,6 @@ alone_opened most limit first now market book window before after opened = by bo
 
 -- ---- what it comes to
 
--- what was taken of an input whose bytes are known
-pub of_known : (content left : Option (List ℕ)) (taken : List ℕ) → Takes content left taken → (P : List ℕ → Type 0) → ((bytes after : List ℕ) → left ≡ Some after → bytes ≡ taken ++ after → P bytes) → IfSome content P
-of_known None left taken takes P f = tt
-of_known (Some bytes) None taken takes P f = absurd takes
-of_known (Some bytes) (Some after) taken takes P f = f bytes after refl takes
-
--- the first bytes within the limit
-pub take_taken : (limit : ℕ) (bytes taken after : List ℕ) → bytes ≡ taken ++ after → length taken ≤ limit → take limit bytes ≡ taken ++ take (limit - length taken) after
-take_taken limit bytes taken after is few =
-    let spare : limit ≡ length taken + (limit - length taken) = omega (arith, few) in
-    ap (take limit) is ∙ ap (λ (n : ℕ). take n (taken ++ after)) spare ∙ take-append-add taken after (limit - length taken)
-
 module _ (limit : ℕ) (content left : Option (List ℕ)) (first now : DiskState) (held : List ℕ) (told : first.content ≡ Some held) (out : Output) where
   known_so : (P : List ℕ → Type 0) → IfSome first.content P → P held
   known_so P is = subst (λ (o : Option (List ℕ)). IfSome o P) told is
@@ -132,30 +145,20 @@ module _ (limit : ℕ) (content left : Option (List ℕ)) (first now : DiskState
   as_before : OnlyLooks first now → IsAsBefore held now out out
   as_before looks = (looks.content ∙ told, refl)
 
-  -- the beginning of the input was taken, within the limit
-  begins_so : (begin : Start) → TakesBeginning limit begin content left → IfSome content (λ bytes. HasFirstLines (take limit bytes) begin [])
-  begins_so begin (starts, taken, takes, few) = of_known content left (bytes_before begin ++ taken) takes (λ bytes. HasFirstLines (take limit bytes) begin []) by
-    where
-      by : (bytes after : List ℕ) → left ≡ Some after → bytes ≡ (bytes_before begin ++ taken) ++ after → HasFirstLines (take limit bytes) begin []
-      by bytes after so is = (
-        take (limit - length (bytes_before begin)) (taken ++ after),
-        record { starts = starts; pieces = All-nil HasNoFeed; whole = take_taken limit bytes (bytes_before begin) (taken ++ after) (is ∙ append_assoc (bytes_before begin) taken after) (omega (arith, few, length-append (bytes_before begin) taken)) },
-      )
-
   -- why nothing was hosted
   pub comes_not_opened : (fault : StartFault) → HasNotOpened limit first now content left fault
       → ComesTo limit held content left now out out (Err (of_start fault))
   comes_not_opened (start.Open unopened.Disk) not = tt
   comes_not_opened (start.Open unopened.Memory) not = tt
   comes_not_opened (start.Open unopened.NotDisk) (why, looks) = (known_so (λ bytes. IsOpening bytes opening.Foreign) why, as_before looks)
-  comes_not_opened (start.Open (unopened.Damaged place)) (why, looks) = inl (known_so (λ bytes. IsOpening bytes (opening.Damaged place)) why.0, as_before looks)
+  comes_not_opened (start.Open (unopened.Damaged place)) (why, looks) = inl (known_so (λ bytes. IsOpening bytes (opening.Damaged place)) why.0, why.1, as_before looks)
   comes_not_opened (start.Open (unopened.Rejected number)) (why, looks) = absurd why
   comes_not_opened (start.Input unread.Read) (why, looks) = inr (why, as_before looks)
   comes_not_opened (start.Input unread.Memory) not = tt
   comes_not_opened (start.Input unread.NotFlow) (why, looks) = (why, as_before looks)
   comes_not_opened (start.Input unread.BadCheckpoint) (why, looks) = (why, as_before looks)
   comes_not_opened start.Differs (looks, begin, takes, otherwise) =
-      inl (refl, as_before looks, begin, begins_so begin takes, known_so (λ bytes. BeginsOtherwise begin bytes now) otherwise)
+      inl (refl, as_before looks, begin, begins_input limit content left begin takes, known_so (λ bytes. BeginsOtherwise begin bytes now) otherwise)
   comes_not_opened start.Make not = tt
 
 -- ---- a file that is refused by its bytes

@@ -157,7 +157,7 @@ ComesTo limit held content left end out later (Err NotFlow) = NotBegun limit con
 ComesTo limit held content left end out later (Err BadCheckpoint) = NotBegun limit content left input.BadCheckpoint × IsAsBefore held end out later
 ComesTo limit held content left end out later (Err NotDisk) = IsOpening held opening.Foreign × IsAsBefore held end out later
 ComesTo limit held content left end out later (Err (Damaged place)) =
-    (IsOpening held (opening.Damaged place) × IsAsBefore held end out later)
+    (IsOpening held (opening.Damaged place) × (place ≡ 8) × IsAsBefore held end out later)
     ⊎ StopsAtEntry limit held content end out later (λ at pairs market next. (at ≡ place) × IsDamagedAt place held)
 ComesTo limit held content left end out later (Err (Rejected number)) = StopsAtEntry limit held content end out later (λ at pairs market next. (number ≡ length pairs + 1) × IsEntryInvalid held at market)
 ComesTo limit held content left end out later (Err (Differs number)) =
@@ -178,14 +178,15 @@ IsOfFile (Err fault) = ⊥
 
 -- ---- a crash at any moment
 
--- What a call does to a file with these old entries of a valid journal, and to its output. The entries that the first lines of the input ask for are the old
--- ones and then the new ones, or only the first of the old ones, and then nothing was added. A crash leaves the old ones and a first part of the new ones
--- (`runs`): those that are acknowledged, and of the others, which were kept together, all or none. What was written are the answers of lines whose entries
--- are acknowledged.
+-- What a call does to a file with these old entries of a valid journal, and to its output. A new file begins as the input does. The entries that the first
+-- lines of the input ask for are the old ones and then the new ones, or only the first of the old ones, and then nothing was added. A crash leaves the old
+-- ones and a first part of the new ones (`runs`): those that are acknowledged, and of the others, which were kept together, all or none. What was written are
+-- the answers of lines whose entries are acknowledged.
 pub record HostsIn (limit : ℕ) (content : Option (List ℕ)) (Cut : Type 0) (was : Start) (start end : DiskState) (old : Entries) (market : Market) (out later : Output) : Type 0 where
   pub begin : Start
   pub from : Market
-  pub continues : ((begin ≡ was) × (from ≡ market)) ⊎ (IfSome start.content IsNewDisk × (from ≡ market_of begin))
+  pub continues : ((begin ≡ was) × (from ≡ market))
+      ⊎ (IfSome start.content IsNewDisk × (from ≡ market_of begin) × IfSome content (λ bytes. HasFirstLines (take limit bytes) begin []))
   pub new : Entries
   pub acknowledged : ℕ
   pub runs : Runs most_unkept begin start end old from new acknowledged
