@@ -24,6 +24,7 @@ use Rattle.desk_lines.specs.Hearing.{most_envelope}
 use Rattle.desk_opening.specs.declared.book.Book.{Book}
 use Rattle.desk_opening.specs.declared.book.Book.TheVariants.{Kept, Open}
 use Rattle.desk_opening.specs.Books.{IsReadAlong, Continues}
+use Rattle.desk_opening.specs.Openings.{BeginsAlone}
 use Rattle.desk_keeping.specs.declared.fault.HostFault.{HostFault}
 use Rattle.desk_keeping.specs.declared.fault.HostFault.TheVariants.{Read, Write, Disk, Memory, NotDisk, Damaged, Rejected, NotFlow, BadCheckpoint, TooLong, Differs}
 use Rattle.desk_keeping.specs.Hosting.{Entries, Texts, HasFirstLines, IsReadTo, HasEntriesOf, HasAnswered, StopsAtEntry, IsEntryInvalid, IsEntryOther, ComesTo}
@@ -32,7 +33,7 @@ use Rattle.desk_keeping.proofs.Leaving.{none_stored}
 use Rattle.desk_keeping.proofs.Stopped.{served_into, left_within, along_first, along_then}
 use Rattle.desk_keeping.proofs.Reaching.{all_lines, limit_lines, read_lines}
 
-module _ (begin : Start) (start : DiskState) (held : List ℕ) (told : start.content ≡ Some held) where
+module _ (begin : Start) (start : DiskState) (held : List ℕ) (told : start.content ≡ Some held) (alone : IfSome start.content (BeginsAlone begin)) where
   known_so : (P : List ℕ → Type 0) → IfSome start.content P → P held
   known_so P is = subst (λ (o : Option (List ℕ)). IfSome o P) told is
 
@@ -46,6 +47,7 @@ module _ (begin : Start) (start : DiskState) (held : List ℕ) (told : start.con
       record {
         is_old = known.0;
         is_file = known.1;
+        alone = known_so (BeginsAlone begin) alone;
         legal = record { lawful = has.lawful; journal = along.journal; rest = rest; encoded = cc; begins = has.begins };
         same = same;
       }

@@ -165,15 +165,15 @@ module _ (limit : ℕ) (content : Option (List ℕ)) (start : DiskState) (first 
       pub ended : (found : Next) → (found ≡ next.Last) ⊎ ((found ≡ next.LongLast) ⊎ (found ≡ next.End)) → FindsNextWithin most_envelope w new left rest found → Results now out rest (Ok tt)
       ended found which finds = (
         all_hosted (Ok tt),
-        always start.content _ (λ held told. comes_ended x.begin start held told first x.read h now out x.at limit w content left x.gone none written new rest found which finds),
+        always start.content _ (λ held told. comes_ended x.begin start held told x.alone first x.read h now out x.at limit w content left x.gone none written new rest found which finds),
         left_alone,
       )
 
       pub limited : FindsNextWithin most_envelope w new left rest next.Limit → Results now out rest (Err TooLong)
-      limited finds = (all_hosted (Err TooLong), always start.content _ (λ held told. comes_limit x.begin start held told first x.read h now out x.at limit w content left x.gone none written new rest finds), left_alone)
+      limited finds = (all_hosted (Err TooLong), always start.content _ (λ held told. comes_limit x.begin start held told x.alone first x.read h now out x.at limit w content left x.gone none written new rest finds), left_alone)
 
       pub unread : FindsNoFeed w left rest → Results now out rest (Err Read)
-      unread finds = (all_hosted (Err Read), always start.content _ (λ held told. comes_unread x.begin start held told first x.read h now out x.at limit w content left x.gone none written new rest finds), left_alone)
+      unread finds = (all_hosted (Err Read), always start.content _ (λ held told. comes_unread x.begin start held told x.alone first x.read h now out x.at limit w content left x.gone none written new rest finds), left_alone)
 
     in_order_still : (line : List ℕ) (mid : HostState) (then : DiskState) (Why : (number : ℕ) → Market → List Command → (place : ℕ) → List ℕ → Type 0) → StopsWithin line h mid now then Why → IsOrdered mid
     in_order_still line mid then Why stops = (omega (arith, is_ordered.0, stops.aside.told, stops.aside.written), omega (arith, is_ordered.1, stops.aside.told, ap (λ (t : List (List ℕ)). length t) stops.said, length-append h.session.talk.texts stops.texts))
@@ -222,7 +222,7 @@ module _ (limit : ℕ) (content : Option (List ℕ)) (start : DiskState) (first 
         line_broken after SameOut fault result carry_out breaks stops = (
           λ was old m holds. breaks_line limit content x.begin was start old m holds x.alone first x.read h now out x.at few_waiting are then is_disk is_then One one line are_line mid after SameOut carry_out fault result
               (◌≡◌ {A = Result (Unit {0}) HostFault} (Err result) (Err Write)) (λ is. ap (λ (f : HostFault). Err f) is) breaks stops,
-          always start.content _ (λ held told. comes_stopped x.begin start held told first x.read h now out x.at limit content rest then is_disk line are_line mid One after SameOut fault result breaks stops),
+          always start.content _ (λ held told. comes_stopped x.begin start held told x.alone first x.read h now out x.at limit content rest then is_disk line are_line mid One after SameOut fault result breaks stops),
           line_spared start x.begin first x.read h now then out x.at is_disk line mid One fault breaks,
         )
 

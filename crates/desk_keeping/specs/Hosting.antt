@@ -28,7 +28,7 @@ use Rattle.desk_messages.specs.Desks.{Desks, no_desks}
 use Rattle.desk_session.specs.Lines.{AreLinesServed, AreServedInto, AreFirstServed}
 use Rattle.desk_opening.specs.Beginnings.{bytes_before, NotBegun}
 use Rattle.desk_opening.specs.Books.{Continues}
-use Rattle.desk_opening.specs.Openings.{BeginsOtherwise}
+use Rattle.desk_opening.specs.Openings.{BeginsAlone, BeginsOtherwise}
 use Rattle.desk_keeping.specs.declared.fault.HostFault.{HostFault}
 use Rattle.desk_keeping.specs.declared.fault.HostFault.TheVariants.{Read, Write, Disk, Memory, NotDisk, Damaged, Rejected, NotFlow, BadCheckpoint, TooLong, Differs}
 
@@ -74,10 +74,12 @@ HasFirstLines bytes begin lines = (last : List ℕ) × HasLines bytes begin line
 
 -- ---- the file at the end
 
--- The file, which held these bytes, begins so and has these entries, which are valid, up to this place, and perhaps others; it wasn't changed.
+-- The file, which held these bytes, begins so, without a checkpoint only if it has none, and has these entries, which are valid, up to this place, and
+-- perhaps others; it wasn't changed.
 pub record IsReadTo (held : List ℕ) (begin : Start) (pairs : Entries) (market : Market) (place : ℕ) (end : DiskState) : Type 0 where
   pub is_old : ¬ IsNewDisk held
   pub is_file : ¬ IsForeign held
+  pub alone : BeginsAlone begin held
   pub legal : BeginsLegal begin held pairs market place
   pub same : end.content ≡ Some held
 
