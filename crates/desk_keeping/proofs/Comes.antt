@@ -1,5 +1,5 @@
 -- What hosting comes to, of a file whose bytes are known: all lines were answered, or it stopped at an entry of the file.
-use Rattle.std.proofs.Common.{◌≡◌, ◌⊎◌, inl, inr, ℕ, ◌+◌, List, [], ◌∷◌, ◌++◌, Option, Some, IfSome, Ok, Err, length, length-append, map, take, drop, sym, ap, subst, ◌∙◌, arith}
+use Rattle.std.proofs.Common.{◌≡◌, ◌≢◌, ◌⊎◌, inl, inr, ℕ, ◌+◌, ◌<◌, List, [], ◌∷◌, ◌++◌, Option, Some, IfSome, Ok, Err, length, length-append, map, take, drop, sym, ap, subst, ◌∙◌, arith}
 use Rattle.std.proofs.lemmas.List.{append-nil}
 use Rattle.wire_records.specs.Commands.{Command}
 use Rattle.wire_records.specs.Versions.{IsReadAs}
@@ -18,6 +18,8 @@ use Rattle.journal_disk.specs.Recovering.{IsForeign}
 use Rattle.journal_disk.specs.Ahead.{AheadState}
 use Rattle.journal_disk.specs.Stepping.{IsDamagedAt}
 use Rattle.journal_keeping.specs.Starts.{head_of}
+use Rattle.journal_keeping.specs.Openings.{IsOpening}
+use Rattle.journal_keeping.specs.Openings as opening
 use Rattle.journal_keeping.specs.Outputs.{Output, Gains}
 use Rattle.journal_keeping.proofs.Gaining.{gains_more}
 use Rattle.desk_lines.specs.Hearing.{most_envelope}
@@ -52,6 +54,11 @@ module _ (begin : Start) (start : DiskState) (held : List ℕ) (told : start.con
         same = same;
       }
 
+  -- it got one at least, unless it was new
+  has_more : (kept waiting : Entries) → waiting ≡ [] → (New : Type 0) (Old : Type 0) → (New → Old) → (0 < length kept + length waiting) ⊎ New → (kept ≢ []) ⊎ Old
+  has_more kept waiting empty New Old known (inl some) = inl (λ none. absurd (omega (arith, some, ap length none, ap length empty)))
+  has_more kept waiting empty New Old known (inr new) = inr (known new)
+
   -- the file has the entries, if none waits
   pub entries_of : (b : Book) (now : DiskState) (safe waiting : Entries) (market : Market) → IsFileAt begin start b now safe waiting market → waiting ≡ [] → HasEntriesOf held begin safe market now
   entries_of (Kept place ahead) now safe waiting market (none, along) empty = inl (place, read_to place ahead now safe market along)
@@ -63,6 +70,7 @@ module _ (begin : Start) (start : DiskState) (held : List ℕ) (told : start.con
         before = file.opened;
         continues = known_so (λ bytes. Continues bytes begin file.old file.opened) file.continues;
         new = file.kept;
+        more = has_more file.kept waiting empty (IfSome start.content (λ bytes. IsOpening bytes opening.New)) (IsOpening held opening.New) (known_so (λ bytes. IsOpening bytes opening.New)) file.more;
         parts = file.parts;
         steps = subst (λ (n : Market). Follows IsReadAs IsCanonicalOutcome file.opened file.kept n) (sym last) file.goes_on.steps;
         keeps = (place, subst (λ (l : Entries). Keeps (head_of begin) (map records_of l) place now) (sym file.parts) keeps);

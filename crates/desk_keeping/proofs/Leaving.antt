@@ -1,5 +1,5 @@
 -- What became of the file where hosting ended: it was read along only, or keeps entries, and others waited.
-use Rattle.std.proofs.Common.{◌≡◌, ◌⊎◌, inl, inr, ℕ, ◌+◌, ◌≤◌, List, [], ◌∷◌, ◌++◌, Option, Some, None, IfSome, IsSome, length, length-append, map, take, drop, refl, sym, ap, subst, ◌∙◌, arith, append_assoc}
+use Rattle.std.proofs.Common.{◌≡◌, ◌⊎◌, inl, inr, ℕ, ◌+◌, ◌<◌, ◌≤◌, List, [], ◌∷◌, ◌++◌, Option, Some, None, IfSome, IsSome, length, length-append, map, take, drop, refl, sym, ap, subst, ◌∙◌, arith, append_assoc}
 use Rattle.std.specs.Prelude.{All}
 use Rattle.std.proofs.lemmas.List.{map-append, take-map, take-append-drop}
 use Rattle.std.proofs.lemmas.List.Elements.{All-nil}
@@ -7,6 +7,9 @@ use Rattle.std.proofs.Math.Seq.{take-append_seam}
 use Rattle.wire_records.specs.Versions.{IsReadAs}
 use Rattle.wire_records.proofs.Readings.{reading_unique}
 use Rattle.canonical_rule.specs.Canonical.{IsCanonicalOutcome}
+use Rattle.wire_records.specs.Commands.{Pair}
+use Rattle.wire_records.specs.Records.{Record}
+use Rattle.flow_orders.specs.Outcomes.{Outcome}
 use Rattle.journal_records.specs.Pairs.{IsPair}
 use Rattle.journal_records.specs.Formats.{records_of}
 use Rattle.market_rules.specs.Market.{Market}
@@ -22,6 +25,8 @@ use Rattle.journal_disk.proofs.Excluding.{prefix_of}
 use Rattle.journal_keeping.specs.Starts.{head_of}
 use Rattle.journal_keeping.specs.Keeping.{IsKeptJournal, HoldsLegal, GoesOn, DuringCall, Runs}
 use Rattle.journal_keeping.specs.Beginning.{WhileOpening, HasFirst}
+use Rattle.journal_keeping.specs.Openings.{IsOpening}
+use Rattle.journal_keeping.specs.Openings as opening
 use Rattle.journal_keeping.specs.Serving.{HasKept}
 use Rattle.journal_keeping.specs.Private.{KeepsMore}
 use Rattle.journal_keeping.proofs.Beginnings.{IsBare, begin_alike, bare_new}
@@ -163,6 +168,11 @@ module _ (begin was : Start) (start : DiskState) (old : Entries) (m : Market) (h
 
 -- ---- the entries that waited were kept
 
+-- as many are kept then
+more_since : (kept waiting : Entries) (New : Type 0) → (0 < length kept + length waiting) ⊎ New → (0 < length (kept ++ waiting) + length {A = Pair Record Outcome} []) ⊎ New
+more_since kept waiting New (inl some) = inl (omega (arith, some, length-append kept waiting))
+more_since kept waiting New (inr new) = inr new
+
 module _ (begin : Start) (start : DiskState) (place : ℕ) (now : DiskState) (safe waiting : Entries) (market : Market) (file : Appends begin start place now safe waiting market) where
   goes_now : GoesOn begin (file.old ++ file.kept) file.between waiting market
   goes_now = goes_more begin (file.old ++ file.kept) waiting file.between market file.goes_on.journal file.fits file.steps
@@ -200,6 +210,7 @@ module _ (begin : Start) (start : DiskState) (place : ℕ) (now : DiskState) (sa
       keeps = over start.content (IsKept place now (file.old ++ file.kept)) (IsKept to later (file.old ++ (file.kept ++ waiting))) keeps_more file.keeps;
       during = during_more;
       told = λ is. file.told (told is);
+      more = more_since file.kept waiting (IfSome start.content (λ held. IsOpening held opening.New)) file.more;
       steps = refl;
       fits = All-nil IsPair;
     }

@@ -1,5 +1,5 @@
 -- One more line: how the invariant of all lines goes on, and how far the counts and the file can be then.
-use Rattle.std.proofs.Common.{◌≡◌, ◌⊎◌, inl, inr, ℕ, ◌+◌, ◌*◌, ◌^◌, ◌≤◌, List, [], ◌∷◌, ◌++◌, length, drop, map, flat_map, refl, sym, ap, subst, ◌∙◌, arith, append_assoc, length-append}
+use Rattle.std.proofs.Common.{◌≡◌, ◌⊎◌, inl, inr, ℕ, ◌+◌, ◌*◌, ◌^◌, ◌<◌, ◌≤◌, List, [], ◌∷◌, ◌++◌, IfSome, length, drop, map, flat_map, refl, sym, ap, subst, ◌∙◌, arith, append_assoc, length-append}
 use Rattle.std.specs.Prelude.{All}
 use Rattle.std.proofs.lemmas.List.{append-nil, map-append, drop-append-le}
 use Rattle.std.proofs.lemmas.Grind.{flat_map-append}
@@ -18,6 +18,8 @@ use Rattle.disk_edge.specs.Disks.{DiskState, IsDisk}
 use Rattle.journal_disk.specs.Pairs.{RecordPair}
 use Rattle.journal_disk.specs.Entries.{entry}
 use Rattle.journal_keeping.specs.Lengths.{longest_stored_entry}
+use Rattle.journal_keeping.specs.Openings.{IsOpening}
+use Rattle.journal_keeping.specs.Openings as opening
 use Rattle.journal_keeping.specs.Outputs.{Output, Gains}
 use Rattle.desk_messages.specs.Desks.{Desks}
 use Rattle.desk_session.specs.States.{State, CountsAccounts}
@@ -28,7 +30,7 @@ use Rattle.desk_opening.specs.Openings.{place_of}
 use Rattle.desk_opening.specs.declared.book.Book.{Book}
 use Rattle.desk_opening.specs.declared.book.Book.TheVariants.{Kept, Open}
 use Rattle.desk_keeping.specs.Hosting.{Entries, Texts, AreHosted, desks_of}
-use Rattle.desk_keeping.specs.Private.{HostState, stored, unwritten, FileGoes, HearsLine, EndsLine, KeepsWaiting, AnswersLong, Appends, IsFileAt, AreToldOf, IsAt, IsWithinLines}
+use Rattle.desk_keeping.specs.Private.{HostState, stored, unwritten, FileGoes, MakesAtEnd, HearsLine, EndsLine, KeepsWaiting, AnswersLong, Appends, IsFileAt, AreToldOf, IsAt, IsWithinLines}
 use Rattle.desk_keeping.proofs.Files.{along_now, along_later, gets_later}
 use Rattle.desk_keeping.proofs.Steps.{appends_first}
 use Rattle.desk_keeping.proofs.Settled.{file_kept, place_kept, to_write, left_after, gained_all, hosted_same, same_counts, same_within}
@@ -112,6 +114,11 @@ module _ (begin : Start) (start now : DiskState) (first out : Output) (read : Li
 
 -- ---- the file while a line is heard
 
+-- there is one at least then too
+more_wait : (kept waiting made : Entries) (New : Type 0) → (0 < length kept + length waiting) ⊎ New → (0 < length kept + length (waiting ++ made)) ⊎ New
+more_wait kept waiting made New (inl some) = inl (omega (arith, some, length-append waiting made))
+more_wait kept waiting made New (inr new) = inr new
+
 -- more entries wait
 appends_more : (begin : Start) (start now : DiskState) (place : ℕ) (safe waiting made : Entries) (before after : Market) → Appends begin start place now safe waiting before → Follows IsReadAs IsCanonicalOutcome before made after → All IsPair made
     → Appends begin start place now safe (waiting ++ made) after
@@ -126,6 +133,7 @@ appends_more begin start now place safe waiting made before after is steps fits 
   keeps = is.keeps;
   during = is.during;
   told = is.told;
+  more = more_wait is.kept waiting made (IfSome start.content (λ held. IsOpening held opening.New)) is.more;
   steps = follows-append IsReadAs reading_unique IsCanonicalOutcome is.between before after waiting made is.steps steps;
   fits = All-append IsPair waiting made is.fits fits;
 }
@@ -133,16 +141,16 @@ appends_more begin start now place safe waiting made before after is steps fits 
 module _ (begin : Start) (start now mid : DiskState) (Same : Type 0) (safe waiting taken made : Entries) (before after : Market) where
   module _ (is_disk : IsDisk now) (carry : Same → (P : DiskState → Type 0) → P now → P mid) where
     -- the file has what was taken, and what was made waits
-    file_heard : (b c : Book) → IsFileAt begin start b now safe waiting before → FileGoes b c now mid Same before taken made after → IsFileAt begin start c mid (safe ++ taken) (waiting ++ made) after
-    file_heard (Kept p a) (Kept q b) (none, along) (nothing, on) =
+    file_heard : (b c : Book) → IsFileAt begin start b now safe waiting before → FileGoes b c now mid Same before taken made after → MakesAtEnd b c made → IsFileAt begin start c mid (safe ++ taken) (waiting ++ made) after
+    file_heard (Kept p a) (Kept q b) (none, along) (nothing, on) end =
         (rw (none, nothing) refl, along_later begin p q a b start now mid safe (safe ++ taken) before after along (on begin safe (along_now begin p a start now safe before is_disk along)))
-    file_heard (Kept p a) (Open q) (none, along) (at, up, steps, fits) =
+    file_heard (Kept p a) (Open q) (none, along) (at, up, steps, fits) end =
         let gets = gets_later begin p q a start now mid safe (safe ++ taken) before at along (up begin safe (along_now begin p a start now safe before is_disk along)) in
-        subst (λ (l : Entries). Appends begin start q mid (safe ++ taken) l after) (sym (ap (λ (l : Entries). l ++ made) none)) (appends_first begin q start mid (safe ++ taken) made at after gets steps fits)
-    file_heard (Open p) (Open q) file (none, still, same, steps, fits) =
+        subst (λ (l : Entries). Appends begin start q mid (safe ++ taken) l after) (sym (ap (λ (l : Entries). l ++ made) none)) (appends_first begin q start mid (safe ++ taken) made at after gets (inl end) steps fits)
+    file_heard (Open p) (Open q) file (none, still, same, steps, fits) end =
         let here = appends_more begin start mid p safe waiting made before after (carry same (λ s. Appends begin start p s safe waiting before) file) steps fits in
         subst (λ (l : Entries). Appends begin start q mid l (waiting ++ made) after) (sym (ap (λ (l : Entries). safe ++ l) none ∙ append-nil safe)) (subst (λ (x : ℕ). Appends begin start x mid safe (waiting ++ made) after) (sym still) here)
-    file_heard (Open p) (Kept q b) file goes = absurd goes
+    file_heard (Open p) (Kept q b) file goes end = absurd goes
 
   -- the order of all entries
   heard_order : (b c : Book) → IsFileAt begin start b now safe waiting before → FileGoes b c now mid Same before taken made after → (safe ++ waiting) ++ (taken ++ made) ≡ (safe ++ taken) ++ (waiting ++ made)
@@ -186,7 +194,7 @@ module _ (begin : Start) (start now mid later : DiskState) (first out after : Ou
 
     -- the file once it was heard
     file_mid : IsFileAt begin start heard.book mid (is.safe ++ hears.taken) (is.waiting ++ hears.made) heard.session.market
-    file_mid = file_heard begin start now mid SameHeard is.safe is.waiting hears.taken hears.made h.session.market heard.session.market is_disk carry_heard h.book heard.book is.file hears.goes
+    file_mid = file_heard begin start now mid SameHeard is.safe is.waiting hears.taken hears.made h.session.market heard.session.market is_disk carry_heard h.book heard.book is.file hears.goes hears.more
 
     -- and all entries
     parts_mid : is.pairs ++ (hears.taken ++ hears.made) ≡ (is.safe ++ hears.taken) ++ (is.waiting ++ hears.made)

@@ -1,5 +1,5 @@
 -- What waits is kept and written: how the invariant of all lines goes on.
-use Rattle.std.proofs.Common.{◌≡◌, ◌≢◌, ◌⊎◌, inl, inr, ℕ, ◌+◌, ◌-◌, ◌*◌, ◌≤◌, List, [], ◌∷◌, ◌++◌, Bool, IsTrue, Option, Some, None, IfSome, IsSome, length, take, drop, map, refl, sym, ap, subst, ◌∙◌, arith, append_assoc}
+use Rattle.std.proofs.Common.{◌≡◌, ◌≢◌, ◌⊎◌, inl, inr, ℕ, ◌+◌, ◌-◌, ◌*◌, ◌<◌, ◌≤◌, List, [], ◌∷◌, ◌++◌, Bool, IsTrue, Option, Some, None, IfSome, IsSome, length, length-append, take, drop, map, refl, sym, ap, subst, ◌∙◌, arith, append_assoc}
 use Rattle.std.specs.Prelude.{All}
 use Rattle.std.proofs.lemmas.List.{append-nil, map-append, drop_all, length-drop, drop-append-le}
 use Rattle.std.proofs.lemmas.List.Elements.{All-take, All-drop}
@@ -19,6 +19,8 @@ use Rattle.journal_disk.specs.Pairs.{RecordPair}
 use Rattle.journal_disk.specs.Entries.{Keeps}
 use Rattle.journal_keeping.specs.Starts.{head_of}
 use Rattle.journal_keeping.specs.Keeping.{IsKeptJournal, HoldsLegal, GoesOn, DuringCall}
+use Rattle.journal_keeping.specs.Openings.{IsOpening}
+use Rattle.journal_keeping.specs.Openings as opening
 use Rattle.journal_keeping.specs.Outputs.{Output, Gains}
 use Rattle.journal_keeping.specs.Private.{KeepsMore}
 use Rattle.journal_keeping.specs.Serving.{HasKept}
@@ -54,6 +56,11 @@ others_fit p q all = subst (λ (l : Entries). All IsPair l) (drop-append_seam p 
 if_told : (content : Option (List ℕ)) (P Q : Type 0) → (P → Q) → IfSome content (λ _. P) → IfSome content (λ _. Q)
 if_told None P Q f p = tt
 if_told (Some bytes) P Q f p = f p
+
+-- as many are kept and wait
+more_kept : (kept w m : Entries) (New : Type 0) → (0 < length kept + length (w ++ m)) ⊎ New → (0 < length (kept ++ w) + length m) ⊎ New
+more_kept kept w m New (inl some) = inl (omega (arith, some, length-append w m, length-append kept w))
+more_kept kept w m New (inr new) = inr new
 
 module _ (begin : Start) (start now later : DiskState) where
   -- the first of those that wait were kept
@@ -110,6 +117,7 @@ module _ (begin : Start) (start now later : DiskState) where
       keeps = if_told start.content Before After keeps_also is.keeps;
       during = during_also;
       told = λ some. is.told (told some);
+      more = more_kept is.kept w m (IfSome start.content (λ held. IsOpening held opening.New)) is.more;
       steps = parts.2;
       fits = others_fit w m is.fits;
     }

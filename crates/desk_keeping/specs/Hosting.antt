@@ -83,12 +83,14 @@ pub record IsReadTo (held : List ℕ) (begin : Start) (pairs : Entries) (market 
   pub legal : BeginsLegal begin held pairs market place
   pub same : end.content ≡ Some held
 
--- The file, which held these bytes, got more entries after those that it had, by the canonical rule, and keeps just these all.
+-- The file, which held these bytes, got more entries after those that it had, by the canonical rule, and keeps just these all. It got one at least, unless
+-- it was new: no other is changed before a command gets an entry that isn't in it.
 pub record HasMore (held : List ℕ) (begin : Start) (pairs : Entries) (market : Market) (end : DiskState) : Type 0 where
   pub old : Entries
   pub before : Market
   pub continues : Continues held begin old before
   pub new : Entries
+  pub more : (new ≢ []) ⊎ IsOpening held opening.New
   pub parts : pairs ≡ old ++ new
   pub steps : Follows IsReadAs IsCanonicalOutcome before new market
   pub keeps : KeepsJust end begin pairs
