@@ -10,6 +10,7 @@ use Rattle.market_rules.specs.Market.{Market}
 use Rattle.market_rules.specs.Journal.{Follows}
 use Rattle.market_history.specs.Histories.{Start}
 use Rattle.disk_edge.specs.Disks.{DiskState, IsDisk}
+use Rattle.disk_edge.specs.Images.{LeavesOnly}
 use Rattle.input_lines.specs.Finding.{FindsNextWithin, FindsNoFeed}
 use Rattle.input_lines.specs.declared.lines.Next.{Next}
 use Rattle.input_lines.specs.declared.lines.Next.TheVariants as next
@@ -46,12 +47,14 @@ module _ (begin : Start) (start : DiskState) (held : List ℕ) (told : start.con
       let (rest, has) = subst (λ (o : Option (List ℕ)). IfSome o (λ _. (left : List ℕ) × Holds (head_of begin) (map records_of pairs) place left now)) same along.holds in
       let known = known_so (λ bytes. (¬ IsNewDisk bytes) × (¬ IsForeign bytes)) along.known in
       let both : Some held ≡ Some (entries (head_of begin) (map records_of pairs) ++ rest) = sym same ∙ has.content in
+      let encoded : held ≡ entries (head_of begin) (map records_of pairs) ++ rest = cc in
       record {
         is_old = known.0;
         is_file = known.1;
         alone = known_so (BeginsAlone begin) alone;
-        legal = record { lawful = has.lawful; journal = along.journal; rest = rest; encoded = cc; begins = has.begins };
+        legal = record { lawful = has.lawful; journal = along.journal; rest = rest; encoded = encoded; begins = has.begins };
         same = same;
+        durable = subst (λ (l : List ℕ). LeavesOnly now.images l) (sym encoded) has.durable;
       }
 
   -- it got one at least, unless it was new

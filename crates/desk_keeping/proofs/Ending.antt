@@ -12,7 +12,7 @@ use Rattle.market_history.specs.Histories.{Start, market_of}
 use Rattle.disk_edge.specs.Disks.{DiskState, IsDisk}
 use Rattle.journal_disk.specs.Entries.{entry, IsNewDisk, most_unkept}
 use Rattle.journal_disk.proofs.GoingOn.{looks_none}
-use Rattle.journal_keeping.specs.Keeping.{HoldsLegal}
+use Rattle.journal_keeping.specs.Keeping.{HoldsLegal, KeepsFirst}
 use Rattle.journal_keeping.specs.Outputs.{Output, Gains}
 use Rattle.journal_keeping.proofs.Begun.{looks_alone}
 use Rattle.journal_keeping.proofs.Counts.{if_some}
@@ -41,6 +41,10 @@ pub begins_as : (limit : ℕ) (content : Option (List ℕ)) (begin was : Start) 
 begins_as limit content begin was start from m begins (inl same) = inl same
 begins_as limit content begin was start from m begins (inr (is_new, there)) = inr (is_new, there, begins)
 
+-- fewer of them are kept too
+fewer_first : (begin : Start) (all : Entries) (safe less : ℕ) (image : List ℕ) → less ≤ safe → KeepsFirst begin [] all safe (length all) image → KeepsFirst begin [] all less (length all) image
+fewer_first begin all safe less image few (n, least, most, stands) = (n, omega (arith, few, least), most, stands)
+
 -- what lines, their entries and texts, and what became of the file say together
 pub hosts_so : (limit : ℕ) (content : Option (List ℕ)) (Cut : Type 0) (begin was : Start) (start end : DiskState) (old : Entries) (m : Market) (lines : List (List ℕ)) (pairs : Entries) (texts : Texts) (safe count : ℕ) (told : Texts) (out later : Output)
     → AreFirstHosted begin lines pairs texts → EndsFile begin was start end old m pairs safe → AreFirst limit content begin lines → count ≤ safe → AreFirstHosted begin lines (take count pairs) told → Gains Cut out later told
@@ -60,6 +64,7 @@ hosts_so limit content Cut begin was start end old m lines pairs texts safe coun
   parts = file.parts;
   count = count;
   within = omega (arith, within, file.within);
+  durable = λ image left. inr (fewer_first begin (old ++ file.new) safe count image within (file.durable image left));
   told = told;
   answered = answered;
   gained = gained;
@@ -122,6 +127,7 @@ ends_fewer begin was start end old m pairs safe less few file = record {
   runs = file.runs;
   parts = file.parts;
   within = omega (arith, few, file.within);
+  durable = λ image left. fewer_first begin (old ++ file.new) safe less image few (file.durable image left);
 }
 
 module _ (begin was : Start) (start : DiskState) (old : Entries) (m : Market) (holds : HoldsLegal start was old m) (alone : IfSome start.content (BeginsAlone begin)) where

@@ -1,7 +1,7 @@
 -- What became of the file where hosting ended: it was read along only, or keeps entries, and others waited.
 use Rattle.std.proofs.Common.{◌≡◌, ◌⊎◌, inl, inr, ℕ, ◌+◌, ◌<◌, ◌≤◌, List, [], ◌∷◌, ◌++◌, Option, Some, None, IfSome, IsSome, length, length-append, map, take, drop, refl, sym, ap, subst, ◌∙◌, arith, append_assoc}
 use Rattle.std.specs.Prelude.{All}
-use Rattle.std.proofs.lemmas.List.{map-append, take-map, take-append-drop}
+use Rattle.std.proofs.lemmas.List.{append-nil, map-append, take-map, take-append-drop}
 use Rattle.std.proofs.lemmas.List.Elements.{All-nil}
 use Rattle.std.proofs.Math.Seq.{take-append_seam}
 use Rattle.wire_records.specs.Versions.{IsReadAs}
@@ -16,14 +16,14 @@ use Rattle.market_rules.specs.Market.{Market}
 use Rattle.market_rules.proofs.OneJournal.{follows-append}
 use Rattle.market_history.specs.Histories.{Start, Empty, market_of}
 use Rattle.disk_edge.specs.Disks.{DiskState, IsDisk, AtEachMoment}
-use Rattle.disk_edge.proofs.Moments.{no_call}
+use Rattle.disk_edge.proofs.Moments.{no_call, at_the_end}
 use Rattle.journal_disk.specs.Pairs.{RecordPair}
-use Rattle.journal_disk.specs.Entries.{Head, entries, IsNewDisk, HasEntries, WithOrWithout, Holds, Keeps, most_unkept}
+use Rattle.journal_disk.specs.Entries.{Head, entries, IsNewDisk, HasEntries, StandsFor, WithOrWithout, Holds, Keeps, most_unkept}
 use Rattle.journal_disk.specs.Recovering.{IsForeign}
 use Rattle.journal_disk.specs.Ahead.{AheadState}
 use Rattle.journal_disk.proofs.Excluding.{prefix_of}
 use Rattle.journal_keeping.specs.Starts.{head_of}
-use Rattle.journal_keeping.specs.Keeping.{IsKeptJournal, HoldsLegal, GoesOn, DuringCall, Runs}
+use Rattle.journal_keeping.specs.Keeping.{IsKeptJournal, StandsForJournal, KeepsFirst, HoldsLegal, GoesOn, DuringCall, Runs}
 use Rattle.journal_keeping.specs.Beginning.{WhileOpening, HasFirst}
 use Rattle.journal_keeping.specs.Openings.{IsOpening}
 use Rattle.journal_keeping.specs.Openings as opening
@@ -49,6 +49,16 @@ pub record EndsFile (begin was : Start) (start end : DiskState) (old : Entries) 
   pub runs : Runs most_unkept begin start end old from new acknowledged
   pub parts : (pairs ≡ old ++ new) ⊎ ((new ≡ []) × (others : Entries) × (old ≡ pairs ++ others))
   pub within : safe ≤ length old + acknowledged
+  pub durable : (image : List ℕ) → end.images image → KeepsFirst begin [] (old ++ new) safe (length (old ++ new)) image
+
+-- these are the first of all entries
+kept_first : (begin : Start) (all first rest : Entries) (safe : ℕ) (image : List ℕ) → all ≡ first ++ rest → safe ≤ length first → StandsForJournal begin first image → KeepsFirst begin [] all safe (length all) image
+kept_first begin all first rest safe image is few stands = (
+  length first,
+  few,
+  omega (arith, ap length is, length-append first rest),
+  subst (λ (l : Entries). StandsForJournal begin l image) (sym (ap (take (length first)) is ∙ take-append_seam first rest)) stands,
+)
 
 -- what follows if a content is known
 over : (o : Option (List ℕ)) (P Q : Type 0) → (P → Q) → IfSome o (λ _. P) → IfSome o (λ _. Q)
@@ -116,6 +126,14 @@ module _ (begin was : Start) (start : DiskState) (old : Entries) (m : Market) (h
           let same = one_kept begin safe market along.journal (take count old) legal.0 (subst (λ (b : Start). IsKeptJournal b (take count old) legal.0) (sym same_begin) legal.1) alike in
           (drop count old, sym (take-append-drop count old) ∙ ap (λ (l : Entries). l ++ drop count old) (sym same.0))
 
+      -- what a crash leaves is what it kept
+      kept_whole : (image : List ℕ) → WhileOpening begin now old image → StandsForJournal begin old image
+      kept_whole image (inl left) =
+          let same : image ≡ holds.bytes = held_now.1.durable image left ∙ sym encoded in
+          subst (λ (b : Start). StandsForJournal b old image) (sym same_begin) (subst (StandsForJournal was old) (sym same) holds.stands)
+      kept_whole image (inr (inl stands)) = stands
+      kept_whole image (inr (inr (still, new))) = absurd (is_known.0 (subst (λ (o : Option (List ℕ)). IfSome o IsNewDisk) told_now still))
+
       -- and what it kept is all that a crash leaves
       pub along_ends : (later : DiskState) → IsDisk later → AtEachMoment now later (WhileOpening begin now old) → EndsFile begin was start later old m safe (length safe)
       along_ends later is_disk moments =
@@ -128,6 +146,7 @@ module _ (begin was : Start) (start : DiskState) (old : Entries) (m : Market) (h
             runs = unbegun begin most_unkept start later old m (subst (λ (b : Start). IsKeptJournal b old m) (sym same_begin) holds.journal) is_disk (looks_first begin old start now later along.looks moments);
             parts = inr (refl, others, parts);
             within = omega (arith, ap length parts, length-append safe others);
+            durable = λ image left. kept_first begin (old ++ []) old [] (length safe) image refl (omega (arith, ap length parts, length-append safe others)) (kept_whole image (at_the_end now later (WhileOpening begin now old) is_disk moments image left));
           }
 
   -- ---- a file that gets more
@@ -154,7 +173,19 @@ module _ (begin was : Start) (start : DiskState) (old : Entries) (m : Market) (h
           runs = subst (λ (l : Entries). Runs most_unkept begin start later l file.opened (file.kept ++ waiting) (length file.kept + 0)) (sym is.0) runs;
           parts = inl (ap (λ (l : Entries). l ++ waiting) file.parts ∙ append_assoc file.old file.kept waiting ∙ ap (λ (l : Entries). l ++ (file.kept ++ waiting)) (sym is.0));
           within = omega (arith, ap length file.parts, length-append file.old file.kept, ap length is.0);
+          durable = λ image left.
+              either image is.0 (at_the_end now later (WithOrWithout (head_of begin) (map records_of (file.old ++ file.kept)) (map records_of waiting)) is_disk moments image left);
         }
+      where
+        all_are : old ≡ file.old → old ++ (file.kept ++ waiting) ≡ (file.old ++ file.kept) ++ waiting
+        all_are is = ap (λ (l : Entries). l ++ (file.kept ++ waiting)) is ∙ sym (append_assoc file.old file.kept waiting)
+
+        either : (image : List ℕ) → old ≡ file.old → WithOrWithout (head_of begin) (map records_of (file.old ++ file.kept)) (map records_of waiting) image
+            → KeepsFirst begin [] (old ++ (file.kept ++ waiting)) (length safe) (length (old ++ (file.kept ++ waiting))) image
+        either image is (inl stands) = kept_first begin (old ++ (file.kept ++ waiting)) (file.old ++ file.kept) waiting (length safe) image (all_are is) (omega (arith, ap length file.parts)) stands
+        either image is (inr stands) =
+            kept_first begin (old ++ (file.kept ++ waiting)) ((file.old ++ file.kept) ++ waiting) [] (length safe) image (all_are is ∙ sym (append-nil ((file.old ++ file.kept) ++ waiting)))
+            (omega (arith, ap length file.parts, length-append (file.old ++ file.kept) waiting)) (subst (λ (l : List RecordPair). StandsFor (head_of begin) l image) (sym (map-append records_of (file.old ++ file.kept) waiting)) stands)
 
     -- nothing was done since
     pub open_stays : IsDisk now → length waiting ≤ most_unkept → EndsFile begin was start now old m (safe ++ waiting) (length safe)

@@ -81,6 +81,7 @@ module _ (limit : ℕ) (content : Option (List ℕ)) (was : Start) (first : Disk
         parts = inr (refl, old, refl);
         count = 0;
         within = omega arith;
+        durable = λ image left. inl refl;
         told = [];
         answered = none;
         gained = gains_none Cut out;

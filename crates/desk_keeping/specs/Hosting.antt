@@ -14,11 +14,12 @@ use Rattle.batch_audit.specs.Legal.{IsIllegalPair}
 use Rattle.line_records.specs.Lines.{HasNoFeed, ended_by_feeds}
 use Rattle.word_driver.specs.Does.{IsTaken}
 use Rattle.disk_edge.specs.Disks.{DiskState}
+use Rattle.disk_edge.specs.Images.{LeavesOnly}
 use Rattle.journal_disk.specs.Pairs.{RecordPair}
 use Rattle.journal_disk.specs.Entries.{IsNewDisk, most_unkept}
 use Rattle.journal_disk.specs.Recovering.{IsForeign}
 use Rattle.journal_disk.specs.Stepping.{HasEntryAt, IsDamagedAt}
-use Rattle.journal_keeping.specs.Keeping.{Runs}
+use Rattle.journal_keeping.specs.Keeping.{Runs, KeepsFirst}
 use Rattle.journal_keeping.specs.Openings.{BeginsLegal, IsOpening}
 use Rattle.journal_keeping.specs.Openings as opening
 use Rattle.journal_keeping.specs.Outputs.{Output, Gains}
@@ -75,13 +76,14 @@ HasFirstLines bytes begin lines = (last : List ℕ) × HasLines bytes begin line
 -- ---- the file at the end
 
 -- The file, which held these bytes, begins so, without a checkpoint only if it has none, and has these entries, which are valid, up to this place, and
--- perhaps others; it wasn't changed.
+-- perhaps others; it wasn't changed, and a crash leaves just it.
 pub record IsReadTo (held : List ℕ) (begin : Start) (pairs : Entries) (market : Market) (place : ℕ) (end : DiskState) : Type 0 where
   pub is_old : ¬ IsNewDisk held
   pub is_file : ¬ IsForeign held
   pub alone : BeginsAlone begin held
   pub legal : BeginsLegal begin held pairs market place
   pub same : end.content ≡ Some held
+  pub durable : LeavesOnly end.images held
 
 -- The file, which held these bytes, got more entries after those that it had, by the canonical rule, and keeps just these all. It got one at least, unless
 -- it was new: no other is changed before a command gets an entry that isn't in it.
@@ -185,7 +187,8 @@ IsOfFile (Err fault) = ⊥
 -- What a call does to a file with these old entries of a valid journal, and to its output. A new file begins as the input does. The entries that the first
 -- lines of the input ask for are the old ones and then the new ones, or only the first of the old ones, and then nothing was added. A crash leaves the old
 -- ones and a first part of the new ones (`runs`): those that are acknowledged, and of the others, which were kept together, all or none. What was written are
--- the answers of lines whose entries are acknowledged.
+-- the answers of lines whose entries are acknowledged. The entries of these lines, old ones too, are `count` at most, and a crash after the call leaves all of
+-- them (`durable`).
 pub record HostsIn (limit : ℕ) (content : Option (List ℕ)) (Cut : Type 0) (was : Start) (start end : DiskState) (old : Entries) (market : Market) (out later : Output) : Type 0 where
   pub begin : Start
   pub from : Market
@@ -202,6 +205,7 @@ pub record HostsIn (limit : ℕ) (content : Option (List ℕ)) (Cut : Type 0) (w
   pub parts : (pairs ≡ old ++ new) ⊎ ((new ≡ []) × (others : Entries) × (old ≡ pairs ++ others))
   pub count : ℕ
   pub within : count ≤ length old + acknowledged
+  pub durable : (image : List ℕ) → end.images image → (count ≡ 0) ⊎ KeepsFirst begin [] (old ++ new) count (length (old ++ new)) image
   pub told : Texts
   pub answered : AreFirstHosted begin lines (take count pairs) told
   pub gained : Gains Cut out later told

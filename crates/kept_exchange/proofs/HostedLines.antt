@@ -93,6 +93,7 @@ hosts_wider limit content Cut Wider was start end old market out later wider h =
   parts = h.parts;
   count = h.count;
   within = h.within;
+  durable = h.durable;
   told = h.told;
   answered = h.answered;
   gained = gains_wider Cut Wider out later h.told wider h.gained;
