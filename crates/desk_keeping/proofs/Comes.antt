@@ -41,7 +41,7 @@ module _ (begin : Start) (start : DiskState) (held : List ℕ) (told : start.con
   known_so P is = subst (λ (o : Option (List ℕ)). IfSome o P) told is
 
   -- a file that is read along begins with the entries that were read
-  pub read_to : (place : ℕ) (ahead : AheadState) (now : DiskState) (pairs : Entries) (market : Market) → IsReadAlong begin place ahead start now pairs market → IsReadTo held begin pairs market place now
+  pub read_to : (place : ℕ) (ahead : AheadState) (now : DiskState) (pairs : Entries) (market : Market) → IsReadAlong begin place ahead start now pairs market → IsReadTo held begin pairs market place start now
   read_to place ahead now pairs market along =
       let same : now.content ≡ Some held = along.looks.content ∙ told in
       let (rest, has) = subst (λ (o : Option (List ℕ)). IfSome o (λ _. (left : List ℕ) × Holds (head_of begin) (map records_of pairs) place left now)) same along.holds in
@@ -53,7 +53,7 @@ module _ (begin : Start) (start : DiskState) (held : List ℕ) (told : start.con
         is_file = known.1;
         alone = known_so (BeginsAlone begin) alone;
         legal = record { lawful = has.lawful; journal = along.journal; rest = rest; encoded = encoded; begins = has.begins };
-        same = same;
+        looks = along.looks;
         durable = subst (λ (l : List ℕ). LeavesOnly now.images l) (sym encoded) has.durable;
       }
 
@@ -63,7 +63,7 @@ module _ (begin : Start) (start : DiskState) (held : List ℕ) (told : start.con
   has_more kept waiting empty New Old known (inr new) = inr (known new)
 
   -- the file has the entries, if none waits
-  pub entries_of : (b : Book) (now : DiskState) (safe waiting : Entries) (market : Market) → IsFileAt begin start b now safe waiting market → waiting ≡ [] → HasEntriesOf held begin safe market now
+  pub entries_of : (b : Book) (now : DiskState) (safe waiting : Entries) (market : Market) → IsFileAt begin start b now safe waiting market → waiting ≡ [] → HasEntriesOf held begin safe market start now
   entries_of (Kept place ahead) now safe waiting market (none, along) empty = inl (place, read_to place ahead now safe market along)
   entries_of (Open place) now safe waiting market file empty =
       let last : market ≡ file.between = subst (λ (l : Entries). Follows IsReadAs IsCanonicalOutcome file.between l market) empty file.steps in
@@ -81,7 +81,7 @@ module _ (begin : Start) (start : DiskState) (held : List ℕ) (told : start.con
 
   module _ (first : Output) (read : List (List ℕ)) (h : HostState) (now : DiskState) (out : Output) (at : IsAt begin start first read h now out) where
     -- all lines were answered, if nothing waits
-    pub has_answered : (Are : Start → List (List ℕ) → Type 0) → Are begin read → h.group ≡ [] → drop h.written h.session.talk.texts ≡ [] → HasAnswered Are held now first out
+    pub has_answered : (Are : Start → List (List ℕ) → Type 0) → Are begin read → h.group ≡ [] → drop h.written h.session.talk.texts ≡ [] → HasAnswered Are held start now first out
     has_answered Are are none written =
         let empty : at.waiting ≡ [] = none_stored at.waiting (sym at.group ∙ none) in
         let same : at.pairs ≡ at.safe = at.parts ∙ ap (λ (l : Entries). at.safe ++ l) empty ∙ append-nil at.safe in
@@ -96,20 +96,20 @@ module _ (begin : Start) (start : DiskState) (held : List ℕ) (told : start.con
           desks = h.session.talk.desks;
           hosted = at.hosted;
           gained = subst (λ (l : Texts). Gains ⊥ first out l) (sym all) at.gained;
-          file = subst (λ (l : Entries). HasEntriesOf held begin l h.session.market now) (sym same) (entries_of h.book now at.safe at.waiting h.session.market at.file empty);
+          file = subst (λ (l : Entries). HasEntriesOf held begin l h.session.market start now) (sym same) (entries_of h.book now at.safe at.waiting h.session.market at.file empty);
         }
 
     module _ (limit : ℕ) (w : WindowState) (content left : Option (List ℕ)) (gone : HasGone begin limit w content left read) (none : h.group ≡ []) (written : drop h.written h.session.talk.texts ≡ []) (new : WindowState) (rest : Option (List ℕ)) where
       -- the input ended
-      pub comes_ended : (found : Next) → (found ≡ next.Last) ⊎ ((found ≡ next.LongLast) ⊎ (found ≡ next.End)) → FindsNextWithin most_envelope w new left rest found → ComesTo limit held content rest now first out (Ok tt)
+      pub comes_ended : (found : Next) → (found ≡ next.Last) ⊎ ((found ≡ next.LongLast) ⊎ (found ≡ next.End)) → FindsNextWithin most_envelope w new left rest found → ComesTo limit held content rest start now first out (Ok tt)
       comes_ended found which finds = has_answered _ (all_lines begin limit w content left read gone new rest found which finds) none written
 
       -- it has more than the limit
-      pub comes_limit : FindsNextWithin most_envelope w new left rest next.Limit → ComesTo limit held content rest now first out (Err TooLong)
+      pub comes_limit : FindsNextWithin most_envelope w new left rest next.Limit → ComesTo limit held content rest start now first out (Err TooLong)
       comes_limit finds = has_answered _ (limit_lines begin limit w content left read gone new rest finds) none written
 
       -- a read failed
-      pub comes_unread : FindsNoFeed w left rest → ComesTo limit held content rest now first out (Err Read)
+      pub comes_unread : FindsNoFeed w left rest → ComesTo limit held content rest start now first out (Err Read)
       comes_unread finds = inl (has_answered _ (read_lines begin limit w content left read gone new rest finds) none written)
 
     -- ---- it stopped at an entry of the file
@@ -124,7 +124,7 @@ module _ (begin : Start) (start : DiskState) (held : List ℕ) (told : start.con
           (subst (λ (o : Option (List ℕ)). IfSome o (Why (h.session.entries + (length s.taken + 1)) mid.session.market s.next s.later)) (along.looks.content ∙ told) s.why)
 
       stops_at : (Why : ℕ → Market → List Command → ℕ → List ℕ → Type 0) (s : StopsWithin line h mid now then Why) (Because : ℕ → Entries → Market → List Command → Type 0) → Because s.later (at.pairs ++ s.taken) mid.session.market s.next
-          → Gains ⊥ out after (drop mid.written mid.session.talk.texts) → StopsAtEntry limit held content then first after Because
+          → Gains ⊥ out after (drop mid.written mid.session.talk.texts) → StopsAtEntry limit held content start then first after Because
       stops_at Why s Because why gained = record {
         begin = begin;
         lines = read;
@@ -145,7 +145,7 @@ module _ (begin : Start) (start : DiskState) (held : List ℕ) (told : start.con
       }
 
       abbrev Comes : HostFault → Type 0
-      Comes result = ComesTo limit held content rest then first after (Err result)
+      Comes result = ComesTo limit held content rest start then first after (Err result)
 
       -- at an entry of the file all texts were written, or a write failed
       from_here : (fault result : HostFault) → IsAtEntry fault → StopsHere fault result mid out after SameOut → (Gains ⊥ out after (drop mid.written mid.session.talk.texts) → Comes fault) → Comes result
@@ -154,7 +154,7 @@ module _ (begin : Start) (start : DiskState) (held : List ℕ) (told : start.con
       from_here fault result at_entry (inr (is, inr (write, count, gained))) f = subst Comes (sym write) tt
 
       -- why a line wasn't heard to its end
-      pub comes_stopped : (fault result : HostFault) → BreaksLine fault line h mid now then One → StopsHere fault result mid out after SameOut → ComesTo limit held content rest then first after (Err result)
+      pub comes_stopped : (fault result : HostFault) → BreaksLine fault line h mid now then One → StopsHere fault result mid out after SameOut → ComesTo limit held content rest start then first after (Err result)
       comes_stopped Memory result breaks (inl (not, same, quiet)) = subst Comes (sym same) tt
       comes_stopped Memory result breaks (inr (never, how)) = absurd never
       comes_stopped Disk result breaks (inl (not, same, quiet)) = subst Comes (sym same) tt
@@ -180,9 +180,9 @@ module _ (begin : Start) (start : DiskState) (held : List ℕ) (told : start.con
 
 -- ---- a failed call, or no memory, says nothing of what was hosted
 
-module _ (limit : ℕ) (held : List ℕ) (content rest : Option (List ℕ)) (end : DiskState) (first last : Output) (host next : HostState) (mid later : DiskState) (out after : Output) (Same : Type 0) where
+module _ (limit : ℕ) (held : List ℕ) (content rest : Option (List ℕ)) (start end : DiskState) (first last : Output) (host next : HostState) (mid later : DiskState) (out after : Output) (Same : Type 0) where
   -- entries that wait weren't kept, or texts not written
-  pub comes_broken : (fault : HostFault) → BreaksGroup fault host next mid later out after Same → ComesTo limit held content rest end first last (Err fault)
+  pub comes_broken : (fault : HostFault) → BreaksGroup fault host next mid later out after Same → ComesTo limit held content rest start end first last (Err fault)
   comes_broken Disk breaks = tt
   comes_broken Write breaks = tt
   comes_broken Read never = absurd never
@@ -196,7 +196,7 @@ module _ (limit : ℕ) (held : List ℕ) (content rest : Option (List ℕ)) (end
   comes_broken (Differs number) never = absurd never
 
   -- a line wasn't ended
-  pub comes_unended : (SameOut : Type 0) (fault : HostFault) → BreaksEnd fault host next mid later out after Same SameOut → ComesTo limit held content rest end first last (Err fault)
+  pub comes_unended : (SameOut : Type 0) (fault : HostFault) → BreaksEnd fault host next mid later out after Same SameOut → ComesTo limit held content rest start end first last (Err fault)
   comes_unended SameOut Memory breaks = tt
   comes_unended SameOut Disk breaks = tt
   comes_unended SameOut Write breaks = tt

@@ -60,7 +60,7 @@ module _ (limit : ℕ) (content : Option (List ℕ)) (start : DiskState) (first 
   abbrev pub Results : DiskState → Output → Option (List ℕ) → Result (Unit {0}) HostFault → Type 0
   Results end last rest result =
       ((was : Start) (old : Entries) (m : Market) → HoldsLegal start was old m → HostsIn limit content (result ≡ Err Write) was start end old m first last)
-      × IfSome start.content (λ held. ComesTo limit held content rest end first last result)
+      × IfSome start.content (λ held. ComesTo limit held content rest start end first last result)
       × IsLeftAlone start end
 
   -- before the first line
@@ -146,7 +146,7 @@ module _ (limit : ℕ) (content : Option (List ℕ)) (start : DiskState) (first 
     pub settle_broken : (n : HostState) (later : DiskState) (after : Output) (Same : Type 0) (rest : Option (List ℕ)) (fault : HostFault) → IsDisk later → Carries Same now later → BreaksGroup fault h n now later out after Same → Results later after rest (Err fault)
     settle_broken n later after Same rest fault is_disk carry breaks = (
       λ was old m holds. breaks_settle limit content x.begin was start old m holds x.alone first x.read h now out x.at few_waiting are fault n later after Same is_disk carry (◌≡◌ {A = Result (Unit {0}) HostFault} (Err fault) (Err Write)) (λ is. ap (λ (f : HostFault). Err f) is) breaks,
-      always start.content _ (λ held told. comes_broken limit held content rest later first after h n now later out after Same fault breaks),
+      always start.content _ (λ held told. comes_broken limit held content rest start later first after h n now later out after Same fault breaks),
       spared_group start h n now later Same carry spared out after fault breaks,
     )
 
@@ -247,7 +247,7 @@ module _ (limit : ℕ) (content : Option (List ℕ)) (start : DiskState) (first 
             unended fault is_later breaks = (
               λ was old m holds. breaks_end limit content x.begin was start old m holds x.alone first x.read h now out x.at few_waiting are then is_disk is_then One one line mid n heard later after SameDisk SameOut is_later carry carry_out fault
                   (◌≡◌ {A = Result (Unit {0}) HostFault} (Err fault) (Err Write)) (λ is. ap (λ (f : HostFault). Err f) is) breaks,
-              always start.content _ (λ held told. comes_unended limit held content rest later first after mid n then later out after SameDisk SameOut fault breaks),
+              always start.content _ (λ held told. comes_unended limit held content rest start later first after mid n then later out after SameDisk SameOut fault breaks),
               spared_end start mid n then later SameDisk carry spared_mid out after SameOut fault breaks,
             )
 

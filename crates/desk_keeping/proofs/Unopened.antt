@@ -143,12 +143,12 @@ module _ (limit : ℕ) (content left : Option (List ℕ)) (first now : DiskState
   known_so : (P : List ℕ → Type 0) → IfSome first.content P → P held
   known_so P is = subst (λ (o : Option (List ℕ)). IfSome o P) told is
 
-  as_before : OnlyLooks first now → IsAsBefore held now out out
-  as_before looks = (looks.content ∙ told, refl)
+  as_before : OnlyLooks first now → IsAsBefore first now out out
+  as_before looks = (looks, refl)
 
   -- why nothing was hosted
   pub comes_not_opened : (fault : StartFault) → HasNotOpened limit first now content left fault
-      → ComesTo limit held content left now out out (Err (of_start fault))
+      → ComesTo limit held content left first now out out (Err (of_start fault))
   comes_not_opened (start.Open unopened.Disk) not = tt
   comes_not_opened (start.Open unopened.Memory) not = tt
   comes_not_opened (start.Open unopened.NotDisk) (why, looks) = (known_so (λ bytes. IsOpening bytes opening.Foreign) why, as_before looks)

@@ -17,6 +17,7 @@ use Rattle.disk_edge.specs.Disks.{DiskState}
 use Rattle.disk_edge.specs.Images.{LeavesOnly}
 use Rattle.journal_disk.specs.Pairs.{RecordPair}
 use Rattle.journal_disk.specs.Entries.{IsNewDisk, most_unkept}
+use Rattle.journal_disk.specs.Looking.{OnlyLooks}
 use Rattle.journal_disk.specs.Recovering.{IsForeign}
 use Rattle.journal_disk.specs.Stepping.{HasEntryAt, IsDamagedAt}
 use Rattle.journal_keeping.specs.Keeping.{Runs, KeepsFirst}
@@ -76,13 +77,13 @@ HasFirstLines bytes begin lines = (last : List ℕ) × HasLines bytes begin line
 -- ---- the file at the end
 
 -- The file, which held these bytes, begins so, without a checkpoint only if it has none, and has these entries, which are valid, up to this place, and
--- perhaps others; it wasn't changed, and a crash leaves just it.
-pub record IsReadTo (held : List ℕ) (begin : Start) (pairs : Entries) (market : Market) (place : ℕ) (end : DiskState) : Type 0 where
+-- perhaps others; it was only looked at, and a crash leaves just what it held.
+pub record IsReadTo (held : List ℕ) (begin : Start) (pairs : Entries) (market : Market) (place : ℕ) (start end : DiskState) : Type 0 where
   pub is_old : ¬ IsNewDisk held
   pub is_file : ¬ IsForeign held
   pub alone : BeginsAlone begin held
   pub legal : BeginsLegal begin held pairs market place
-  pub same : end.content ≡ Some held
+  pub looks : OnlyLooks start end
   pub durable : LeavesOnly end.images held
 
 -- The file, which held these bytes, got more entries after those that it had, by the canonical rule, and keeps just these all. It got one at least, unless
@@ -98,13 +99,13 @@ pub record HasMore (held : List ℕ) (begin : Start) (pairs : Entries) (market :
   pub keeps : KeepsJust end begin pairs
 
 -- the entries that were asked for are in the file: as the first ones that it had, or as all that it keeps now
-abbrev pub HasEntriesOf : List ℕ → Start → Entries → Market → DiskState → Type 0
-HasEntriesOf held begin pairs market end = ((place : ℕ) × IsReadTo held begin pairs market place end) ⊎ HasMore held begin pairs market end
+abbrev pub HasEntriesOf : List ℕ → Start → Entries → Market → (start end : DiskState) → Type 0
+HasEntriesOf held begin pairs market start end = ((place : ℕ) × IsReadTo held begin pairs market place start end) ⊎ HasMore held begin pairs market end
 
 -- ---- what it results in
 
 -- All these lines were answered, each completely.
-pub record HasAnswered (Are : Start → List (List ℕ) → Type 0) (held : List ℕ) (end : DiskState) (out later : Output) : Type 0 where
+pub record HasAnswered (Are : Start → List (List ℕ) → Type 0) (held : List ℕ) (start end : DiskState) (out later : Output) : Type 0 where
   pub begin : Start
   pub lines : List (List ℕ)
   pub are : Are begin lines
@@ -114,11 +115,11 @@ pub record HasAnswered (Are : Start → List (List ℕ) → Type 0) (held : List
   pub desks : Desks
   pub hosted : AreHosted begin lines pairs texts market desks
   pub gained : Gains ⊥ out later texts
-  pub file : HasEntriesOf held begin pairs market end
+  pub file : HasEntriesOf held begin pairs market start end
 
 -- It stopped at an entry of the file. The lines before were answered, and of the line that asks for this entry the commands before the one that does,
 -- which is the first of `next`.
-pub record StopsAtEntry (limit : ℕ) (held : List ℕ) (content : Option (List ℕ)) (end : DiskState) (out later : Output) (Why : (place : ℕ) → Entries → Market → List Command → Type 0) : Type 0 where
+pub record StopsAtEntry (limit : ℕ) (held : List ℕ) (content : Option (List ℕ)) (start end : DiskState) (out later : Output) (Why : (place : ℕ) → Entries → Market → List Command → Type 0) : Type 0 where
   pub begin : Start
   pub lines : List (List ℕ)
   pub line : List ℕ
@@ -132,7 +133,7 @@ pub record StopsAtEntry (limit : ℕ) (held : List ℕ) (content : Option (List 
   pub hosted : AreHostedInto begin lines line next pairs texts market desks
   pub gained : Gains ⊥ out later texts
   pub place : ℕ
-  pub file : IsReadTo held begin pairs market place end
+  pub file : IsReadTo held begin pairs market place start end
   pub why : Why place pairs market next
 
 -- at this place of the file is an entry that isn't valid in the market
@@ -145,33 +146,33 @@ IsEntryOther bytes place market [] = ⊥
 IsEntryOther bytes place market (command ∷ commands) =
     (other : RecordPair) × (rest : List ℕ) × HasEntryAt place other rest bytes × (¬ IsIllegalPair market other) × (other.0 ≢ record_of command)
 
--- the file is as it was, and nothing was written
-abbrev pub IsAsBefore : List ℕ → DiskState → Output → Output → Type 0
-IsAsBefore held end out later = (end.content ≡ Some held) × (later ≡ out)
+-- the file was only looked at, and nothing was written
+abbrev pub IsAsBefore : (start end : DiskState) → Output → Output → Type 0
+IsAsBefore start end out later = OnlyLooks start end × (later ≡ out)
 
 -- What hosting the lines of many senders results in, if the file is known to have held these bytes. `left` is what is left of the input, and `content`
 -- what it was.
-abbrev pub ComesTo : (limit : ℕ) → List ℕ → (content left : Option (List ℕ)) → DiskState → Output → Output → Result ⊤ HostFault → Type 0
-ComesTo limit held content left end out later (Ok done) =
-    HasAnswered (λ begin lines. IfSome content (λ bytes. HasAllLines bytes begin lines × (length bytes ≤ limit))) held end out later
-ComesTo limit held content left end out later (Err TooLong) =
-    HasAnswered (λ begin lines. IfSome content (λ bytes. HasAllLines (take limit bytes) begin lines × (limit < length bytes))) held end out later
-ComesTo limit held content left end out later (Err Read) =
-    HasAnswered (λ begin lines. IfSome content (λ bytes. (n : ℕ) × IsTaken bytes left n × (n ≤ limit) × HasAllLines (take n bytes) begin lines)) held end out later
-    ⊎ (NotBegun limit content left input.Read × IsAsBefore held end out later)
-ComesTo limit held content left end out later (Err NotFlow) = NotBegun limit content left input.NotFlow × IsAsBefore held end out later
-ComesTo limit held content left end out later (Err BadCheckpoint) = NotBegun limit content left input.BadCheckpoint × IsAsBefore held end out later
-ComesTo limit held content left end out later (Err NotDisk) = IsOpening held opening.Foreign × IsAsBefore held end out later
-ComesTo limit held content left end out later (Err (Damaged place)) =
-    (IsOpening held (opening.Damaged place) × (place ≡ 8) × IsAsBefore held end out later)
-    ⊎ StopsAtEntry limit held content end out later (λ at pairs market next. (at ≡ place) × IsDamagedAt place held)
-ComesTo limit held content left end out later (Err (Rejected number)) = StopsAtEntry limit held content end out later (λ at pairs market next. (number ≡ length pairs + 1) × IsEntryInvalid held at market)
-ComesTo limit held content left end out later (Err (Differs number)) =
-    ((number ≡ 0) × IsAsBefore held end out later × (begin : Start) × IfSome content (λ bytes. HasFirstLines (take limit bytes) begin []) × BeginsOtherwise begin held end)
-    ⊎ StopsAtEntry limit held content end out later (λ at pairs market next. (number ≡ length pairs + 1) × IsEntryOther held at market next)
-ComesTo limit held content left end out later (Err Write) = ⊤
-ComesTo limit held content left end out later (Err Disk) = ⊤
-ComesTo limit held content left end out later (Err Memory) = ⊤
+abbrev pub ComesTo : (limit : ℕ) → List ℕ → (content left : Option (List ℕ)) → (start end : DiskState) → Output → Output → Result ⊤ HostFault → Type 0
+ComesTo limit held content left start end out later (Ok done) =
+    HasAnswered (λ begin lines. IfSome content (λ bytes. HasAllLines bytes begin lines × (length bytes ≤ limit))) held start end out later
+ComesTo limit held content left start end out later (Err TooLong) =
+    HasAnswered (λ begin lines. IfSome content (λ bytes. HasAllLines (take limit bytes) begin lines × (limit < length bytes))) held start end out later
+ComesTo limit held content left start end out later (Err Read) =
+    HasAnswered (λ begin lines. IfSome content (λ bytes. (n : ℕ) × IsTaken bytes left n × (n ≤ limit) × HasAllLines (take n bytes) begin lines)) held start end out later
+    ⊎ (NotBegun limit content left input.Read × IsAsBefore start end out later)
+ComesTo limit held content left start end out later (Err NotFlow) = NotBegun limit content left input.NotFlow × IsAsBefore start end out later
+ComesTo limit held content left start end out later (Err BadCheckpoint) = NotBegun limit content left input.BadCheckpoint × IsAsBefore start end out later
+ComesTo limit held content left start end out later (Err NotDisk) = IsOpening held opening.Foreign × IsAsBefore start end out later
+ComesTo limit held content left start end out later (Err (Damaged place)) =
+    (IsOpening held (opening.Damaged place) × (place ≡ 8) × IsAsBefore start end out later)
+    ⊎ StopsAtEntry limit held content start end out later (λ at pairs market next. (at ≡ place) × IsDamagedAt place held)
+ComesTo limit held content left start end out later (Err (Rejected number)) = StopsAtEntry limit held content start end out later (λ at pairs market next. (number ≡ length pairs + 1) × IsEntryInvalid held at market)
+ComesTo limit held content left start end out later (Err (Differs number)) =
+    ((number ≡ 0) × IsAsBefore start end out later × (begin : Start) × IfSome content (λ bytes. HasFirstLines (take limit bytes) begin []) × BeginsOtherwise begin held end)
+    ⊎ StopsAtEntry limit held content start end out later (λ at pairs market next. (number ≡ length pairs + 1) × IsEntryOther held at market next)
+ComesTo limit held content left start end out later (Err Write) = ⊤
+ComesTo limit held content left start end out later (Err Disk) = ⊤
+ComesTo limit held content left start end out later (Err Memory) = ⊤
 
 -- it ended at the opening of the file
 abbrev pub IsOfFile : Result ⊤ HostFault → Type 0

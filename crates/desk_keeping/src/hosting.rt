@@ -46,7 +46,7 @@ fn host_on<S: Source, D: Disk, K: Sink>(
         (output K.held K.calls K.faults first) (output K.held K.calls K.faults out.new) }
     ensures comes { (was : D) (content : Option (List ℕ)) (first : K) → IsHosting limit content (S.rest source.old) (D.state was) (D.state disk.old)
         (output K.held K.calls K.faults first) (output K.held K.calls K.faults out.old) window.old host.old →
-        IfSome (D.state was).content (λ held. ComesTo limit held content (S.rest source.new) (D.state disk.new)
+        IfSome (D.state was).content (λ held. ComesTo limit held content (S.rest source.new) (D.state was) (D.state disk.new)
         (output K.held K.calls K.faults first) (output K.held K.calls K.faults out.new) result) }
     ensures taken { (was : D) (content : Option (List ℕ)) (first : K) → IsHosting limit content (S.rest source.old) (D.state was) (D.state disk.old)
         (output K.held K.calls K.faults first) (output K.held K.calls K.faults out.old) window.old host.old → TakesAtMost content (S.rest source.new) (limit + 1) }
@@ -122,7 +122,7 @@ pub fn host_lines<S: Source, D: Disk, K: Sink>(
     ensures keeps { (was : Start) (old : List (Pair Record Outcome)) (market : Market) → HoldsLegal (D.state disk.old) was old market →
         HostsIn limit (S.rest source.old) (result ≡ Err HostFault.Write) was (D.state disk.old) (D.state disk.new) old market
         (output K.held K.calls K.faults out.old) (output K.held K.calls K.faults out.new) }
-    ensures comes { IfSome (D.state disk.old).content (λ held. ComesTo limit held (S.rest source.old) (S.rest source.new) (D.state disk.new)
+    ensures comes { IfSome (D.state disk.old).content (λ held. ComesTo limit held (S.rest source.old) (S.rest source.new) (D.state disk.old) (D.state disk.new)
         (output K.held K.calls K.faults out.old) (output K.held K.calls K.faults out.new) result) }
     ensures refuses { IfSome (D.state disk.old).content (λ held. IsNoBook held → IsOfFile result × (source.new ≡ source.old) × (out.new ≡ out.old)) }
     ensures untouched { IfSome (D.state disk.old).content (λ held. KeepNone held → OnlyLooks (D.state disk.old) (D.state disk.new)) }

@@ -107,7 +107,7 @@ hosts_again limit content Cut was start end old market out later holds is_disk h
 module _ (limit : ℕ) (result : Hosted) (start end : DiskState) (source : Change) (out later : Output) where
   pub hosts : (notes : Change) (noting : Result (Unit {0}) WriteFailed)
       → ((was : Start) (old : List (Pair Record Outcome)) (market : Market) → HoldsLegal start was old market → HostsIn limit source.before (◌≡◌ {A = Hosted} result (Err Write)) was start end old market out later)
-      → IfSome start.content (λ held. ComesTo limit held source.before source.after end out later result)
+      → IfSome start.content (λ held. ComesTo limit held source.before source.after start end out later result)
       → IfSome start.content (λ held. IsNoBook held → IsOfFile result × (source.after ≡ source.before) × (later ≡ out))
       → TakesAtMost source.before source.after (limit + 1)
       → Blames (◌≡◌ {A = Hosted} result (Err Disk)) start.faults end.faults

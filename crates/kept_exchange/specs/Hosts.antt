@@ -46,7 +46,7 @@ pub record HostsLines (limit : ℕ) (ends : Status) (start end : DiskState) (sou
   -- status.
   pub result : Result ⊤ HostFault
   pub ends_so : ends ≡ host_status limit result
-  pub comes : IfSome start.content (λ held. ComesTo limit held source.before source.after end out later result)
+  pub comes : IfSome start.content (λ held. ComesTo limit held source.before source.after start end out later result)
   -- If the file's bytes alone refuse it, as one of no journal, or damaged at its first entry, the call ends at its opening: nothing is read of the source, and
   -- nothing written to the output.
   pub refuses : IfSome start.content (λ held. IsNoBook held → IsOfFile result × (source.after ≡ source.before) × (later ≡ out))

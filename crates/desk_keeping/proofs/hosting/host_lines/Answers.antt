@@ -18,7 +18,7 @@ returns-in-Err-clause-keeps g c =
 pub returns-in-Err-clause-comes : goal.returns-in-Err-clause-comes
 returns-in-Err-clause-comes g c =
     always (g.D.Disk.state c.args.disk.now).content _
-    (λ held told. subst (λ (f : HostFault). ComesTo c.args.limit held (g.S.Source.rest c.args.source.now) (g.S.Source.rest c.open_desk.new.source) (g.D.Disk.state c.open_desk.new.disk) (output g.K.Sink.held g.K.Sink.calls g.K.Sink.faults c.args.out.now)
+    (λ held told. subst (λ (f : HostFault). ComesTo c.args.limit held (g.S.Source.rest c.args.source.now) (g.S.Source.rest c.open_desk.new.source) (g.D.Disk.state c.args.disk.now) (g.D.Disk.state c.open_desk.new.disk) (output g.K.Sink.held g.K.Sink.calls g.K.Sink.faults c.args.out.now)
     (output g.K.Sink.held g.K.Sink.calls g.K.Sink.faults c.args.out.now) (Err f)) (sym c.from.ensures)
     (comes_not_opened c.args.limit (g.S.Source.rest c.args.source.now) (g.S.Source.rest c.open_desk.new.source) (g.D.Disk.state c.args.disk.now) (g.D.Disk.state c.open_desk.new.disk) held told (output g.K.Sink.held g.K.Sink.calls g.K.Sink.faults c.args.out.now) c.in-Err.fault c.in-Err.ensures.fails))
 
