@@ -19,7 +19,7 @@ use Rattle.desk_keeping.specs.Hosting.{Entries, Texts, HostsIn}
 use Rattle.desk_keeping.specs.Private.{HostState, stored, unwritten, FileGoes, IsFileAt, IsAt, BreaksGroup, BreaksEnd, HearsLine}
 use Rattle.desk_keeping.proofs.Files.{along_now}
 use Rattle.desk_keeping.proofs.Leaving.{EndsFile, Carries, along_ends}
-use Rattle.desk_keeping.proofs.Ending.{AreFirst, hosts_so, all_hosted, told_first, more_first, MayEnd, few_stored, stays_file, may_end, may_end_all}
+use Rattle.desk_keeping.proofs.Ending.{AreFirst, unwritten_all, unwritten_heard, hosts_so, all_hosted, told_first, more_first, MayEnd, few_stored, stays_file, may_end, may_end_all}
 
 module _ (limit : ℕ) (content : Option (List ℕ)) (begin was : Start) (start : DiskState) (old : Entries) (m : Market) (holds : HoldsLegal start was old m) (alone : IfSome start.content (BeginsAlone begin))
     (first : Output) (read : List (List ℕ)) (h : HostState) (now : DiskState) (out : Output) (at : IsAt begin start first read h now out) (short : length h.group ≤ most_unkept) (are : AreFirst limit content begin read) where
@@ -38,7 +38,7 @@ module _ (limit : ℕ) (content : Option (List ℕ)) (begin was : Start) (start 
   few = omega (arith, short, ap length at.group, few_stored at.waiting)
 
   all_left : unwritten h ≡ left
-  all_left = take_all (h.told - h.written) left (omega (arith, length-drop h.written h.session.talk.texts, at.all_told))
+  all_left = unwritten_all h at.all_told
 
   -- no more texts were written
   pub hosts_gone : (Cut : Type 0) (end : DiskState) → Ends end at.pairs (length at.safe) → Hosts Cut end out
@@ -118,11 +118,7 @@ module _ (limit : ℕ) (content : Option (List ℕ)) (begin was : Start) (start 
 
       -- only the texts of the lines before are to be written
       heard_left : unwritten mid ≡ left
-      heard_left =
-          let size : length left ≡ h.told - h.written = omega (arith, length-drop h.written h.session.talk.texts, at.all_told) in
-          ap (λ (n : ℕ). take (n - mid.written) (drop mid.written mid.session.talk.texts)) heard.aside.told ∙ ap (λ (n : ℕ). take (h.told - n) (drop n mid.session.talk.texts)) heard.aside.written
-          ∙ ap (λ (l : Texts). take (h.told - h.written) (drop h.written l)) heard.said ∙ ap (take (h.told - h.written)) (drop-append-le h.written h.session.talk.texts heard.texts (omega (arith, at.order, at.all_told)))
-          ∙ take-append-le (h.told - h.written) left heard.texts (omega (arith, size)) ∙ take_all (h.told - h.written) left (omega (arith, size))
+      heard_left = unwritten_heard line h mid now then One heard at.order at.all_told
 
       -- it wasn't ended
       pub breaks_end : (fault : HostFault) (Cut : Type 0) → (fault ≡ Write → Cut) → BreaksEnd fault mid next then later out after Same SameOut → Hosts Cut later after

@@ -1,7 +1,7 @@
 -- Where hosting ends between lines: what a crash leaves, and which texts were written.
-use Rattle.std.proofs.Common.{◌≡◌, ◌≢◌, ◌⊎◌, inl, inr, ℕ, ◌+◌, ◌≤◌, ◌<◌, List, [], ◌∷◌, ◌++◌, Option, IfSome, length, length-append, take, refl, sym, ap, subst, ◌∙◌, arith, append_assoc}
+use Rattle.std.proofs.Common.{◌≡◌, ◌≢◌, ◌⊎◌, inl, inr, ℕ, ◌+◌, ◌-◌, ◌≤◌, ◌<◌, List, [], ◌∷◌, ◌++◌, Option, IfSome, length, length-append, length-drop, take, drop, refl, sym, ap, subst, ◌∙◌, arith, append_assoc}
 use Rattle.std.proofs.lemmas.Bool.{cases_lt}
-use Rattle.std.proofs.lemmas.List.{append-nil, take_all}
+use Rattle.std.proofs.lemmas.List.{append-nil, take_all, drop-append-le, take-append-le}
 use Rattle.std.proofs.lemmas.List.Elements.{All-nil}
 use Rattle.std.proofs.Math.Seq.{take-append_seam, take-append-add}
 use Rattle.flow_orders.specs.Outcomes.{IsAdmissibleOutcome}
@@ -23,7 +23,7 @@ use Rattle.desk_opening.specs.declared.book.Book.TheVariants.{Kept, Open}
 use Rattle.desk_opening.specs.Books.{AddsTo, LeavesWithOrWithout}
 use Rattle.desk_opening.specs.Openings.{BeginsAlone}
 use Rattle.desk_keeping.specs.Hosting.{Entries, Texts, desks_of, AreHosted, AreFirstHosted, HasFirstLines, HostsIn}
-use Rattle.desk_keeping.specs.Private.{HostState, stored, IsFileAt, AreToldOf, KeepsWaiting}
+use Rattle.desk_keeping.specs.Private.{HostState, stored, unwritten, HearsLine, IsFileAt, AreToldOf, KeepsWaiting}
 use Rattle.desk_keeping.proofs.Leaving.{EndsFile, along_ends, open_stays, open_fails, kept_since, none_stored}
 
 -- the first lines of an input are these
@@ -103,6 +103,21 @@ more_first begin read pairs texts gone others market desks served said some =
     let (count, few, first) = first_texts IsAdmissibleOutcome read pairs texts (market_of begin) market (desks_of begin) desks 0 served (length gone + k) (omega (arith, within, ap length said, length-append gone others)) in
     let texts_are : take (length gone + k) texts ≡ gone ++ take some others = ap (take (length gone + k)) said ∙ take-append-add gone others k ∙ ap (λ (l : Texts). gone ++ l) (sym same) in
     (count, few, subst (λ (l : Texts). AreFirstHosted begin read (take count pairs) l) texts_are first)
+
+-- ---- which texts are to be written
+
+-- between lines all of them are
+pub unwritten_all : (h : HostState) → h.told ≡ length h.session.talk.texts → unwritten h ≡ drop h.written h.session.talk.texts
+unwritten_all h all = take_all (h.told - h.written) (drop h.written h.session.talk.texts) (omega (arith, length-drop h.written h.session.talk.texts, all))
+
+-- once a line was heard, those of the lines before
+pub unwritten_heard : (line : List ℕ) (h mid : HostState) (now then : DiskState) (One : Type 0) → HearsLine line h mid now then One → h.written ≤ h.told → h.told ≡ length h.session.talk.texts → unwritten mid ≡ drop h.written h.session.talk.texts
+unwritten_heard line h mid now then One heard order all =
+    let left : Texts = drop h.written h.session.talk.texts in
+    let size : length left ≡ h.told - h.written = omega (arith, length-drop h.written h.session.talk.texts, all) in
+    ap (λ (n : ℕ). take (n - mid.written) (drop mid.written mid.session.talk.texts)) heard.aside.told ∙ ap (λ (n : ℕ). take (h.told - n) (drop n mid.session.talk.texts)) heard.aside.written
+    ∙ ap (λ (l : Texts). take (h.told - h.written) (drop h.written l)) heard.said ∙ ap (take (h.told - h.written)) (drop-append-le h.written h.session.talk.texts heard.texts (omega (arith, order, all)))
+    ∙ take-append-le (h.told - h.written) left heard.texts (omega (arith, size)) ∙ take_all (h.told - h.written) left (omega (arith, size))
 
 -- ---- what becomes of the file while entries that wait are kept
 

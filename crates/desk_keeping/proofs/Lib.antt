@@ -15,6 +15,7 @@ mod Stopped
 mod Untouched
 mod Unopened
 mod Reaching
+mod Telling
 mod Comes
 mod Passing
 mod Loop

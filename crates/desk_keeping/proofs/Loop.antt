@@ -40,7 +40,7 @@ use Rattle.desk_keeping.proofs.Passing.{gone_found, gone_long, gone_line, are_ne
 use Rattle.desk_keeping.proofs.Broken.{hosts_at, breaks_settle, breaks_end}
 use Rattle.desk_keeping.proofs.Stopped.{breaks_line}
 use Rattle.desk_keeping.proofs.Untouched.{IsSpared, spared_alone, spared_group, spared_end, file_spared, heard_spared, line_spared}
-use Rattle.desk_keeping.proofs.Comes.{comes_ended, comes_limit, comes_unread, comes_stopped, comes_broken, comes_unended}
+use Rattle.desk_keeping.proofs.Comes.{comes_ended, comes_limit, comes_unread, comes_stopped, comes_broken, comes_unended, comes_memory}
 
 -- as many line feeds as lines
 feeds_count : (lines : List (List ℕ)) → length lines ≤ length (ended_by_feeds lines)
@@ -146,7 +146,7 @@ module _ (limit : ℕ) (content : Option (List ℕ)) (start : DiskState) (first 
     pub settle_broken : (n : HostState) (later : DiskState) (after : Output) (Same : Type 0) (rest : Option (List ℕ)) (fault : HostFault) → IsDisk later → Carries Same now later → BreaksGroup fault h n now later out after Same → Results later after rest (Err fault)
     settle_broken n later after Same rest fault is_disk carry breaks = (
       λ was old m holds. breaks_settle limit content x.begin was start old m holds x.alone first x.read h now out x.at few_waiting are fault n later after Same is_disk carry (◌≡◌ {A = Result (Unit {0}) HostFault} (Err fault) (Err Write)) (λ is. ap (λ (f : HostFault). Err f) is) breaks,
-      always start.content _ (λ held told. comes_broken limit held content rest start later first after h n now later out after Same fault breaks),
+      always start.content _ (λ held told. comes_broken x.begin start held told x.alone first x.read h now out x.at limit content rest are later after n Same fault breaks),
       spared_group start h n now later Same carry spared out after fault breaks,
     )
 
@@ -154,7 +154,7 @@ module _ (limit : ℕ) (content : Option (List ℕ)) (start : DiskState) (first 
     pub out_of_memory : (rest : Option (List ℕ)) → IsDisk now → Results now out rest (Err Memory)
     out_of_memory rest is_disk = (
       λ was old m holds. hosts_at limit content x.begin was start old m holds x.alone first x.read h now out x.at few_waiting are is_disk (◌≡◌ {A = Result (Unit {0}) HostFault} (Err Memory) (Err Write)),
-      always start.content _ (λ held told. tt),
+      always start.content _ (λ held told. comes_memory x.begin start held told x.alone first x.read h now out x.at limit content rest are),
       left_alone,
     )
 
@@ -222,7 +222,7 @@ module _ (limit : ℕ) (content : Option (List ℕ)) (start : DiskState) (first 
         line_broken after SameOut fault result carry_out breaks stops = (
           λ was old m holds. breaks_line limit content x.begin was start old m holds x.alone first x.read h now out x.at few_waiting are then is_disk is_then One one line are_line mid after SameOut carry_out fault result
               (◌≡◌ {A = Result (Unit {0}) HostFault} (Err result) (Err Write)) (λ is. ap (λ (f : HostFault). Err f) is) breaks stops,
-          always start.content _ (λ held told. comes_stopped x.begin start held told x.alone first x.read h now out x.at limit content rest then is_disk line are_line mid One after SameOut fault result breaks stops),
+          always start.content _ (λ held told. comes_stopped x.begin start held told x.alone first x.read h now out x.at limit content rest then is_disk line are are_line mid One after SameOut carry_out fault result breaks stops),
           line_spared start x.begin first x.read h now then out x.at is_disk line mid One fault breaks,
         )
 
@@ -247,7 +247,7 @@ module _ (limit : ℕ) (content : Option (List ℕ)) (start : DiskState) (first 
             unended fault is_later breaks = (
               λ was old m holds. breaks_end limit content x.begin was start old m holds x.alone first x.read h now out x.at few_waiting are then is_disk is_then One one line mid n heard later after SameDisk SameOut is_later carry carry_out fault
                   (◌≡◌ {A = Result (Unit {0}) HostFault} (Err fault) (Err Write)) (λ is. ap (λ (f : HostFault). Err f) is) breaks,
-              always start.content _ (λ held told. comes_unended limit held content rest start later first after mid n then later out after SameDisk SameOut fault breaks),
+              always start.content _ (λ held told. comes_unended x.begin start held told x.alone first x.read h now out x.at limit content rest are later after line mid n then One SameDisk SameOut heard carry_out fault breaks),
               spared_end start mid n then later SameDisk carry spared_mid out after SameOut fault breaks,
             )
 

@@ -149,18 +149,18 @@ module _ (limit : ℕ) (content left : Option (List ℕ)) (first now : DiskState
   -- why nothing was hosted
   pub comes_not_opened : (fault : StartFault) → HasNotOpened limit first now content left fault
       → ComesTo limit held content left first now out out (Err (of_start fault))
-  comes_not_opened (start.Open unopened.Disk) not = tt
-  comes_not_opened (start.Open unopened.Memory) not = tt
+  comes_not_opened (start.Open unopened.Disk) not = inl refl
+  comes_not_opened (start.Open unopened.Memory) not = inl refl
   comes_not_opened (start.Open unopened.NotDisk) (why, looks) = (known_so (λ bytes. IsOpening bytes opening.Foreign) why, as_before looks)
   comes_not_opened (start.Open (unopened.Damaged place)) (why, looks) = inl (known_so (λ bytes. IsOpening bytes (opening.Damaged place)) why.0, why.1, as_before looks)
   comes_not_opened (start.Open (unopened.Rejected number)) (why, looks) = absurd why
   comes_not_opened (start.Input unread.Read) (why, looks) = inr (why, as_before looks)
-  comes_not_opened (start.Input unread.Memory) not = tt
+  comes_not_opened (start.Input unread.Memory) not = inl refl
   comes_not_opened (start.Input unread.NotFlow) (why, looks) = (why, as_before looks)
   comes_not_opened (start.Input unread.BadCheckpoint) (why, looks) = (why, as_before looks)
   comes_not_opened start.Differs (looks, begin, takes, otherwise) =
       inl (refl, as_before looks, begin, begins_input limit content left begin takes, known_so (λ bytes. BeginsOtherwise begin bytes now) otherwise)
-  comes_not_opened start.Make not = tt
+  comes_not_opened start.Make not = inl refl
 
 -- ---- a file that is refused by its bytes
 

@@ -76,13 +76,17 @@ HasFirstLines bytes begin lines = (last : List ℕ) × HasLines bytes begin line
 
 -- ---- the file at the end
 
--- The file, which held these bytes, begins so, without a checkpoint only if it has none, and has these entries, which are valid, up to this place, and
--- perhaps others; it was only looked at, and a crash leaves just what it held.
-pub record IsReadTo (held : List ℕ) (begin : Start) (pairs : Entries) (market : Market) (place : ℕ) (start end : DiskState) : Type 0 where
+-- A file that held these bytes, and wasn't new, begins so, without a checkpoint only if it has none, and has these entries, which are valid, up to this place,
+-- and perhaps others.
+pub record HasUpTo (held : List ℕ) (begin : Start) (pairs : Entries) (market : Market) (place : ℕ) : Type 0 where
   pub is_old : ¬ IsNewDisk held
   pub is_file : ¬ IsForeign held
   pub alone : BeginsAlone begin held
   pub legal : BeginsLegal begin held pairs market place
+
+-- The file has these entries up to this place; it was only looked at, and a crash leaves just what it held.
+pub record IsReadTo (held : List ℕ) (begin : Start) (pairs : Entries) (market : Market) (place : ℕ) (start end : DiskState) : Type 0 where
+  pub has : HasUpTo held begin pairs market place
   pub looks : OnlyLooks start end
   pub durable : LeavesOnly end.images held
 
@@ -150,6 +154,24 @@ IsEntryOther bytes place market (command ∷ commands) =
 abbrev pub IsAsBefore : (start end : DiskState) → Output → Output → Type 0
 IsAsBefore start end out later = OnlyLooks start end × (later ≡ out)
 
+-- these are entries that the file had, from its first one on, or all that it had and others after them, by the canonical rule
+abbrev pub AreOfFile : List ℕ → Start → Entries → Type 0
+AreOfFile held begin pairs =
+    ((market : Market) × (place : ℕ) × HasUpTo held begin pairs market place)
+    ⊎ ((old : Entries) × (new : Entries) × (before : Market) × (after : Market) × (pairs ≡ old ++ new) × Continues held begin old before × Follows IsReadAs IsCanonicalOutcome before new after)
+
+-- What was written are the answers of first lines of the input, by the first of such entries; only if a write failed, the last of these texts perhaps in part.
+pub record TellsFirst (Cut : Type 0) (limit : ℕ) (held : List ℕ) (content : Option (List ℕ)) (out later : Output) : Type 0 where
+  pub begin : Start
+  pub lines : List (List ℕ)
+  pub are : IfSome content (λ bytes. HasFirstLines (take limit bytes) begin lines)
+  pub pairs : Entries
+  pub others : Entries
+  pub file : AreOfFile held begin (pairs ++ others)
+  pub texts : Texts
+  pub answered : AreFirstHosted begin lines pairs texts
+  pub gained : Gains Cut out later texts
+
 -- What hosting the lines of many senders results in, if the file is known to have held these bytes. `left` is what is left of the input, and `content`
 -- what it was.
 abbrev pub ComesTo : (limit : ℕ) → List ℕ → (content left : Option (List ℕ)) → (start end : DiskState) → Output → Output → Result ⊤ HostFault → Type 0
@@ -170,9 +192,9 @@ ComesTo limit held content left start end out later (Err (Rejected number)) = St
 ComesTo limit held content left start end out later (Err (Differs number)) =
     ((number ≡ 0) × IsAsBefore start end out later × (begin : Start) × IfSome content (λ bytes. HasFirstLines (take limit bytes) begin []) × BeginsOtherwise begin held end)
     ⊎ StopsAtEntry limit held content start end out later (λ at pairs market next. (number ≡ length pairs + 1) × IsEntryOther held at market next)
-ComesTo limit held content left start end out later (Err Write) = ⊤
-ComesTo limit held content left start end out later (Err Disk) = ⊤
-ComesTo limit held content left start end out later (Err Memory) = ⊤
+ComesTo limit held content left start end out later (Err Write) = TellsFirst ⊤ limit held content out later
+ComesTo limit held content left start end out later (Err Disk) = (later ≡ out) ⊎ TellsFirst ⊥ limit held content out later
+ComesTo limit held content left start end out later (Err Memory) = (later ≡ out) ⊎ TellsFirst ⊥ limit held content out later
 
 -- it ended at the opening of the file
 abbrev pub IsOfFile : Result ⊤ HostFault → Type 0
