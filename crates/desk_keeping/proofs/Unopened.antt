@@ -32,7 +32,7 @@ use Rattle.desk_opening.specs.Beginnings.{bytes_before}
 use Rattle.desk_opening.specs.Books.{IsBookAfter}
 use Rattle.desk_opening.specs.Openings.{HasOpened, HasNotOpened, WasMaking, BeginsOtherwise, TakesBeginning, IsNoBook}
 use Rattle.desk_keeping.specs.Faults.{of_start}
-use Rattle.desk_keeping.specs.Hosting.{Entries, desks_of, AreFirstHosted, HasFirstLines, IsAsBefore, ComesTo, IsOfFile, HostsIn}
+use Rattle.desk_keeping.specs.Hosting.{Entries, desks_of, AreFirstHosted, HasFirstLines, IsAsBefore, ComesTo, HasTakenBeginning, IsMadeAfterBeginning, IsOfFile, HostsIn}
 use Rattle.desk_keeping.specs.Private.{IsLeftAlone}
 use Rattle.desk_keeping.proofs.KeepingNone.{none_continued, looked_alone}
 use Rattle.desk_keeping.proofs.Leaving.{continued_old}
@@ -136,6 +136,37 @@ alone_opened most limit first now market book window before after opened = by bo
     by : (b : Book) → IsBookAfter opened.begin b first now [] market → IsLeftAlone first now
     by (Kept place ahead) along = looked_alone first now along.looks
     by (Open place) gets = none_continued first.content opened.begin [] market (OnlyLooks first now) gets.continues
+
+-- ---- a new file
+
+-- the beginning of the input was taken
+pub made_begun : (limit : ℕ) (first now : DiskState) (before after : Option (List ℕ)) → HasTakenBeginning limit before after → IfSome first.content (λ held. IsMadeAfterBeginning limit held first now before after)
+made_begun limit first now before after taken = by first.content
+  where
+    by : (o : Option (List ℕ)) → IfSome o (λ held. IsMadeAfterBeginning limit held first now before after)
+    by None = tt
+    by (Some held) = λ is_new. inr taken
+
+made_looked : (limit : ℕ) (first now : DiskState) (before after : Option (List ℕ)) → OnlyLooks first now → IfSome first.content (λ held. IsMadeAfterBeginning limit held first now before after)
+made_looked limit first now before after looks = by first.content
+  where
+    by : (o : Option (List ℕ)) → IfSome o (λ held. IsMadeAfterBeginning limit held first now before after)
+    by None = tt
+    by (Some held) = λ is_new. inl looks
+
+-- the file and the input weren't opened
+pub made_not_opened : (limit : ℕ) (first now : DiskState) (before after : Option (List ℕ)) (fault : StartFault) → HasNotOpened limit first now before after fault → IfSome first.content (λ held. IsMadeAfterBeginning limit held first now before after)
+made_not_opened limit first now before after (start.Open fault) (why, looks) = made_looked limit first now before after looks
+made_not_opened limit first now before after (start.Input fault) (why, looks) = made_looked limit first now before after looks
+made_not_opened limit first now before after start.Differs (looks, begin, takes, otherwise) = made_looked limit first now before after looks
+made_not_opened limit first now before after start.Make (begin, (starts, more, takes, few), making) =
+    made_begun limit first now before after (begin, starts, omega (arith, few, length-append (bytes_before begin) more), more, takes)
+
+-- they were, and no session was made
+pub made_opened : (most limit : ℕ) (first now : DiskState) (market : Market) (book : Book) (window : WindowState) (before after : Option (List ℕ)) → HasOpened most limit first now market book window before after
+    → IfSome first.content (λ held. IsMadeAfterBeginning limit held first now before after)
+made_opened most limit first now market book window before after opened =
+    made_begun limit first now before after (opened.begin, opened.starts, omega (arith, opened.place, opened.is_open.within, opened.limited), window.held, opened.takes)
 
 -- ---- what it comes to
 

@@ -1,5 +1,6 @@
 -- What comes of the lines of many senders, over a file that is read along with them first and then gets more.
 use Rattle.std.specs.Prelude.{◌≡◌, ◌≢◌, ◌⊎◌, ◌≤◌, ◌<◌, ◌+◌, ℕ, List, [], ◌∷◌, ◌++◌, length, take, All, Option, Some, IfSome, Result, Ok, Err, ⊤}
+use Rattle.flow_io.specs.Streams.{Takes}
 use Rattle.wire_records.specs.Records.{Record}
 use Rattle.wire_records.specs.Commands.{Command, Pair}
 use Rattle.wire_records.specs.CommandRecords.{record_of}
@@ -195,6 +196,18 @@ ComesTo limit held content left start end out later (Err (Differs number)) =
 ComesTo limit held content left start end out later (Err Write) = TellsFirst ⊤ limit held content out later
 ComesTo limit held content left start end out later (Err Disk) = (later ≡ out) ⊎ TellsFirst ⊥ limit held content out later
 ComesTo limit held content left start end out later (Err Memory) = (later ≡ out) ⊎ TellsFirst ⊥ limit held content out later
+
+-- ---- a new file
+
+-- the beginning of an input, within the limit, is among what was taken of it
+abbrev pub HasTakenBeginning : (limit : ℕ) → (before after : Option (List ℕ)) → Type 0
+HasTakenBeginning limit before after = (begin : Start) × CanStart begin × (length (bytes_before begin) ≤ limit) × (more : List ℕ) × Takes before after (bytes_before begin ++ more)
+
+-- a file that held these bytes and was new was only looked at, unless the beginning of the input was taken
+abbrev pub IsMadeAfterBeginning : (limit : ℕ) → List ℕ → (start end : DiskState) → (before after : Option (List ℕ)) → Type 0
+IsMadeAfterBeginning limit held start end before after = IsNewDisk held → OnlyLooks start end ⊎ HasTakenBeginning limit before after
+
+-- ---- a file that is refused
 
 -- it ended at the opening of the file
 abbrev pub IsOfFile : Result ⊤ HostFault → Type 0

@@ -13,7 +13,7 @@ ghost use Rattle.journal_keeping.specs.Lengths.{most_input};
 ghost use Rattle.journal_keeping.specs.Openings.{KeepNone};
 ghost use Rattle.journal_keeping.specs.Outputs.{output};
 ghost use Rattle.desk_opening.specs.Openings.{IsNoBook};
-ghost use Rattle.desk_keeping.specs.Hosting.{ComesTo, HostsIn, IsOfFile};
+ghost use Rattle.desk_keeping.specs.Hosting.{ComesTo, HostsIn, HasTakenBeginning, IsMadeAfterBeginning, IsOfFile};
 ghost use Rattle.desk_keeping.specs.Private.{IsLeftAlone, IsHosting};
 
 use crate::fault::HostFault;
@@ -49,7 +49,8 @@ fn host_on<S: Source, D: Disk, K: Sink>(
         IfSome (D.state was).content (λ held. ComesTo limit held content (S.rest source.new) (D.state was) (D.state disk.new)
         (output K.held K.calls K.faults first) (output K.held K.calls K.faults out.new) result) }
     ensures taken { (was : D) (content : Option (List ℕ)) (first : K) → IsHosting limit content (S.rest source.old) (D.state was) (D.state disk.old)
-        (output K.held K.calls K.faults first) (output K.held K.calls K.faults out.old) window.old host.old → TakesAtMost content (S.rest source.new) (limit + 1) }
+        (output K.held K.calls K.faults first) (output K.held K.calls K.faults out.old) window.old host.old →
+        TakesAtMost content (S.rest source.new) (limit + 1) × HasTakenBeginning limit content (S.rest source.new) }
     ensures untouched { (was : D) (content : Option (List ℕ)) (first : K) → IsHosting limit content (S.rest source.old) (D.state was) (D.state disk.old)
         (output K.held K.calls K.faults first) (output K.held K.calls K.faults out.old) window.old host.old → IsLeftAlone (D.state was) (D.state disk.new) }
     ensures disk_cause { Blames (result ≡ Err HostFault.Disk) (D.state disk.old).faults (D.state disk.new).faults }
@@ -105,7 +106,7 @@ fn host_on<S: Source, D: Disk, K: Sink>(
 /// nor the checkpoint of a consistent market, and of such a disk nothing is read of the input. `NotFlow` and `BadCheckpoint` say how the input begins, and
 /// `Differs` with 0 that the disk begins otherwise. None of them changes the disk or writes anything. `Damaged`, `Rejected` and `Differs` with an entry's number
 /// come where a command asks for that entry; all that was taken from the entries before it is answered then, and the disk isn't changed. A disk that isn't new
-/// and keeps no valid journal is never changed, whatever the result. At `Ok` and `TooLong` all lines of the first `limit` bytes are answered, and at `Read` all
+/// and keeps no valid journal is never changed, whatever the result, and a new one only once the beginning of the input was taken. At `Ok` and `TooLong` all lines of the first `limit` bytes are answered, and at `Read` all
 /// that were complete in what was taken. At most one byte past the limit is taken, which says that there are more. `Disk`, `Read` and `Write` come only if the
 /// count of faults of the disk, the input or `out` rose. `Memory` may come at any time. The limit is at most 2^40 bytes.
 ///
@@ -126,6 +127,7 @@ pub fn host_lines<S: Source, D: Disk, K: Sink>(
         (output K.held K.calls K.faults out.old) (output K.held K.calls K.faults out.new) result) }
     ensures refuses { IfSome (D.state disk.old).content (λ held. IsNoBook held → IsOfFile result × (source.new ≡ source.old) × (out.new ≡ out.old)) }
     ensures untouched { IfSome (D.state disk.old).content (λ held. KeepNone held → OnlyLooks (D.state disk.old) (D.state disk.new)) }
+    ensures made { IfSome (D.state disk.old).content (λ held. IsMadeAfterBeginning limit held (D.state disk.old) (D.state disk.new) (S.rest source.old) (S.rest source.new)) }
     ensures taken { TakesAtMost (S.rest source.old) (S.rest source.new) (limit + 1) }
     ensures disk_cause { Blames (result ≡ Err HostFault.Disk) (D.state disk.old).faults (D.state disk.new).faults }
     ensures source_cause { Blames (result ≡ Err HostFault.Read) (S.faults source.old) (S.faults source.new) }
