@@ -23,8 +23,9 @@ use Rattle.desk_opening.specs.declared.book.Book.TheVariants.{Kept, Open}
 use Rattle.desk_opening.specs.Books.{AddsTo, LeavesWithOrWithout}
 use Rattle.desk_opening.specs.Openings.{BeginsAlone}
 use Rattle.desk_keeping.specs.Hosting.{Entries, Texts, desks_of, AreHosted, AreFirstHosted, HasFirstLines, HostsIn}
-use Rattle.desk_keeping.specs.Private.{HostState, stored, unwritten, HearsLine, IsFileAt, AreToldOf, KeepsWaiting}
-use Rattle.desk_keeping.proofs.Leaving.{EndsFile, along_ends, open_stays, open_fails, kept_since, none_stored}
+use Rattle.desk_keeping.specs.Private.{HostState, stored, unwritten, HearsLine, IsFileAt, AreWhole, IsWholeAt, AreToldOf, KeepsWaiting}
+use Rattle.desk_keeping.proofs.Leaving.{EndsFile, along_ends, open_stays, open_fails, fails_moments, kept_moments, kept_since, none_stored}
+use Rattle.desk_keeping.proofs.Whole.{whole_ends}
 
 -- the first lines of an input are these
 abbrev pub AreFirst : ℕ → Option (List ℕ) → Start → List (List ℕ) → Type 0
@@ -47,7 +48,7 @@ fewer_first begin all safe less image few (n, least, most, stands) = (n, omega (
 
 -- what lines, their entries and texts, and what became of the file say together
 pub hosts_so : (limit : ℕ) (content : Option (List ℕ)) (Cut : Type 0) (begin was : Start) (start end : DiskState) (old : Entries) (m : Market) (lines : List (List ℕ)) (pairs : Entries) (texts : Texts) (safe count : ℕ) (told : Texts) (out later : Output)
-    → AreFirstHosted begin lines pairs texts → EndsFile begin was start end old m pairs safe → AreFirst limit content begin lines → count ≤ safe → AreFirstHosted begin lines (take count pairs) told → Gains Cut out later told
+    → AreFirstHosted begin lines pairs texts → EndsFile begin was start end old m lines pairs safe → AreFirst limit content begin lines → count ≤ safe → AreFirstHosted begin lines (take count pairs) told → Gains Cut out later told
     → HostsIn limit content Cut was start end old m out later
 hosts_so limit content Cut begin was start end old m lines pairs texts safe count told out later asked file are within answered gained = record {
   begin = begin;
@@ -61,6 +62,7 @@ hosts_so limit content Cut begin was start end old m lines pairs texts safe coun
   pairs = pairs;
   texts = texts;
   asked = asked;
+  whole = file.whole;
   parts = file.parts;
   count = count;
   within = omega (arith, within, file.within);
@@ -122,10 +124,10 @@ unwritten_heard line h mid now then One heard order all =
 -- ---- what becomes of the file while entries that wait are kept
 
 -- What becomes of a file from a state on, if nothing is done, if the entries that wait are kept, or if they aren't: `safe` of the entries are in the file before.
-pub record MayEnd (begin was : Start) (start : DiskState) (old : Entries) (m : Market) (pairs : Entries) (safe : ℕ) (host next : HostState) (mid later : DiskState) (Same : Type 0) : Type 0 where
-  pub stays : Same → EndsFile begin was start later old m pairs safe
-  pub kept : KeepsWaiting host next mid later Same → EndsFile begin was start later old m pairs (length pairs)
-  pub fails : host.group ≢ [] → LeavesWithOrWithout host.group host.book mid later → EndsFile begin was start later old m pairs safe
+pub record MayEnd (begin was : Start) (start : DiskState) (old : Entries) (m : Market) (lines : List (List ℕ)) (pairs : Entries) (safe : ℕ) (host next : HostState) (mid later : DiskState) (Same : Type 0) : Type 0 where
+  pub stays : Same → EndsFile begin was start later old m lines pairs safe
+  pub kept : KeepsWaiting host next mid later Same → EndsFile begin was start later old m lines pairs (length pairs)
+  pub fails : host.group ≢ [] → LeavesWithOrWithout host.group host.book mid later → EndsFile begin was start later old m lines pairs safe
 
 -- entries are at most as many as their bytes
 pub few_stored : (waiting : Entries) → length waiting ≤ length (stored waiting)
@@ -133,64 +135,68 @@ few_stored [] = omega arith
 few_stored (pair ∷ waiting) = omega (arith, few_stored waiting, length-append (entry (records_of pair)) (stored waiting))
 
 -- fewer of them are told to be in the file
-ends_fewer : (begin was : Start) (start end : DiskState) (old : Entries) (m : Market) (pairs : Entries) (safe less : ℕ) → less ≤ safe → EndsFile begin was start end old m pairs safe → EndsFile begin was start end old m pairs less
-ends_fewer begin was start end old m pairs safe less few file = record {
+ends_fewer : (begin was : Start) (start end : DiskState) (old : Entries) (m : Market) (lines : List (List ℕ)) (pairs : Entries) (safe less : ℕ) → less ≤ safe → EndsFile begin was start end old m lines pairs safe → EndsFile begin was start end old m lines pairs less
+ends_fewer begin was start end old m lines pairs safe less few file = record {
   from = file.from;
   continues = file.continues;
   new = file.new;
   acknowledged = file.acknowledged;
   runs = file.runs;
+  whole = file.whole;
   parts = file.parts;
   within = omega (arith, few, file.within);
   durable = λ image left. fewer_first begin (old ++ file.new) safe less image few (file.durable image left);
 }
 
-module _ (begin was : Start) (start : DiskState) (old : Entries) (m : Market) (holds : HoldsLegal start was old m) (alone : IfSome start.content (BeginsAlone begin)) where
+module _ (begin was : Start) (start : DiskState) (old : Entries) (m : Market) (holds : HoldsLegal start was old m) (alone : IfSome start.content (BeginsAlone begin)) (lines : List (List ℕ)) where
   abbrev Ends : DiskState → Entries → ℕ → Type 0
-  Ends end pairs safe = EndsFile begin was start end old m pairs safe
+  Ends end pairs safe = EndsFile begin was start end old m lines pairs safe
 
-  module _ (safe waiting : Entries) (market : Market) (few : length waiting ≤ most_unkept) where
+  module _ (safe waiting : Entries) (market : Market) (few : length waiting ≤ most_unkept) (all : AreWhole begin lines old (safe ++ waiting)) where
     -- nothing was done
-    pub stays_file : (b : Book) (mid : DiskState) → IsFileAt begin start b mid safe waiting market → IsDisk mid → Ends mid (safe ++ waiting) (length safe)
-    stays_file (Kept place ahead) mid (none, along) is_disk =
+    pub stays_file : (b : Book) (mid : DiskState) → IsFileAt begin start b mid safe waiting market → IsWholeAt begin start lines b mid safe → IsDisk mid → Ends mid (safe ++ waiting) (length safe)
+    stays_file (Kept place ahead) mid (none, along) whole is_disk =
         subst (λ (l : Entries). Ends mid l (length safe)) (sym (ap (λ (l : Entries). safe ++ l) none ∙ append-nil safe))
-        (along_ends begin was start old m holds place ahead mid safe market along alone mid is_disk (looks_alone begin old mid mid (looks_none mid is_disk)))
-    stays_file (Open place) mid file is_disk = open_stays begin was start old m holds place mid safe waiting market file is_disk few
+        (along_ends begin was start old m holds place ahead mid safe market along alone lines mid is_disk (looks_alone begin old mid mid (looks_none mid is_disk)))
+    stays_file (Open place) mid file whole is_disk = open_stays begin was start old m holds place mid safe waiting market file lines is_disk (whole was old m holds).0 few
 
     module _ (mid later : DiskState) (is_later : IsDisk later) (group : List ℕ) (same : group ≡ stored waiting) where
       -- the entries that wait weren't kept
-      pub fails_file : (b : Book) → IsFileAt begin start b mid safe waiting market → LeavesWithOrWithout group b mid later → Ends later (safe ++ waiting) (length safe)
-      fails_file (Kept place ahead) file never = absurd never
-      fails_file (Open place) file leaves = open_fails begin was start old m holds place mid safe waiting market file group later same is_later few leaves.1
+      pub fails_file : (b : Book) → IsFileAt begin start b mid safe waiting market → IsWholeAt begin start lines b mid safe → LeavesWithOrWithout group b mid later → Ends later (safe ++ waiting) (length safe)
+      fails_file (Kept place ahead) file whole never = absurd never
+      fails_file (Open place) file whole leaves =
+          let moments = fails_moments begin was start old m holds place mid safe waiting market file group later same leaves.1 in
+          open_fails begin was start old m holds place mid safe waiting market file lines group later same is_later (whole_ends begin start lines place mid later safe waiting whole was old m holds all moments) few leaves.1
 
       module _ (Same : Type 0) (carry : Same → (P : DiskState → Type 0) → P mid → P later) where
         -- they were, or there are none
-        pub kept_file : (b c : Book) → IsFileAt begin start b mid safe waiting market → ((group ≡ []) × (c ≡ b) × Same) ⊎ ((group ≢ []) × AddsTo group b c mid later × LeavesWithOrWithout group b mid later)
+        pub kept_file : (b c : Book) → IsFileAt begin start b mid safe waiting market → IsWholeAt begin start lines b mid safe → ((group ≡ []) × (c ≡ b) × Same) ⊎ ((group ≢ []) × AddsTo group b c mid later × LeavesWithOrWithout group b mid later)
             → Ends later (safe ++ waiting) (length (safe ++ waiting))
-        kept_file b c file (inl (none, is, still)) =
+        kept_file b c file whole (inl (none, is, still)) =
             let empty : waiting ≡ [] = none_stored waiting (sym same ∙ none) in
             let size : length safe ≡ length (safe ++ waiting) = omega (arith, length-append safe waiting, ap length empty) in
-            subst (λ (n : ℕ). Ends later (safe ++ waiting) n) size (stays_file b later (carry still (λ s. IsFileAt begin start b s safe waiting market) file) is_later)
-        kept_file (Open place) (Open to) file (inr (some, (moved, told, adds), leaves)) =
+            subst (λ (n : ℕ). Ends later (safe ++ waiting) n) size (stays_file b later (carry still (λ s. IsFileAt begin start b s safe waiting market) file) (carry still (λ s. IsWholeAt begin start lines b s safe) whole) is_later)
+        kept_file (Open place) (Open to) file whole (inr (some, (moved, told, adds), leaves)) =
+            let moments = kept_moments begin was start old m holds place mid safe waiting market file to later waiting (adds waiting file.fits same) in
             let since = kept_since begin start place mid safe waiting market file to later (adds waiting file.fits same) told in
-            subst (λ (l : Entries). Ends later l (length (safe ++ waiting))) (append-nil (safe ++ waiting)) (open_stays begin was start old m holds to later (safe ++ waiting) [] market since is_later (omega arith))
-        kept_file (Open place) (Kept to ahead) file (inr (some, never, leaves)) = absurd never
-        kept_file (Kept place ahead) c file (inr (some, never, leaves)) = absurd never
+            subst (λ (l : Entries). Ends later l (length (safe ++ waiting))) (append-nil (safe ++ waiting)) (open_stays begin was start old m holds to later (safe ++ waiting) [] market since lines is_later (whole_ends begin start lines place mid later safe waiting whole was old m holds all moments) (omega arith))
+        kept_file (Open place) (Kept to ahead) file whole (inr (some, never, leaves)) = absurd never
+        kept_file (Kept place ahead) c file whole (inr (some, never, leaves)) = absurd never
 
   module _ (mid later : DiskState) (is_later : IsDisk later) (Same : Type 0) (carry : Same → (P : DiskState → Type 0) → P mid → P later) (host next : HostState) where
     -- from a file between lines
-    pub may_end : (pairs safe waiting : Entries) (market : Market) → pairs ≡ safe ++ waiting → length waiting ≤ most_unkept → host.group ≡ stored waiting → IsFileAt begin start host.book mid safe waiting market
-        → MayEnd begin was start old m pairs (length safe) host next mid later Same
-    may_end pairs safe waiting market parts few same file = record {
-      stays = λ still. subst (λ (l : Entries). Ends later l (length safe)) (sym parts) (stays_file safe waiting market few host.book later (carry still (λ s. IsFileAt begin start host.book s safe waiting market) file) is_later);
-      kept = λ keeps. subst (λ (l : Entries). Ends later l (length l)) (sym parts) (kept_file safe waiting market few mid later is_later host.group same Same carry host.book next.book file keeps);
-      fails = λ some leaves. subst (λ (l : Entries). Ends later l (length safe)) (sym parts) (fails_file safe waiting market few mid later is_later host.group same host.book file leaves);
+    pub may_end : (pairs safe waiting : Entries) (market : Market) → pairs ≡ safe ++ waiting → length waiting ≤ most_unkept → host.group ≡ stored waiting → AreWhole begin lines old (safe ++ waiting) → IsFileAt begin start host.book mid safe waiting market
+        → IsWholeAt begin start lines host.book mid safe → MayEnd begin was start old m lines pairs (length safe) host next mid later Same
+    may_end pairs safe waiting market parts few same all file whole = record {
+      stays = λ still. subst (λ (l : Entries). Ends later l (length safe)) (sym parts) (stays_file safe waiting market few all host.book later (carry still (λ s. IsFileAt begin start host.book s safe waiting market) file) (carry still (λ s. IsWholeAt begin start lines host.book s safe) whole) is_later);
+      kept = λ keeps. subst (λ (l : Entries). Ends later l (length l)) (sym parts) (kept_file safe waiting market few all mid later is_later host.group same Same carry host.book next.book file whole keeps);
+      fails = λ some leaves. subst (λ (l : Entries). Ends later l (length safe)) (sym parts) (fails_file safe waiting market few all mid later is_later host.group same host.book file whole leaves);
     }
 
     -- from a file in which all of the entries are, if none waits
-    pub may_end_all : (pairs : Entries) (safe : ℕ) → safe ≤ length pairs → host.group ≡ [] → Ends mid pairs (length pairs) → MayEnd begin was start old m pairs safe host next mid later Same
+    pub may_end_all : (pairs : Entries) (safe : ℕ) → safe ≤ length pairs → host.group ≡ [] → Ends mid pairs (length pairs) → MayEnd begin was start old m lines pairs safe host next mid later Same
     may_end_all pairs safe within none file = record {
-      stays = λ still. ends_fewer begin was start later old m pairs (length pairs) safe within (carry still (λ s. Ends s pairs (length pairs)) file);
+      stays = λ still. ends_fewer begin was start later old m lines pairs (length pairs) safe within (carry still (λ s. Ends s pairs (length pairs)) file);
       kept = λ keeps. by keeps;
       fails = λ some leaves. absurd (some none);
     }

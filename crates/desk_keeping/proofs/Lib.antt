@@ -9,6 +9,7 @@ mod Settled
 mod Steps
 mod Hearing
 mod Leaving
+mod Whole
 mod Ending
 mod Broken
 mod Stopped

@@ -36,7 +36,8 @@ use Rattle.desk_opening.specs.declared.book.Book.{Book}
 use Rattle.desk_opening.specs.declared.book.Book.TheVariants.{Kept, Open}
 use Rattle.desk_opening.proofs.Along.{along_finds}
 use Rattle.desk_keeping.specs.Hosting.{Entries, desks_of}
-use Rattle.desk_keeping.specs.Private.{HostState, stored, IsOrdered, Appends, IsFileAt, IsAt, IsWithinLines, HasGone}
+use Rattle.desk_keeping.specs.Private.{HostState, stored, IsOrdered, Appends, IsFileAt, IsWholeAt, IsAt, IsWithinLines, HasGone}
+use Rattle.desk_keeping.proofs.Whole.{whole_gets}
 
 -- ---- a file at the start
 
@@ -140,6 +141,10 @@ file_first : (begin : Start) (start mid : DiskState) (b : Book) (market : Market
 file_first begin start mid (Kept place ahead) market after new = (refl, after)
 file_first begin start mid (Open place) market after new = appends_first begin place start mid [] [] market market after (inr new) refl (All-nil IsPair)
 
+whole_first : (begin : Start) (start mid : DiskState) (b : Book) (market : Market) → IsBookAfter begin b start mid [] market → IsWholeAt begin start [] b mid []
+whole_first begin start mid (Kept place ahead) market after = tt
+whole_first begin start mid (Open place) market after = whole_gets begin start [] place mid [] market after
+
 module _ (limit : ℕ) (start mid : DiskState) (market : Market) (b : Book) (window : WindowState) (content rest : Option (List ℕ)) (opened : HasOpened most_envelope limit start mid market b window content rest) where
   -- nothing was heard yet
   pub at_begin : (out : Output) → CountsAccounts (first_host market b).session → IsAt opened.begin start out [] (first_host market b) mid out
@@ -155,6 +160,7 @@ module _ (limit : ℕ) (start mid : DiskState) (market : Market) (b : Book) (win
     parts = refl;
     group = refl;
     file = file_first opened.begin start mid b market opened.file opened.only_new;
+    whole = whole_first opened.begin start mid b market opened.file;
     all_told = refl;
     order = omega arith;
     gone = [];

@@ -8,10 +8,11 @@ use Rattle.flow_orders.specs.Outcomes.{IsAdmissibleOutcome}
 use Rattle.line_records.specs.Lines.{HasNoFeed}
 use Rattle.market_rules.specs.Market.{Market}
 use Rattle.market_history.specs.Histories.{Start, market_of}
-use Rattle.disk_edge.specs.Disks.{DiskState, IsDisk}
+use Rattle.disk_edge.specs.Disks.{DiskState, IsDisk, AtEachMoment}
 use Rattle.journal_disk.specs.Entries.{IsNewDisk, most_unkept}
 use Rattle.journal_disk.specs.Looking.{OnlyLooks}
 use Rattle.journal_keeping.specs.Keeping.{IsKeptJournal, HoldsLegal, Runs}
+use Rattle.journal_keeping.specs.Beginning.{WhileOpening}
 use Rattle.journal_keeping.specs.Openings.{IsOpening}
 use Rattle.journal_keeping.specs.Openings as opening
 use Rattle.journal_keeping.specs.Outputs.{Output}
@@ -36,6 +37,7 @@ use Rattle.desk_keeping.specs.Hosting.{Entries, desks_of, AreFirstHosted, HasFir
 use Rattle.desk_keeping.specs.Private.{IsLeftAlone}
 use Rattle.desk_keeping.proofs.KeepingNone.{none_continued, looked_alone}
 use Rattle.desk_keeping.proofs.Leaving.{continued_old}
+use Rattle.desk_keeping.proofs.Whole.{whole_opened}
 use Rattle.desk_keeping.proofs.Ending.{AreFirst, begins_as}
 
 -- what was taken of an input whose bytes are known
@@ -63,8 +65,8 @@ begins_input limit content left begin (starts, taken, takes, few) = of_known con
 module _ (limit : ℕ) (content : Option (List ℕ)) (was : Start) (first : DiskState) (old : Entries) (m : Market) (holds : HoldsLegal first was old m) (now : DiskState) (is_disk : IsDisk now) (out : Output) where
   -- no line was heard, and nothing was added
   hosts_none : (Cut : Type 0) (begin : Start) (from : Market) → ((begin ≡ was) × (from ≡ m)) ⊎ (IfSome first.content IsNewDisk × (from ≡ market_of begin) × AreFirst limit content begin []) → Runs most_unkept begin first now old from [] 0
-      → HostsIn limit content Cut was first now old m out out
-  hosts_none Cut begin from continues runs =
+      → AtEachMoment first now (WhileOpening begin first old) → HostsIn limit content Cut was first now old m out out
+  hosts_none Cut begin from continues runs opens =
       let none : AreFirstHosted begin [] [] [] = first_all IsAdmissibleOutcome (market_of begin) (market_of begin) (desks_of begin) (desks_of begin) 0 [] [] [] [] (refl, refl, refl, refl) in
       record {
         begin = begin;
@@ -78,6 +80,7 @@ module _ (limit : ℕ) (content : Option (List ℕ)) (was : Start) (first : Disk
         pairs = [];
         texts = [];
         asked = none;
+        whole = whole_opened begin first [] now old opens;
         parts = inr (refl, old, refl);
         count = 0;
         within = omega arith;
@@ -89,7 +92,7 @@ module _ (limit : ℕ) (content : Option (List ℕ)) (was : Start) (first : Disk
 
   -- the file was only looked at
   hosts_looked : (Cut : Type 0) → OnlyLooks first now → HostsIn limit content Cut was first now old m out out
-  hosts_looked Cut looks = hosts_none Cut was m (inl (refl, refl)) (unbegun was most_unkept first now old m holds.journal is_disk (looks_alone was old first now looks))
+  hosts_looked Cut looks = hosts_none Cut was m (inl (refl, refl)) (unbegun was most_unkept first now old m holds.journal is_disk (looks_alone was old first now looks)) (looks_alone was old first now looks)
 
   -- a new file was being made
   hosts_making : (Cut : Type 0) (begin : Start) (rest : Option (List ℕ)) → TakesBeginning limit begin content rest → WasMaking begin first now → HostsIn limit content Cut was first now old m out out
@@ -98,7 +101,7 @@ module _ (limit : ℕ) (content : Option (List ℕ)) (was : Start) (first : Disk
       let none = new_again first was old m holds holds.bytes holds.told is_new.0 in
       let journal : IsKeptJournal begin old (market_of begin) = subst (λ (l : Entries). IsKeptJournal begin l (market_of begin)) (sym none) (none_read begin (market_of begin) takes.0 refl) in
       hosts_none Cut begin (market_of begin) (inr (subst (λ (o : Option (List ℕ)). IfSome o IsNewDisk) (sym holds.told) is_new.0, refl, begins_input limit content rest begin takes))
-      (unbegun begin most_unkept first now old (market_of begin) journal is_disk (making.moments was old m holds))
+      (unbegun begin most_unkept first now old (market_of begin) journal is_disk (making.moments was old m holds)) (making.moments was old m holds)
 
   -- the file and the input weren't opened
   pub hosts_not_opened : (Cut : Type 0) (rest : Option (List ℕ)) (fault : StartFault) → HasNotOpened limit first now content rest fault → HostsIn limit content Cut was first now old m out out
@@ -118,7 +121,7 @@ module _ (limit : ℕ) (content : Option (List ℕ)) (was : Start) (first : Disk
           let journal : IsKeptJournal opened.begin old market = subst (λ (l : Entries). IsKeptJournal opened.begin l market) (sym is.0) gets.journal in
           let few : length (bytes_before opened.begin ++ window.held) ≤ limit = omega (arith, length-append (bytes_before opened.begin) window.held, opened.place, opened.is_open.within, opened.limited) in
           let begins = begins_input limit content rest opened.begin (opened.starts, window.held, opened.takes, few) in
-          hosts_none Cut opened.begin market (begins_as limit content opened.begin was first market m begins is.1) (unbegun opened.begin most_unkept first now old market journal is_disk (gets.moments was old m holds))
+          hosts_none Cut opened.begin market (begins_as limit content opened.begin was first market m begins is.1) (unbegun opened.begin most_unkept first now old market journal is_disk (gets.moments was old m holds)) (gets.moments was old m holds)
 
 -- ---- a file that keeps no valid journal
 

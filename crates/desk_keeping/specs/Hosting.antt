@@ -14,14 +14,15 @@ use Rattle.market_history.specs.Histories.{Start, market_of, CanStart}
 use Rattle.batch_audit.specs.Legal.{IsIllegalPair}
 use Rattle.line_records.specs.Lines.{HasNoFeed, ended_by_feeds}
 use Rattle.word_driver.specs.Does.{IsTaken}
-use Rattle.disk_edge.specs.Disks.{DiskState}
-use Rattle.disk_edge.specs.Images.{LeavesOnly}
+use Rattle.disk_edge.specs.Disks.{DiskState, AtEachMoment}
+use Rattle.disk_edge.specs.Images.{Images, LeavesOnly}
 use Rattle.journal_disk.specs.Pairs.{RecordPair}
 use Rattle.journal_disk.specs.Entries.{IsNewDisk, most_unkept}
 use Rattle.journal_disk.specs.Looking.{OnlyLooks}
 use Rattle.journal_disk.specs.Recovering.{IsForeign}
 use Rattle.journal_disk.specs.Stepping.{HasEntryAt, IsDamagedAt}
-use Rattle.journal_keeping.specs.Keeping.{Runs, KeepsFirst}
+use Rattle.journal_keeping.specs.Keeping.{Runs, StandsForJournal, KeepsFirst}
+use Rattle.journal_keeping.specs.Beginning.{WhileOpening}
 use Rattle.journal_keeping.specs.Openings.{BeginsLegal, IsOpening}
 use Rattle.journal_keeping.specs.Openings as opening
 use Rattle.journal_keeping.specs.Outputs.{Output, Gains}
@@ -220,9 +221,20 @@ IsOfFile (Err fault) = ⊥
 
 -- ---- a crash at any moment
 
+-- these are all entries that the first of these lines ask for
+abbrev pub AreOfWholeLines : Start → List (List ℕ) → Entries → Type 0
+AreOfWholeLines begin lines pairs =
+    (done : List (List ℕ)) × (rest : List (List ℕ)) × (lines ≡ done ++ rest) × (texts : Texts) × (market : Market) × (desks : Desks) × AreHosted begin done pairs texts market desks
+
+-- what a crash leaves while entries are kept a line at a time: what it may leave while the file is opened, or all entries of the first of these lines
+abbrev pub LeavesWholeLines : Start → List (List ℕ) → DiskState → Entries → Images
+LeavesWholeLines begin lines start old image =
+    WhileOpening begin start old image ⊎ ((all : Entries) × AreOfWholeLines begin lines all × StandsForJournal begin all image)
+
 -- What a call does to a file with these old entries of a valid journal, and to its output. A new file begins as the input does. The entries that the first
 -- lines of the input ask for are the old ones and then the new ones, or only the first of the old ones, and then nothing was added. A crash leaves the old
--- ones and a first part of the new ones (`runs`): those that are acknowledged, and of the others, which were kept together, all or none. What was written are
+-- ones and a first part of the new ones (`runs`): those that are acknowledged, and of the others, which were kept together, all or none. At each moment it
+-- leaves of a line all new entries, or none (`whole`). What was written are
 -- the answers of lines whose entries are acknowledged. The entries of these lines, old ones too, are `count` at most, and a crash after the call leaves all of
 -- them (`durable`).
 pub record HostsIn (limit : ℕ) (content : Option (List ℕ)) (Cut : Type 0) (was : Start) (start end : DiskState) (old : Entries) (market : Market) (out later : Output) : Type 0 where
@@ -238,6 +250,7 @@ pub record HostsIn (limit : ℕ) (content : Option (List ℕ)) (Cut : Type 0) (w
   pub pairs : Entries
   pub texts : Texts
   pub asked : AreFirstHosted begin lines pairs texts
+  pub whole : AtEachMoment start end (LeavesWholeLines begin lines start old)
   pub parts : (pairs ≡ old ++ new) ⊎ ((new ≡ []) × (others : Entries) × (old ≡ pairs ++ others))
   pub count : ℕ
   pub within : count ≤ length old + acknowledged

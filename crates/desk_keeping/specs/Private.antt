@@ -29,7 +29,7 @@ use Rattle.desk_session.specs.Lines.{AreServed, IsLineServed, IsLineBegun}
 use Rattle.desk_opening.specs.Books.{IsReadAlong, GetsMore, Continues, AddsTo, LeavesWithOrWithout}
 use Rattle.desk_opening.specs.declared.book.Book.{Book}
 use Rattle.desk_opening.specs.declared.book.Book.TheVariants.{Kept, Open}
-use Rattle.desk_keeping.specs.Hosting.{Entries, Texts, AreHosted, IsEntryInvalid, IsEntryOther}
+use Rattle.desk_keeping.specs.Hosting.{Entries, Texts, AreHosted, AreOfWholeLines, LeavesWholeLines, IsEntryInvalid, IsEntryOther}
 use Rattle.desk_keeping.specs.declared.fault.HostFault.{HostFault}
 use Rattle.desk_keeping.specs.declared.fault.HostFault.TheVariants.{Write, Disk, Memory, Damaged, Rejected, Differs}
 use Rattle.flow_io.specs.Streams.{Takes}
@@ -413,6 +413,16 @@ abbrev pub IsFileAt : Start → DiskState → Book → DiskState → (safe waiti
 IsFileAt begin start (Kept place ahead) now safe waiting market = (waiting ≡ []) × IsReadAlong begin place ahead start now safe market
 IsFileAt begin start (Open place) now safe waiting market = Appends begin start place now safe waiting market
 
+-- these entries are the old ones of a valid journal, or all of the first of these lines
+abbrev pub AreWhole : Start → List (List ℕ) → (legal all : Entries) → Type 0
+AreWhole begin read legal all = (all ≡ legal) ⊎ AreOfWholeLines begin read all
+
+-- of a file that gets more: at each moment since the start a crash left of each of these lines all new entries or none, and the file has such entries
+abbrev pub IsWholeAt : Start → DiskState → (read : List (List ℕ)) → Book → DiskState → (safe : Entries) → Type 0
+IsWholeAt begin start read (Kept place ahead) now safe = ⊤
+IsWholeAt begin start read (Open place) now safe =
+    (was : Start) (legal : Entries) (m : Market) → HoldsLegal start was legal m → AtEachMoment start now (LeavesWholeLines begin read start legal) × AreWhole begin read legal safe
+
 -- The first of these lines were answered with these texts, and their entries are among the first ones of the file.
 abbrev pub AreToldOf : Start → (read : List (List ℕ)) → (gone : Texts) → (safe : Entries) → Type 0
 AreToldOf begin read gone safe =
@@ -432,6 +442,7 @@ pub record IsAt (begin : Start) (start : DiskState) (first : Output) (read : Lis
   pub parts : pairs ≡ safe ++ waiting
   pub group : h.group ≡ stored waiting
   pub file : IsFileAt begin start h.book now safe waiting h.session.market
+  pub whole : IsWholeAt begin start read h.book now safe
   pub all_told : h.told ≡ length h.session.talk.texts
   pub order : h.written ≤ h.told
   pub gone : Texts

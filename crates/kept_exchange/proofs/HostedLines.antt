@@ -90,6 +90,7 @@ hosts_wider limit content Cut Wider was start end old market out later wider h =
   pairs = h.pairs;
   texts = h.texts;
   asked = h.asked;
+  whole = h.whole;
   parts = h.parts;
   count = h.count;
   within = h.within;
