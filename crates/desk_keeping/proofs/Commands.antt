@@ -29,7 +29,8 @@ use Rattle.desk_opening.specs.Openings.{place_of}
 use Rattle.desk_keeping.specs.Hosting.{Entries, Texts}
 use Rattle.desk_keeping.specs.declared.fault.HostFault.{HostFault}
 use Rattle.desk_keeping.specs.declared.fault.HostFault.TheVariants as host
-use Rattle.desk_keeping.specs.Private.{HostState, stored, ReadsOn, CanRead, FileGoes, LeavesFile, StaysAside, AnswersOne, StopsAt, WhyNot, BreaksOne, AnswersAll, StopsAmong, BreaksAll}
+use Rattle.desk_keeping.specs.Private.{HostState, stored, ReadsOn, CanRead, FileGoes, MakesAtEnd, LeavesFile, StaysAside, AnswersOne, StopsAt, WhyNot, BreaksOne, AnswersAll, StopsAmong, BreaksAll}
+use Rattle.desk_keeping.proofs.KeepingNone.{none_continued, alone_later}
 use Rattle.desk_keeping.proofs.Files.{moved, along_now, goes_none, goes_more, in_order}
 
 -- the first elements, and one more
@@ -61,6 +62,20 @@ along_looks begin place ahead start mid now pairs market along looks = record {
       (λ bytes h. (h.0, looks_hold (head_of begin) (map records_of pairs) place h.0 mid now h.1 looks)) along.holds);
 }
 
+-- ---- a book that is read to its end
+
+-- if nothing was done, it wasn't
+pub end_none : (b : Book) → MakesAtEnd b b []
+end_none (Kept place ahead) = tt
+end_none (Open place) = tt
+
+-- by two calls, by one of them
+end_more : (disk mid now : DiskState) (One Two : Type 0) (m n k : Market) (t v : Entries) (b c d : Book) (u w : Entries) → FileGoes b c disk mid One m t u n → FileGoes c d mid now Two n v w k → MakesAtEnd b c u → MakesAtEnd c d w → MakesAtEnd b d (u ++ w)
+end_more disk mid now One Two m n k t v (Open p) c d u w one two first more = tt
+end_more disk mid now One Two m n k t v (Kept p a) c (Kept r e) u w one two first more = tt
+end_more disk mid now One Two m n k t v (Kept p a) (Kept q b) (Open r) u w one two first more = omega (arith, more, length-append u w)
+end_more disk mid now One Two m n k t v (Kept p a) (Open q) (Open r) u w one two first more = omega (arith, first, length-append u w)
+
 -- ---- those that were answered
 
 pub all_none : (sender : Recipient) (line : ℕ) (h : HostState) (disk : DiskState) (Same : Type 0) → Same → AnswersAll sender line [] h h disk disk Same
@@ -72,6 +87,7 @@ all_none sender line h disk Same same = record {
   said = sym (append-nil h.session.talk.texts);
   entries = omega arith;
   goes = goes_none h.book disk Same h.session.market same;
+  more = end_none h.book;
   fresh = sym (append-nil h.fresh);
   aside = record { group = refl; told = refl; written = refl };
 }
@@ -92,6 +108,7 @@ module _ (sender : Recipient) (line : ℕ) (commands : List Command) (h m : Host
         said = more.2 ∙ ap (λ (l : Texts). l ++ more.0 ∷ []) all.said ∙ append_assoc h.session.talk.texts all.texts (more.0 ∷ []);
         entries = omega (arith, one.answers.counted, all.entries, ap length entries, length-append (all.taken ++ all.made) (one.pair ∷ []));
         goes = goes_more disk mid now is_disk h.session.market m.session.market One Two Both both carry n.session.market all.taken all.made one.taken one.made h.book m.book n.book all.goes one.goes;
+        more = end_more disk mid now One Two h.session.market m.session.market n.session.market all.taken one.taken h.book m.book n.book all.made one.made all.goes one.goes all.more one.more;
         fresh = one.fresh ∙ ap (λ (l : List ℕ). l ++ stored one.made) all.fresh ∙ append_assoc h.fresh (stored all.made) (stored one.made) ∙ ap (λ (l : List ℕ). h.fresh ++ l) (sym (stored_more all.made one.made));
         aside = aside_more h m n all.aside one.aside;
       }
@@ -103,10 +120,16 @@ module _ (sender : Recipient) (line : ℕ) (commands : List Command) (h m : Host
   leaves_more now Two Both is_disk both carry leaves = by_books h.book m.book all.goes leaves
     where
       by_books : (b c : Book) → FileGoes b c disk mid One h.session.market all.taken all.made m.session.market → LeavesFile c mid now Two m.session.market → LeavesFile b disk now Both h.session.market
-      by_books (Kept p a) (Kept q d) goes left = λ begin pairs along was legal k holds.
+      by_books (Kept p a) (Kept q d) goes left = λ begin pairs along.
           let to_mid = goes.1 begin pairs along in
-          looks_first begin legal disk mid now to_mid.looks (left begin (pairs ++ all.taken) (along_now begin q d disk mid (pairs ++ all.taken) m.session.market is_disk to_mid) was legal k (looked_legal was legal k disk mid holds to_mid.looks))
-      by_books (Kept p a) (Open q) goes left = λ begin pairs along was legal k holds. carry left (λ s. AtEachMoment disk s (WhileOpening begin disk legal)) ((goes.1 begin pairs along).moments was legal k holds)
+          let from_mid = left begin (pairs ++ all.taken) (along_now begin q d disk mid (pairs ++ all.taken) m.session.market is_disk to_mid) in (
+            (λ was legal k holds. looks_first begin legal disk mid now to_mid.looks (from_mid.0 was legal k (looked_legal was legal k disk mid holds to_mid.looks))),
+            alone_later disk mid now to_mid.looks from_mid.1,
+          )
+      by_books (Kept p a) (Open q) goes left = λ begin pairs along. (
+        (λ was legal k holds. carry left (λ s. AtEachMoment disk s (WhileOpening begin disk legal)) ((goes.1 begin pairs along).moments was legal k holds)),
+        none_continued disk.content begin (pairs ++ all.taken) goes.0 (OnlyLooks disk now) (goes.1 begin pairs along).continues,
+      )
       by_books (Open p) (Open q) goes left = both goes.2 left
       by_books (Open p) (Kept q d) goes left = absurd goes
 

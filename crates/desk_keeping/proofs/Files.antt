@@ -19,6 +19,7 @@ use Rattle.disk_edge.specs.Disks.{DiskState, IsDisk}
 use Rattle.journal_disk.specs.Ahead.{AheadState}
 use Rattle.journal_disk.specs.Entries.{IsNewDisk, Keeps}
 use Rattle.journal_disk.specs.Recovering.{IsForeign}
+use Rattle.journal_disk.specs.Looking.{OnlyLooks}
 use Rattle.journal_disk.proofs.GoingOn.{looks_more, looks_none}
 use Rattle.journal_keeping.specs.Starts.{head_of}
 use Rattle.journal_keeping.proofs.Begun.{looks_first, looked_legal}
@@ -28,6 +29,7 @@ use Rattle.desk_opening.specs.declared.book.Book.{Book}
 use Rattle.desk_opening.specs.declared.book.Book.TheVariants.{Kept, Open}
 use Rattle.desk_keeping.specs.Hosting.{Entries}
 use Rattle.desk_keeping.specs.Private.{ReadsOn, ReadsUp, CanRead, FileGoes, LeavesFile, IsOpen}
+use Rattle.desk_keeping.proofs.KeepingNone.{none_continued}
 
 -- what is known of a content is known of the same content
 pub moved : (content now : Option (List ℕ)) (P : List ℕ → Type 0) → now ≡ content → IfSome content P → IfSome now P
@@ -146,7 +148,10 @@ reads_next (Open p) (Kept q c) disk now Same m k taken made is_disk can goes = a
 
 -- what a crash leaves of a file that has no more entries
 pub leaves_goes : (b n : Book) (disk now : DiskState) (Same : Type 0) (m k : Market) (taken made : Entries) → IsOpen n → FileGoes b n disk now Same m taken made k → LeavesFile b disk now Same m
-leaves_goes (Kept p a) (Open q) disk now Same m k taken made opens goes = λ begin pairs along was legal r holds. (goes.1 begin pairs along).moments was legal r holds
+leaves_goes (Kept p a) (Open q) disk now Same m k taken made opens goes = λ begin pairs along. (
+  (λ was legal r holds. (goes.1 begin pairs along).moments was legal r holds),
+  none_continued disk.content begin (pairs ++ taken) goes.0 (OnlyLooks disk now) (goes.1 begin pairs along).continues,
+)
 leaves_goes (Open p) (Open q) disk now Same m k taken made opens goes = goes.2
 leaves_goes (Kept p a) (Kept q c) disk now Same m k taken made opens goes = absurd opens
 leaves_goes (Open p) (Kept q c) disk now Same m k taken made opens goes = absurd opens

@@ -21,7 +21,7 @@ use Rattle.desk_keeping.specs.declared.fault.HostFault.{HostFault}
 use Rattle.desk_keeping.specs.declared.fault.HostFault.TheVariants as host
 use Rattle.desk_keeping.specs.Private.{HostState, stored, CanRead, FileGoes, LeavesFile, AnswersAll, AnswersOne, StopsAmong, BreaksOne, BreaksAll, WhyNot, HearsLine, StopsWithin, BreaksLine}
 use Rattle.desk_keeping.proofs.Files.{goes_none}
-use Rattle.desk_keeping.proofs.Commands.{all_none, all_more, breaks_more}
+use Rattle.desk_keeping.proofs.Commands.{end_none, all_none, all_more, breaks_more}
 
 -- ---- a line without commands
 
@@ -37,6 +37,7 @@ hears_none line h s disk Same same empty (texts, served, said, entries) =
       said = said;
       entries = omega (arith, entries);
       goes = subst (λ (k : Market). FileGoes h.book h.book disk disk Same h.session.market [] [] k) (sym still) (goes_none h.book disk Same h.session.market same);
+      more = end_none h.book;
       fresh = empty;
       aside = record { group = refl; told = refl; written = refl };
     }
@@ -71,6 +72,7 @@ module _ (line : List ℕ) (h : HostState) (s : State) (sender : Recipient) (num
       said = all.said ∙ ap (λ (t : Texts). t ++ all.texts) (ap (λ (t : Talk). t.texts) asks.talk);
       entries = all.entries ∙ ap (λ (x : ℕ). x + length (all.taken ++ all.made)) asks.entries;
       goes = subst (λ (m : Market). FileGoes h.book n.book disk now Same m all.taken all.made n.session.market) asks.market all.goes;
+      more = all.more;
       fresh = all.fresh ∙ ap (λ (l : List ℕ). l ++ stored all.made) empty;
       aside = record { group = all.aside.group; told = all.aside.told; written = all.aside.written };
     }

@@ -1,27 +1,32 @@
 -- What became of the file where hosting ended: it was read along only, or keeps entries, and others waited.
-use Rattle.std.proofs.Common.{◌≡◌, ◌⊎◌, inl, inr, ℕ, ◌+◌, ◌≤◌, List, [], ◌∷◌, ◌++◌, Option, Some, None, IfSome, IsSome, length, length-append, map, take, drop, refl, sym, ap, subst, ◌∙◌, arith, append_assoc}
+use Rattle.std.proofs.Common.{◌≡◌, ◌⊎◌, inl, inr, ℕ, ◌+◌, ◌<◌, ◌≤◌, List, [], ◌∷◌, ◌++◌, Option, Some, None, IfSome, IsSome, length, length-append, map, take, drop, refl, sym, ap, subst, ◌∙◌, arith, append_assoc}
 use Rattle.std.specs.Prelude.{All}
-use Rattle.std.proofs.lemmas.List.{map-append, take-map, take-append-drop}
+use Rattle.std.proofs.lemmas.List.{append-nil, map-append, take-map, take-append-drop}
 use Rattle.std.proofs.lemmas.List.Elements.{All-nil}
 use Rattle.std.proofs.Math.Seq.{take-append_seam}
 use Rattle.wire_records.specs.Versions.{IsReadAs}
 use Rattle.wire_records.proofs.Readings.{reading_unique}
 use Rattle.canonical_rule.specs.Canonical.{IsCanonicalOutcome}
+use Rattle.wire_records.specs.Commands.{Pair}
+use Rattle.wire_records.specs.Records.{Record}
+use Rattle.flow_orders.specs.Outcomes.{Outcome}
 use Rattle.journal_records.specs.Pairs.{IsPair}
 use Rattle.journal_records.specs.Formats.{records_of}
 use Rattle.market_rules.specs.Market.{Market}
 use Rattle.market_rules.proofs.OneJournal.{follows-append}
 use Rattle.market_history.specs.Histories.{Start, Empty, market_of}
 use Rattle.disk_edge.specs.Disks.{DiskState, IsDisk, AtEachMoment}
-use Rattle.disk_edge.proofs.Moments.{no_call}
+use Rattle.disk_edge.proofs.Moments.{no_call, at_the_end, weaker}
 use Rattle.journal_disk.specs.Pairs.{RecordPair}
-use Rattle.journal_disk.specs.Entries.{Head, entries, IsNewDisk, HasEntries, WithOrWithout, Holds, Keeps, most_unkept}
+use Rattle.journal_disk.specs.Entries.{Head, entries, IsNewDisk, HasEntries, StandsFor, WithOrWithout, Holds, Keeps, most_unkept}
 use Rattle.journal_disk.specs.Recovering.{IsForeign}
 use Rattle.journal_disk.specs.Ahead.{AheadState}
 use Rattle.journal_disk.proofs.Excluding.{prefix_of}
 use Rattle.journal_keeping.specs.Starts.{head_of}
-use Rattle.journal_keeping.specs.Keeping.{IsKeptJournal, HoldsLegal, GoesOn, DuringCall, Runs}
+use Rattle.journal_keeping.specs.Keeping.{IsKeptJournal, StandsForJournal, KeepsFirst, HoldsLegal, GoesOn, DuringCall, Runs}
 use Rattle.journal_keeping.specs.Beginning.{WhileOpening, HasFirst}
+use Rattle.journal_keeping.specs.Openings.{IsOpening}
+use Rattle.journal_keeping.specs.Openings as opening
 use Rattle.journal_keeping.specs.Serving.{HasKept}
 use Rattle.journal_keeping.specs.Private.{KeepsMore}
 use Rattle.journal_keeping.proofs.Beginnings.{IsBare, begin_alike, bare_new}
@@ -32,18 +37,29 @@ use Rattle.journal_keeping.proofs.Serving.{kept_stands, goes_more, failed, kept_
 use Rattle.journal_keeping.proofs.Adding.{runs_after, kept_both}
 use Rattle.desk_opening.specs.Books.{IsReadAlong, Continues}
 use Rattle.desk_opening.specs.Openings.{BeginsAlone}
-use Rattle.desk_keeping.specs.Hosting.{Entries}
+use Rattle.desk_keeping.specs.Hosting.{Entries, LeavesWholeLines}
 use Rattle.desk_keeping.specs.Private.{stored, Appends}
 
--- What became of a file that held these old entries: lines asked for these, of which the first `safe` are in the file.
-pub record EndsFile (begin was : Start) (start end : DiskState) (old : Entries) (market : Market) (pairs : Entries) (safe : ℕ) : Type 0 where
+-- What became of a file that held these old entries: these lines asked for these, of which the first `safe` are in the file.
+pub record EndsFile (begin was : Start) (start end : DiskState) (old : Entries) (market : Market) (lines : List (List ℕ)) (pairs : Entries) (safe : ℕ) : Type 0 where
   pub from : Market
   pub continues : ((begin ≡ was) × (from ≡ market)) ⊎ (IfSome start.content IsNewDisk × (from ≡ market_of begin))
   pub new : Entries
   pub acknowledged : ℕ
   pub runs : Runs most_unkept begin start end old from new acknowledged
+  pub whole : AtEachMoment start end (LeavesWholeLines begin lines start old)
   pub parts : (pairs ≡ old ++ new) ⊎ ((new ≡ []) × (others : Entries) × (old ≡ pairs ++ others))
   pub within : safe ≤ length old + acknowledged
+  pub durable : (image : List ℕ) → end.images image → KeepsFirst begin [] (old ++ new) safe (length (old ++ new)) image
+
+-- these are the first of all entries
+kept_first : (begin : Start) (all first rest : Entries) (safe : ℕ) (image : List ℕ) → all ≡ first ++ rest → safe ≤ length first → StandsForJournal begin first image → KeepsFirst begin [] all safe (length all) image
+kept_first begin all first rest safe image is few stands = (
+  length first,
+  few,
+  omega (arith, ap length is, length-append first rest),
+  subst (λ (l : Entries). StandsForJournal begin l image) (sym (ap (take (length first)) is ∙ take-append_seam first rest)) stands,
+)
 
 -- what follows if a content is known
 over : (o : Option (List ℕ)) (P Q : Type 0) → (P → Q) → IfSome o (λ _. P) → IfSome o (λ _. Q)
@@ -111,9 +127,17 @@ module _ (begin was : Start) (start : DiskState) (old : Entries) (m : Market) (h
           let same = one_kept begin safe market along.journal (take count old) legal.0 (subst (λ (b : Start). IsKeptJournal b (take count old) legal.0) (sym same_begin) legal.1) alike in
           (drop count old, sym (take-append-drop count old) ∙ ap (λ (l : Entries). l ++ drop count old) (sym same.0))
 
+      -- what a crash leaves is what it kept
+      kept_whole : (image : List ℕ) → WhileOpening begin now old image → StandsForJournal begin old image
+      kept_whole image (inl left) =
+          let same : image ≡ holds.bytes = held_now.1.durable image left ∙ sym encoded in
+          subst (λ (b : Start). StandsForJournal b old image) (sym same_begin) (subst (StandsForJournal was old) (sym same) holds.stands)
+      kept_whole image (inr (inl stands)) = stands
+      kept_whole image (inr (inr (still, new))) = absurd (is_known.0 (subst (λ (o : Option (List ℕ)). IfSome o IsNewDisk) told_now still))
+
       -- and what it kept is all that a crash leaves
-      pub along_ends : (later : DiskState) → IsDisk later → AtEachMoment now later (WhileOpening begin now old) → EndsFile begin was start later old m safe (length safe)
-      along_ends later is_disk moments =
+      pub along_ends : (lines : List (List ℕ)) (later : DiskState) → IsDisk later → AtEachMoment now later (WhileOpening begin now old) → EndsFile begin was start later old m lines safe (length safe)
+      along_ends lines later is_disk moments =
           let (others, parts) = old_parts in
           record {
             from = m;
@@ -121,8 +145,10 @@ module _ (begin was : Start) (start : DiskState) (old : Entries) (m : Market) (h
             new = [];
             acknowledged = 0;
             runs = unbegun begin most_unkept start later old m (subst (λ (b : Start). IsKeptJournal b old m) (sym same_begin) holds.journal) is_disk (looks_first begin old start now later along.looks moments);
+            whole = weaker start later (WhileOpening begin start old) (LeavesWholeLines begin lines start old) (λ image left. inl left) (looks_first begin old start now later along.looks moments);
             parts = inr (refl, others, parts);
             within = omega (arith, ap length parts, length-append safe others);
+            durable = λ image left. kept_first begin (old ++ []) old [] (length safe) image refl (omega (arith, ap length parts, length-append safe others)) (kept_whole image (at_the_end now later (WhileOpening begin now old) is_disk moments image left));
           }
 
   -- ---- a file that gets more
@@ -135,9 +161,9 @@ module _ (begin was : Start) (start : DiskState) (old : Entries) (m : Market) (h
     kept_now = record { goes_on = file.goes_on; keeps = keeps_now; during = file.during was old m holds }
 
     -- what a crash leaves if the entries that wait are kept, or not
-    pub open_ends : (later : DiskState) → IsDisk later → length waiting ≤ most_unkept → AtEachMoment now later (WithOrWithout (head_of begin) (map records_of (file.old ++ file.kept)) (map records_of waiting))
-        → EndsFile begin was start later old m (safe ++ waiting) (length safe)
-    open_ends later is_disk few moments =
+    pub open_ends : (lines : List (List ℕ)) (later : DiskState) → IsDisk later → AtEachMoment start later (LeavesWholeLines begin lines start old) → length waiting ≤ most_unkept → AtEachMoment now later (WithOrWithout (head_of begin) (map records_of (file.old ++ file.kept)) (map records_of waiting))
+        → EndsFile begin was start later old m lines (safe ++ waiting) (length safe)
+    open_ends lines later is_disk whole few moments =
         let is = continued_old file.old file.opened file.continues in
         let more = failed begin (file.old ++ file.kept) waiting file.between market file.goes_on.journal file.fits file.steps now later moments most_unkept few is_disk in
         let runs = runs_after begin start now file.old file.kept file.opened file.between place kept_now waiting most_unkept later 0 more in
@@ -147,21 +173,53 @@ module _ (begin was : Start) (start : DiskState) (old : Entries) (m : Market) (h
           new = file.kept ++ waiting;
           acknowledged = length file.kept + 0;
           runs = subst (λ (l : Entries). Runs most_unkept begin start later l file.opened (file.kept ++ waiting) (length file.kept + 0)) (sym is.0) runs;
+          whole = whole;
           parts = inl (ap (λ (l : Entries). l ++ waiting) file.parts ∙ append_assoc file.old file.kept waiting ∙ ap (λ (l : Entries). l ++ (file.kept ++ waiting)) (sym is.0));
           within = omega (arith, ap length file.parts, length-append file.old file.kept, ap length is.0);
+          durable = λ image left.
+              either image is.0 (at_the_end now later (WithOrWithout (head_of begin) (map records_of (file.old ++ file.kept)) (map records_of waiting)) is_disk moments image left);
         }
+      where
+        all_are : old ≡ file.old → old ++ (file.kept ++ waiting) ≡ (file.old ++ file.kept) ++ waiting
+        all_are is = ap (λ (l : Entries). l ++ (file.kept ++ waiting)) is ∙ sym (append_assoc file.old file.kept waiting)
+
+        either : (image : List ℕ) → old ≡ file.old → WithOrWithout (head_of begin) (map records_of (file.old ++ file.kept)) (map records_of waiting) image
+            → KeepsFirst begin [] (old ++ (file.kept ++ waiting)) (length safe) (length (old ++ (file.kept ++ waiting))) image
+        either image is (inl stands) = kept_first begin (old ++ (file.kept ++ waiting)) (file.old ++ file.kept) waiting (length safe) image (all_are is) (omega (arith, ap length file.parts)) stands
+        either image is (inr stands) =
+            kept_first begin (old ++ (file.kept ++ waiting)) ((file.old ++ file.kept) ++ waiting) [] (length safe) image (all_are is ∙ sym (append-nil ((file.old ++ file.kept) ++ waiting)))
+            (omega (arith, ap length file.parts, length-append (file.old ++ file.kept) waiting)) (subst (λ (l : List RecordPair). StandsFor (head_of begin) l image) (sym (map-append records_of (file.old ++ file.kept) waiting)) stands)
 
     -- nothing was done since
-    pub open_stays : IsDisk now → length waiting ≤ most_unkept → EndsFile begin was start now old m (safe ++ waiting) (length safe)
-    open_stays is_disk few = open_ends now is_disk few (no_call now _ is_disk (λ image left. inl (kept_stands begin (map records_of (file.old ++ file.kept)) place now image keeps_now left)))
+    pub open_stays : (lines : List (List ℕ)) → IsDisk now → AtEachMoment start now (LeavesWholeLines begin lines start old) → length waiting ≤ most_unkept → EndsFile begin was start now old m lines (safe ++ waiting) (length safe)
+    open_stays lines is_disk whole few = open_ends lines now is_disk whole few (no_call now _ is_disk (λ image left. inl (kept_stands begin (map records_of (file.old ++ file.kept)) place now image keeps_now left)))
 
     -- the entries that wait weren't kept
-    pub open_fails : (group : List ℕ) (later : DiskState) → group ≡ stored waiting → IsDisk later → length waiting ≤ most_unkept
+    abbrev pub LeavesGroup : List ℕ → DiskState → Type 0
+    LeavesGroup group later =
+        (head : Head) (pairs : List RecordPair) (more : Entries) → Keeps head pairs place now → All IsPair more → group ≡ stored more → AtEachMoment now later (WithOrWithout head pairs (map records_of more))
+
+    open_moments : (w : Entries) (later : DiskState) → AtEachMoment now later (WithOrWithout (head_of begin) (map records_of (file.old ++ file.kept)) (map records_of w))
+        → AtEachMoment now later (WithOrWithout (head_of begin) (map records_of safe) (map records_of w))
+    open_moments w later moments = subst (λ (l : Entries). AtEachMoment now later (WithOrWithout (head_of begin) (map records_of l) (map records_of w))) (sym file.parts) moments
+
+    pub fails_moments : (group : List ℕ) (later : DiskState) → group ≡ stored waiting → LeavesGroup group later → AtEachMoment now later (WithOrWithout (head_of begin) (map records_of safe) (map records_of waiting))
+    fails_moments group later same leaves = open_moments waiting later (leaves (head_of begin) (map records_of (file.old ++ file.kept)) waiting keeps_now file.fits same)
+
+    pub kept_moments : (to : ℕ) (later : DiskState) (w : Entries) → KeepsMore w place to now later → AtEachMoment now later (WithOrWithout (head_of begin) (map records_of safe) (map records_of w))
+    kept_moments to later w more = open_moments w later (more.moments (head_of begin) (map records_of (file.old ++ file.kept)) keeps_now)
+
+    pub open_fails : (lines : List (List ℕ)) (group : List ℕ) (later : DiskState) → group ≡ stored waiting → IsDisk later → AtEachMoment start later (LeavesWholeLines begin lines start old) → length waiting ≤ most_unkept
         → ((head : Head) (pairs : List RecordPair) (more : Entries) → Keeps head pairs place now → All IsPair more → group ≡ stored more → AtEachMoment now later (WithOrWithout head pairs (map records_of more)))
-        → EndsFile begin was start later old m (safe ++ waiting) (length safe)
-    open_fails group later same is_disk few leaves = open_ends later is_disk few (leaves (head_of begin) (map records_of (file.old ++ file.kept)) waiting keeps_now file.fits same)
+        → EndsFile begin was start later old m lines (safe ++ waiting) (length safe)
+    open_fails lines group later same is_disk whole few leaves = open_ends lines later is_disk whole few (leaves (head_of begin) (map records_of (file.old ++ file.kept)) waiting keeps_now file.fits same)
 
 -- ---- the entries that waited were kept
+
+-- as many are kept then
+more_since : (kept waiting : Entries) (New : Type 0) → (0 < length kept + length waiting) ⊎ New → (0 < length (kept ++ waiting) + length {A = Pair Record Outcome} []) ⊎ New
+more_since kept waiting New (inl some) = inl (omega (arith, some, length-append kept waiting))
+more_since kept waiting New (inr new) = inr new
 
 module _ (begin : Start) (start : DiskState) (place : ℕ) (now : DiskState) (safe waiting : Entries) (market : Market) (file : Appends begin start place now safe waiting market) where
   goes_now : GoesOn begin (file.old ++ file.kept) file.between waiting market
@@ -200,6 +258,7 @@ module _ (begin : Start) (start : DiskState) (place : ℕ) (now : DiskState) (sa
       keeps = over start.content (IsKept place now (file.old ++ file.kept)) (IsKept to later (file.old ++ (file.kept ++ waiting))) keeps_more file.keeps;
       during = during_more;
       told = λ is. file.told (told is);
+      more = more_since file.kept waiting (IfSome start.content (λ held. IsOpening held opening.New)) file.more;
       steps = refl;
       fits = All-nil IsPair;
     }

@@ -1,3 +1,4 @@
+mod KeepingNone
 mod Files
 mod Serving
 mod Taking
@@ -8,11 +9,14 @@ mod Settled
 mod Steps
 mod Hearing
 mod Leaving
+mod Whole
 mod Ending
 mod Broken
 mod Stopped
+mod Untouched
 mod Unopened
 mod Reaching
+mod Telling
 mod Comes
 mod Passing
 mod Loop

@@ -28,7 +28,7 @@ use Rattle.wire_records.specs.Commands.{Command}
 use Rattle.desk_keeping.specs.Hosting.{Entries, HasFirstLines, HostsIn, ComesTo}
 use Rattle.desk_keeping.specs.declared.fault.HostFault.{HostFault}
 use Rattle.desk_keeping.specs.declared.fault.HostFault.TheVariants.{Read, Write, Disk, Memory, NotDisk, Damaged, Rejected, NotFlow, BadCheckpoint, TooLong, Differs}
-use Rattle.desk_keeping.specs.Private.{HostState, IsOrdered, CanRead, FileGoes, IsFileAt, HasGone, IsHosting, IsWithinLines, MaySettle, BreaksGroup, AnswersLong, HearsLine, BreaksLine, EndsLine, BreaksEnd, StopsHere, IsAtEntry, StopsWithin, WhyNot}
+use Rattle.desk_keeping.specs.Private.{HostState, IsLeftAlone, IsOrdered, CanRead, FileGoes, IsFileAt, HasGone, IsHosting, IsWithinLines, MaySettle, BreaksGroup, AnswersLong, HearsLine, BreaksLine, EndsLine, BreaksEnd, StopsHere, IsAtEntry, StopsWithin, WhyNot}
 use Rattle.desk_keeping.proofs.Files.{along_now}
 use Rattle.desk_keeping.proofs.Leaving.{Carries}
 use Rattle.desk_keeping.proofs.Ending.{AreFirst}
@@ -39,7 +39,8 @@ use Rattle.desk_keeping.proofs.Reaching.{are_first}
 use Rattle.desk_keeping.proofs.Passing.{gone_found, gone_long, gone_line, are_next}
 use Rattle.desk_keeping.proofs.Broken.{hosts_at, breaks_settle, breaks_end}
 use Rattle.desk_keeping.proofs.Stopped.{breaks_line}
-use Rattle.desk_keeping.proofs.Comes.{comes_ended, comes_limit, comes_unread, comes_stopped, comes_broken, comes_unended}
+use Rattle.desk_keeping.proofs.Untouched.{IsSpared, spared_alone, spared_group, spared_end, file_spared, heard_spared, line_spared}
+use Rattle.desk_keeping.proofs.Comes.{comes_ended, comes_limit, comes_unread, comes_stopped, comes_broken, comes_unended, comes_memory}
 
 -- as many line feeds as lines
 feeds_count : (lines : List (List ℕ)) → length lines ≤ length (ended_by_feeds lines)
@@ -55,11 +56,12 @@ pub same_result : (a b : HostFault) → ◌≡◌ {A = Result (Unit {0}) HostFau
 same_result a b e = cc
 
 module _ (limit : ℕ) (content : Option (List ℕ)) (start : DiskState) (first : Output) where
-  -- what the loop results in, in both regards
+  -- what the loop results in: what a crash leaves, what it comes to, and that a file without a valid journal was only looked at
   abbrev pub Results : DiskState → Output → Option (List ℕ) → Result (Unit {0}) HostFault → Type 0
   Results end last rest result =
       ((was : Start) (old : Entries) (m : Market) → HoldsLegal start was old m → HostsIn limit content (result ≡ Err Write) was start end old m first last)
-      × IfSome start.content (λ held. ComesTo limit held content rest end first last result)
+      × IfSome start.content (λ held. ComesTo limit held content rest start end first last result)
+      × IsLeftAlone start end
 
   -- before the first line
   pub hosting_begins : (mid : DiskState) (market : Market) (book : Book) (window : WindowState) (rest : Option (List ℕ)) → HasOpened most_envelope limit start mid market book window content rest → CountsAccounts (first_host market book).session
@@ -129,23 +131,31 @@ module _ (limit : ℕ) (content : Option (List ℕ)) (start : DiskState) (first 
     -- ---- the loop ends
 
     are : AreFirst limit content x.begin x.read
-    are = inr (are_first x.begin limit w content left x.read x.gone)
+    are = are_first x.begin limit w content left x.read x.gone
 
     few_waiting : length h.group ≤ most_unkept
     few_waiting = omega (arith, x.within.short)
+
+    spared : IsSpared start h.book h.group now
+    spared = file_spared start x.begin now x.at.safe x.at.waiting h.session.market h.book h.group x.at.group x.at.file
+
+    pub left_alone : IsLeftAlone start now
+    left_alone = spared_alone start h.book h.group now spared
 
     -- what waits wasn't kept, or not written
     pub settle_broken : (n : HostState) (later : DiskState) (after : Output) (Same : Type 0) (rest : Option (List ℕ)) (fault : HostFault) → IsDisk later → Carries Same now later → BreaksGroup fault h n now later out after Same → Results later after rest (Err fault)
     settle_broken n later after Same rest fault is_disk carry breaks = (
       λ was old m holds. breaks_settle limit content x.begin was start old m holds x.alone first x.read h now out x.at few_waiting are fault n later after Same is_disk carry (◌≡◌ {A = Result (Unit {0}) HostFault} (Err fault) (Err Write)) (λ is. ap (λ (f : HostFault). Err f) is) breaks,
-      always start.content _ (λ held told. comes_broken limit held content rest later first after h n now later out after Same fault breaks),
+      always start.content _ (λ held told. comes_broken x.begin start held told x.alone first x.read h now out x.at limit content rest are later after n Same fault breaks),
+      spared_group start h n now later Same carry spared out after fault breaks,
     )
 
     -- memory ran out, and nothing was done
     pub out_of_memory : (rest : Option (List ℕ)) → IsDisk now → Results now out rest (Err Memory)
     out_of_memory rest is_disk = (
       λ was old m holds. hosts_at limit content x.begin was start old m holds x.alone first x.read h now out x.at few_waiting are is_disk (◌≡◌ {A = Result (Unit {0}) HostFault} (Err Memory) (Err Write)),
-      always start.content _ (λ held told. tt),
+      always start.content _ (λ held told. comes_memory x.begin start held told x.alone first x.read h now out x.at limit content rest are),
+      left_alone,
     )
 
     module _ (none : h.group ≡ []) (written : drop h.written h.session.talk.texts ≡ []) (new : WindowState) (rest : Option (List ℕ)) (is_disk : IsDisk now) where
@@ -155,14 +165,15 @@ module _ (limit : ℕ) (content : Option (List ℕ)) (start : DiskState) (first 
       pub ended : (found : Next) → (found ≡ next.Last) ⊎ ((found ≡ next.LongLast) ⊎ (found ≡ next.End)) → FindsNextWithin most_envelope w new left rest found → Results now out rest (Ok tt)
       ended found which finds = (
         all_hosted (Ok tt),
-        always start.content _ (λ held told. comes_ended x.begin start held told first x.read h now out x.at limit w content left x.gone none written new rest found which finds),
+        always start.content _ (λ held told. comes_ended x.begin start held told x.alone first x.read h now out x.at limit w content left x.gone none written new rest found which finds),
+        left_alone,
       )
 
       pub limited : FindsNextWithin most_envelope w new left rest next.Limit → Results now out rest (Err TooLong)
-      limited finds = (all_hosted (Err TooLong), always start.content _ (λ held told. comes_limit x.begin start held told first x.read h now out x.at limit w content left x.gone none written new rest finds))
+      limited finds = (all_hosted (Err TooLong), always start.content _ (λ held told. comes_limit x.begin start held told x.alone first x.read h now out x.at limit w content left x.gone none written new rest finds), left_alone)
 
       pub unread : FindsNoFeed w left rest → Results now out rest (Err Read)
-      unread finds = (all_hosted (Err Read), always start.content _ (λ held told. comes_unread x.begin start held told first x.read h now out x.at limit w content left x.gone none written new rest finds))
+      unread finds = (all_hosted (Err Read), always start.content _ (λ held told. comes_unread x.begin start held told x.alone first x.read h now out x.at limit w content left x.gone none written new rest finds), left_alone)
 
     in_order_still : (line : List ℕ) (mid : HostState) (then : DiskState) (Why : (number : ℕ) → Market → List Command → (place : ℕ) → List ℕ → Type 0) → StopsWithin line h mid now then Why → IsOrdered mid
     in_order_still line mid then Why stops = (omega (arith, is_ordered.0, stops.aside.told, stops.aside.written), omega (arith, is_ordered.1, stops.aside.told, ap (λ (t : List (List ℕ)). length t) stops.said, length-append h.session.talk.texts stops.texts))
@@ -209,9 +220,10 @@ module _ (limit : ℕ) (content : Option (List ℕ)) (start : DiskState) (first 
         -- it wasn't heard to its end
         pub line_broken : (after : Output) (SameOut : Type 0) (fault result : HostFault) → (SameOut → (P : Output → Type 0) → P out → P after) → BreaksLine fault line h mid now then One → StopsHere fault result mid out after SameOut → Results then after rest (Err result)
         line_broken after SameOut fault result carry_out breaks stops = (
-          λ was old m holds. breaks_line limit content x.begin was start old m holds x.alone first x.read h now out x.at few_waiting are then is_disk is_then One one line (inr are_line) mid after SameOut carry_out fault result
+          λ was old m holds. breaks_line limit content x.begin was start old m holds x.alone first x.read h now out x.at few_waiting are then is_disk is_then One one line are_line mid after SameOut carry_out fault result
               (◌≡◌ {A = Result (Unit {0}) HostFault} (Err result) (Err Write)) (λ is. ap (λ (f : HostFault). Err f) is) breaks stops,
-          always start.content _ (λ held told. comes_stopped x.begin start held told first x.read h now out x.at limit content rest then is_disk line are_line mid One after SameOut fault result breaks stops),
+          always start.content _ (λ held told. comes_stopped x.begin start held told x.alone first x.read h now out x.at limit content rest then is_disk line are are_line mid One after SameOut carry_out fault result breaks stops),
+          line_spared start x.begin first x.read h now then out x.at is_disk line mid One fault breaks,
         )
 
         module _ (heard : HearsLine line h mid now then One) where
@@ -226,13 +238,17 @@ module _ (limit : ℕ) (content : Option (List ℕ)) (start : DiskState) (first 
               by_books (Open p) (Kept q d) file goes can = absurd goes
               by_books (Open p) (Open q) file goes can = subst (λ (l : List ℕ). CanKeep l (Open q) then) (sym heard.aside.group) (subst (λ (k : ℕ). CanKeep h.group (Open k) then) (sym goes.1) (one goes.2 (λ s. CanKeep h.group (Open p) s) can))
 
+          spared_mid : IsSpared start mid.book mid.group then
+          spared_mid = heard_spared start x.begin now x.at.safe x.at.waiting h.session.market is_disk then One h.book mid.book mid.group heard.taken heard.made mid.session.market (heard.aside.group ∙ x.at.group) x.at.file heard.goes
+
           module _ (n : HostState) (later : DiskState) (after : Output) (SameDisk SameOut : Type 0) (carry : Carries SameDisk then later) (carry_out : SameOut → (P : Output → Type 0) → P out → P after) where
             -- it wasn't ended
             pub unended : (fault : HostFault) → IsDisk later → BreaksEnd fault mid n then later out after SameDisk SameOut → Results later after rest (Err fault)
             unended fault is_later breaks = (
               λ was old m holds. breaks_end limit content x.begin was start old m holds x.alone first x.read h now out x.at few_waiting are then is_disk is_then One one line mid n heard later after SameDisk SameOut is_later carry carry_out fault
                   (◌≡◌ {A = Result (Unit {0}) HostFault} (Err fault) (Err Write)) (λ is. ap (λ (f : HostFault). Err f) is) breaks,
-              always start.content _ (λ held told. comes_unended limit held content rest later first after mid n then later out after SameDisk SameOut fault breaks),
+              always start.content _ (λ held told. comes_unended x.begin start held told x.alone first x.read h now out x.at limit content rest are later after line mid n then One SameDisk SameOut heard carry_out fault breaks),
+              spared_end start mid n then later SameDisk carry spared_mid out after SameOut fault breaks,
             )
 
             -- it was answered

@@ -1,5 +1,5 @@
 -- One more line: how the invariant of all lines goes on, and how far the counts and the file can be then.
-use Rattle.std.proofs.Common.{◌≡◌, ◌⊎◌, inl, inr, ℕ, ◌+◌, ◌*◌, ◌^◌, ◌≤◌, List, [], ◌∷◌, ◌++◌, length, drop, map, flat_map, refl, sym, ap, subst, ◌∙◌, arith, append_assoc, length-append}
+use Rattle.std.proofs.Common.{◌≡◌, ◌⊎◌, inl, inr, ℕ, ◌+◌, ◌*◌, ◌^◌, ◌<◌, ◌≤◌, List, [], ◌∷◌, ◌++◌, IfSome, length, drop, map, flat_map, refl, sym, ap, subst, ◌∙◌, arith, append_assoc, length-append}
 use Rattle.std.specs.Prelude.{All}
 use Rattle.std.proofs.lemmas.List.{append-nil, map-append, drop-append-le}
 use Rattle.std.proofs.lemmas.Grind.{flat_map-append}
@@ -18,7 +18,10 @@ use Rattle.disk_edge.specs.Disks.{DiskState, IsDisk}
 use Rattle.journal_disk.specs.Pairs.{RecordPair}
 use Rattle.journal_disk.specs.Entries.{entry}
 use Rattle.journal_keeping.specs.Lengths.{longest_stored_entry}
+use Rattle.journal_keeping.specs.Openings.{IsOpening}
+use Rattle.journal_keeping.specs.Openings as opening
 use Rattle.journal_keeping.specs.Outputs.{Output, Gains}
+use Rattle.journal_keeping.specs.Keeping.{HoldsLegal}
 use Rattle.desk_messages.specs.Desks.{Desks}
 use Rattle.desk_session.specs.States.{State, CountsAccounts}
 use Rattle.desk_session.specs.Bounds.{IsWithin}
@@ -28,10 +31,12 @@ use Rattle.desk_opening.specs.Openings.{place_of}
 use Rattle.desk_opening.specs.declared.book.Book.{Book}
 use Rattle.desk_opening.specs.declared.book.Book.TheVariants.{Kept, Open}
 use Rattle.desk_keeping.specs.Hosting.{Entries, Texts, AreHosted, desks_of}
-use Rattle.desk_keeping.specs.Private.{HostState, stored, unwritten, FileGoes, HearsLine, EndsLine, KeepsWaiting, AnswersLong, Appends, IsFileAt, AreToldOf, IsAt, IsWithinLines}
+use Rattle.desk_keeping.specs.Private.{HostState, stored, unwritten, FileGoes, MakesAtEnd, HearsLine, EndsLine, KeepsWaiting, AnswersLong, Appends, IsFileAt, IsOpen, AreWhole, IsWholeAt, AreToldOf, IsAt, IsWithinLines}
 use Rattle.desk_keeping.proofs.Files.{along_now, along_later, gets_later}
 use Rattle.desk_keeping.proofs.Steps.{appends_first}
-use Rattle.desk_keeping.proofs.Settled.{file_kept, place_kept, to_write, left_after, gained_all, hosted_same, same_counts, same_within}
+use Rattle.desk_keeping.proofs.Leaving.{continued_old}
+use Rattle.desk_keeping.proofs.Whole.{whole_lines, whole_also, whole_more, whole_gets}
+use Rattle.desk_keeping.proofs.Settled.{file_kept, whole_kept, place_kept, to_write, left_after, gained_all, hosted_same, same_counts, same_within}
 
 -- ---- what was answered
 
@@ -94,6 +99,7 @@ module _ (begin : Start) (start now : DiskState) (first out : Output) (read : Li
         parts = append-nil is.pairs ∙ is.parts;
         group = answers.group ∙ is.group;
         file = subst (λ (b : Book). IsFileAt begin start b now is.safe is.waiting next.session.market) (sym answers.book) (subst (λ (m : Market). IsFileAt begin start h.book now is.safe is.waiting m) (sym market) is.file);
+        whole = subst (λ (b : Book). IsWholeAt begin start (read ++ line ∷ []) b now is.safe) (sym answers.book) (whole_more begin read (line ∷ []) start h.book now is.safe is.whole);
         all_told = told;
         order = omega (arith, told, answers.written, is.order, is.all_told, ap length answers.said, length-append h.session.talk.texts answers.texts);
         gone = is.gone;
@@ -112,6 +118,11 @@ module _ (begin : Start) (start now : DiskState) (first out : Output) (read : Li
 
 -- ---- the file while a line is heard
 
+-- there is one at least then too
+more_wait : (kept waiting made : Entries) (New : Type 0) → (0 < length kept + length waiting) ⊎ New → (0 < length kept + length (waiting ++ made)) ⊎ New
+more_wait kept waiting made New (inl some) = inl (omega (arith, some, length-append waiting made))
+more_wait kept waiting made New (inr new) = inr new
+
 -- more entries wait
 appends_more : (begin : Start) (start now : DiskState) (place : ℕ) (safe waiting made : Entries) (before after : Market) → Appends begin start place now safe waiting before → Follows IsReadAs IsCanonicalOutcome before made after → All IsPair made
     → Appends begin start place now safe (waiting ++ made) after
@@ -126,6 +137,7 @@ appends_more begin start now place safe waiting made before after is steps fits 
   keeps = is.keeps;
   during = is.during;
   told = is.told;
+  more = more_wait is.kept waiting made (IfSome start.content (λ held. IsOpening held opening.New)) is.more;
   steps = follows-append IsReadAs reading_unique IsCanonicalOutcome is.between before after waiting made is.steps steps;
   fits = All-append IsPair waiting made is.fits fits;
 }
@@ -133,16 +145,38 @@ appends_more begin start now place safe waiting made before after is steps fits 
 module _ (begin : Start) (start now mid : DiskState) (Same : Type 0) (safe waiting taken made : Entries) (before after : Market) where
   module _ (is_disk : IsDisk now) (carry : Same → (P : DiskState → Type 0) → P now → P mid) where
     -- the file has what was taken, and what was made waits
-    file_heard : (b c : Book) → IsFileAt begin start b now safe waiting before → FileGoes b c now mid Same before taken made after → IsFileAt begin start c mid (safe ++ taken) (waiting ++ made) after
-    file_heard (Kept p a) (Kept q b) (none, along) (nothing, on) =
+    file_heard : (b c : Book) → IsFileAt begin start b now safe waiting before → FileGoes b c now mid Same before taken made after → MakesAtEnd b c made → IsFileAt begin start c mid (safe ++ taken) (waiting ++ made) after
+    file_heard (Kept p a) (Kept q b) (none, along) (nothing, on) end =
         (rw (none, nothing) refl, along_later begin p q a b start now mid safe (safe ++ taken) before after along (on begin safe (along_now begin p a start now safe before is_disk along)))
-    file_heard (Kept p a) (Open q) (none, along) (at, up, steps, fits) =
+    file_heard (Kept p a) (Open q) (none, along) (at, up, steps, fits) end =
         let gets = gets_later begin p q a start now mid safe (safe ++ taken) before at along (up begin safe (along_now begin p a start now safe before is_disk along)) in
-        subst (λ (l : Entries). Appends begin start q mid (safe ++ taken) l after) (sym (ap (λ (l : Entries). l ++ made) none)) (appends_first begin q start mid (safe ++ taken) made at after gets steps fits)
-    file_heard (Open p) (Open q) file (none, still, same, steps, fits) =
+        subst (λ (l : Entries). Appends begin start q mid (safe ++ taken) l after) (sym (ap (λ (l : Entries). l ++ made) none)) (appends_first begin q start mid (safe ++ taken) made at after gets (inl end) steps fits)
+    file_heard (Open p) (Open q) file (none, still, same, steps, fits) end =
         let here = appends_more begin start mid p safe waiting made before after (carry same (λ s. Appends begin start p s safe waiting before) file) steps fits in
         subst (λ (l : Entries). Appends begin start q mid l (waiting ++ made) after) (sym (ap (λ (l : Entries). safe ++ l) none ∙ append-nil safe)) (subst (λ (x : ℕ). Appends begin start x mid safe (waiting ++ made) after) (sym still) here)
-    file_heard (Open p) (Kept q b) file goes = absurd goes
+    file_heard (Open p) (Kept q b) file goes end = absurd goes
+
+  -- of each line all was kept, or none
+  whole_heard : (read : List (List ℕ)) → IsDisk now → (Same → (P : DiskState → Type 0) → P now → P mid) → (b c : Book) → IsFileAt begin start b now safe waiting before → IsWholeAt begin start read b now safe
+      → FileGoes b c now mid Same before taken made after → IsWholeAt begin start read c mid (safe ++ taken)
+  whole_heard read is_disk carry (Kept p a) (Kept q b) file whole goes = tt
+  whole_heard read is_disk carry (Kept p a) (Open q) (none, along) whole (at, up, steps, fits) =
+      let gets = gets_later begin p q a start now mid safe (safe ++ taken) before at along (up begin safe (along_now begin p a start now safe before is_disk along)) in
+      whole_gets begin start read q mid (safe ++ taken) at gets
+  whole_heard read is_disk carry (Open p) (Open q) file whole (none, still, same, steps, fits) =
+      subst (λ (l : Entries). IsWholeAt begin start read (Open q) mid l) (sym (ap (λ (l : Entries). safe ++ l) none ∙ append-nil safe)) (carry same (λ s. IsWholeAt begin start read (Open p) s safe) whole)
+  whole_heard read is_disk carry (Open p) (Kept q b) file whole goes = absurd goes
+
+  -- those that waited before are then the last ones of lines
+  whole_then : (read : List (List ℕ)) (pairs : Entries) → IsDisk now → pairs ≡ safe ++ waiting → ((legal : Entries) → AreWhole begin read legal pairs) → (b c : Book) → IsFileAt begin start b now safe waiting before
+      → FileGoes b c now mid Same before taken made after → IsOpen c → (was : Start) (legal : Entries) (m : Market) → HoldsLegal start was legal m → AreWhole begin read legal ((safe ++ taken) ++ waiting)
+  whole_then read pairs is_disk parts all (Kept p a) (Kept q b) file goes opens was legal m holds = absurd opens
+  whole_then read pairs is_disk parts all (Kept p a) (Open q) (none, along) (at, up, steps, fits) opens was legal m holds =
+      let gets = gets_later begin p q a start now mid safe (safe ++ taken) before at along (up begin safe (along_now begin p a start now safe before is_disk along)) in
+      inl (ap (λ (l : Entries). (safe ++ taken) ++ l) none ∙ append-nil (safe ++ taken) ∙ sym (continued_old begin was start legal m holds (safe ++ taken) at gets.continues).0)
+  whole_then read pairs is_disk parts all (Open p) (Open q) file (none, still, same, steps, fits) opens was legal m holds =
+      subst (AreWhole begin read legal) (parts ∙ ap (λ (l : Entries). l ++ waiting) (sym (ap (λ (l : Entries). safe ++ l) none ∙ append-nil safe))) (all legal)
+  whole_then read pairs is_disk parts all (Open p) (Kept q b) file goes opens was legal m holds = absurd goes
 
   -- the order of all entries
   heard_order : (b c : Book) → IsFileAt begin start b now safe waiting before → FileGoes b c now mid Same before taken made after → (safe ++ waiting) ++ (taken ++ made) ≡ (safe ++ taken) ++ (waiting ++ made)
@@ -186,7 +220,13 @@ module _ (begin : Start) (start now mid later : DiskState) (first out after : Ou
 
     -- the file once it was heard
     file_mid : IsFileAt begin start heard.book mid (is.safe ++ hears.taken) (is.waiting ++ hears.made) heard.session.market
-    file_mid = file_heard begin start now mid SameHeard is.safe is.waiting hears.taken hears.made h.session.market heard.session.market is_disk carry_heard h.book heard.book is.file hears.goes
+    file_mid = file_heard begin start now mid SameHeard is.safe is.waiting hears.taken hears.made h.session.market heard.session.market is_disk carry_heard h.book heard.book is.file hears.goes hears.more
+
+    -- of each line all was kept, or none
+    whole_mid : IsWholeAt begin start (read ++ line ∷ []) heard.book mid (is.safe ++ hears.taken)
+    whole_mid =
+        whole_more begin read (line ∷ []) start heard.book mid (is.safe ++ hears.taken)
+        (whole_heard begin start now mid SameHeard is.safe is.waiting hears.taken hears.made h.session.market heard.session.market read is_disk carry_heard h.book heard.book is.file is.whole hears.goes)
 
     -- and all entries
     parts_mid : is.pairs ++ (hears.taken ++ hears.made) ≡ (is.safe ++ hears.taken) ++ (is.waiting ++ hears.made)
@@ -210,6 +250,7 @@ module _ (begin : Start) (start now mid later : DiskState) (first out after : Ou
       file = subst (λ (m : Market). IsFileAt begin start next.book later (is.safe ++ hears.taken) (is.waiting ++ hears.made) m) (sym ends.session.market)
           (subst (λ (b : Book). IsFileAt begin start b later (is.safe ++ hears.taken) (is.waiting ++ hears.made) heard.session.market) (sym book)
           (carry disk (λ (s : DiskState). IsFileAt begin start heard.book s (is.safe ++ hears.taken) (is.waiting ++ hears.made) heard.session.market) file_mid));
+      whole = subst (λ (b : Book). IsWholeAt begin start (read ++ line ∷ []) b later (is.safe ++ hears.taken)) (sym book) (carry disk (λ (s : DiskState). IsWholeAt begin start (read ++ line ∷ []) heard.book s (is.safe ++ hears.taken)) whole_mid);
       all_told = ends.told;
       order = ends.within;
       gone = is.gone;
@@ -217,6 +258,15 @@ module _ (begin : Start) (start now mid later : DiskState) (first out after : Ou
       gained = carry_out output (λ (o : Output). Gains ⊥ first o is.gone) is.gained;
       told = told_more begin read (line ∷ []) is.gone is.safe hears.taken is.told;
     }
+
+    -- of each line all was kept, or none, once what waited before was kept
+    whole_group : KeepsWaiting heard next mid later SameDisk → IsWholeAt begin start (read ++ line ∷ []) next.book later ((is.safe ++ hears.taken) ++ is.waiting)
+    whole_group keeps =
+        whole_kept begin start mid later (read ++ line ∷ []) heard.book next.book heard.group (is.safe ++ hears.taken) is.waiting hears.made heard.session.market SameDisk carry file_mid whole_mid (hears.aside.group ∙ is.group)
+        (whole_then begin start now mid SameHeard is.safe is.waiting hears.taken hears.made h.session.market heard.session.market (read ++ line ∷ []) is.pairs is_disk is.parts all h.book heard.book is.file hears.goes) keeps
+      where
+        all : (legal : Entries) → AreWhole begin (read ++ line ∷ []) legal is.pairs
+        all legal = whole_also begin read (line ∷ []) legal is.pairs (whole_lines begin read legal is.pairs is.texts h.session.market h.session.talk.desks is.hosted)
 
     -- what waited before was kept and written
     begun : BeginsGroup → IsAt begin start first (read ++ line ∷ []) next later after
@@ -236,6 +286,7 @@ module _ (begin : Start) (start now mid later : DiskState) (first out after : Ou
           group = group ∙ hears.fresh;
           file = subst (λ (m : Market). IsFileAt begin start next.book later ((is.safe ++ hears.taken) ++ is.waiting) hears.made m) (sym ends.session.market)
               (file_kept begin start mid later heard.book next.book heard.group (is.safe ++ hears.taken) is.waiting hears.made heard.session.market SameDisk carry file_mid (hears.aside.group ∙ is.group) keeps);
+          whole = whole_group keeps;
           all_told = ends.told;
           order = ends.within;
           gone = is.texts;

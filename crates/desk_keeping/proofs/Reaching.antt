@@ -15,7 +15,7 @@ use Rattle.input_lines.specs.declared.lines.Next.{Next}
 use Rattle.input_lines.specs.declared.lines.Next.TheVariants as next
 use Rattle.desk_lines.specs.Hearing.{most_envelope}
 use Rattle.desk_opening.specs.Beginnings.{bytes_before}
-use Rattle.desk_keeping.specs.Hosting.{HasLines, HasAllLines, HasFirstLines}
+use Rattle.desk_keeping.specs.Hosting.{HasLines, HasAllLines, HasFirstLines, HasTakenBeginning}
 use Rattle.desk_keeping.specs.Private.{HasGone}
 use Rattle.desk_keeping.proofs.Unopened.{of_known, take_taken}
 
@@ -63,9 +63,22 @@ module _ (begin : Start) (limit : ℕ) (w : WindowState) (content left : Option 
       let spare : List ℕ = take (limit - length gone.taken) after in
       ((w.held ++ []) ++ spare, has_lines [] (take limit bytes) spare (take_taken limit bytes gone.taken after is taken_few ∙ ap (λ (l : List ℕ). l ++ spare) (sym (append-nil gone.taken)))))
 
-  -- at most one byte past the limit was taken
-  pub few_at : TakesAtMost content left (limit + 1)
-  few_at = at_most content left gone.taken (limit + 1) gone.takes (omega (arith, taken_few))
+  -- the beginning was taken, and perhaps more since
+  begun_more : (more : List ℕ) (now : Option (List ℕ)) → Takes content now (gone.taken ++ more) → HasTakenBeginning limit content now
+  begun_more more now takes = (
+    begin,
+    gone.starts,
+    omega (arith, gone.place, gone.is_open.within, gone.limited),
+    (ended_by_feeds read ++ w.held) ++ more,
+    subst (λ (l : List ℕ). Takes content now l) (ap (λ (l : List ℕ). l ++ more) gone.whole ∙ append_assoc (bytes_before begin) (ended_by_feeds read ++ w.held) more) takes,
+  )
+
+  -- at most one byte past the limit was taken, and the beginning
+  pub few_at : TakesAtMost content left (limit + 1) × HasTakenBeginning limit content left
+  few_at = (
+    at_most content left gone.taken (limit + 1) gone.takes (omega (arith, taken_few)),
+    begun_more [] left (subst (λ (l : List ℕ). Takes content left l) (sym (append-nil gone.taken)) gone.takes),
+  )
 
   module _ (new : WindowState) (now : Option (List ℕ)) where
     past_few : (found : Next) (finds : FindsNextWithin most_envelope w new left now found) → length finds.past ≤ 1
@@ -76,15 +89,20 @@ module _ (begin : Start) (limit : ℕ) (w : WindowState) (content left : Option 
     past_few next.End finds = omega (arith, ap length finds.is.1)
     past_few next.Limit finds = omega (arith, finds.is.1)
 
-    pub few_found : (found : Next) → FindsNextWithin most_envelope w new left now found → TakesAtMost content now (limit + 1)
+    pub few_found : (found : Next) → FindsNextWithin most_envelope w new left now found → TakesAtMost content now (limit + 1) × HasTakenBeginning limit content now
     few_found found finds =
-        at_most content now (gone.taken ++ (finds.joined ++ finds.past)) (limit + 1) (Takes-more content left now gone.taken (finds.joined ++ finds.past) gone.takes finds.takes)
-        (omega (arith, joined_size finds.joined, finds.within, gone.limited, past_few found finds, length-append gone.taken finds.joined, length-append gone.taken (finds.joined ++ finds.past), length-append finds.joined finds.past))
+        let takes = Takes-more content left now gone.taken (finds.joined ++ finds.past) gone.takes finds.takes in (
+          at_most content now (gone.taken ++ (finds.joined ++ finds.past)) (limit + 1) takes
+              (omega (arith, joined_size finds.joined, finds.within, gone.limited, past_few found finds, length-append gone.taken finds.joined, length-append gone.taken (finds.joined ++ finds.past), length-append finds.joined finds.past)),
+          begun_more (finds.joined ++ finds.past) now takes,
+        )
 
-    pub few_unread : FindsNoFeed w left now → TakesAtMost content now (limit + 1)
+    pub few_unread : FindsNoFeed w left now → TakesAtMost content now (limit + 1) × HasTakenBeginning limit content now
     few_unread none =
-        at_most content now (gone.taken ++ none.joined) (limit + 1) (Takes-more content left now gone.taken none.joined gone.takes none.takes)
-        (omega (arith, joined_size none.joined, none.within, gone.limited))
+        let takes = Takes-more content left now gone.taken none.joined gone.takes none.takes in (
+          at_most content now (gone.taken ++ none.joined) (limit + 1) takes (omega (arith, joined_size none.joined, none.within, gone.limited)),
+          begun_more none.joined now takes,
+        )
 
     module _ (found : Next) (finds : FindsNextWithin most_envelope w new left now found) where
       found_takes : Takes content now (gone.taken ++ (finds.joined ++ finds.past))

@@ -1,5 +1,5 @@
 -- What waits is kept and written: how the invariant of all lines goes on.
-use Rattle.std.proofs.Common.{◌≡◌, ◌≢◌, ◌⊎◌, inl, inr, ℕ, ◌+◌, ◌-◌, ◌*◌, ◌≤◌, List, [], ◌∷◌, ◌++◌, Bool, IsTrue, Option, Some, None, IfSome, IsSome, length, take, drop, map, refl, sym, ap, subst, ◌∙◌, arith, append_assoc}
+use Rattle.std.proofs.Common.{◌≡◌, ◌≢◌, ◌⊎◌, inl, inr, ℕ, ◌+◌, ◌-◌, ◌*◌, ◌<◌, ◌≤◌, List, [], ◌∷◌, ◌++◌, Bool, IsTrue, Option, Some, None, IfSome, IsSome, length, length-append, take, drop, map, refl, sym, ap, subst, ◌∙◌, arith, append_assoc}
 use Rattle.std.specs.Prelude.{All}
 use Rattle.std.proofs.lemmas.List.{append-nil, map-append, drop_all, length-drop, drop-append-le}
 use Rattle.std.proofs.lemmas.List.Elements.{All-take, All-drop}
@@ -19,6 +19,8 @@ use Rattle.journal_disk.specs.Pairs.{RecordPair}
 use Rattle.journal_disk.specs.Entries.{Keeps}
 use Rattle.journal_keeping.specs.Starts.{head_of}
 use Rattle.journal_keeping.specs.Keeping.{IsKeptJournal, HoldsLegal, GoesOn, DuringCall}
+use Rattle.journal_keeping.specs.Openings.{IsOpening}
+use Rattle.journal_keeping.specs.Openings as opening
 use Rattle.journal_keeping.specs.Outputs.{Output, Gains}
 use Rattle.journal_keeping.specs.Private.{KeepsMore}
 use Rattle.journal_keeping.specs.Serving.{HasKept}
@@ -33,7 +35,9 @@ use Rattle.desk_opening.specs.Openings.{place_of}
 use Rattle.desk_opening.specs.declared.book.Book.{Book}
 use Rattle.desk_opening.specs.declared.book.Book.TheVariants.{Kept, Open}
 use Rattle.desk_keeping.specs.Hosting.{Entries, Texts, AreHosted}
-use Rattle.desk_keeping.specs.Private.{HostState, stored, unwritten, SameSession, KeepsGroup, IsSameHost, MaySettle, Appends, IsFileAt, IsAt, IsWithinLines}
+use Rattle.desk_keeping.specs.Private.{HostState, stored, unwritten, SameSession, KeepsGroup, IsSameHost, MaySettle, Appends, IsFileAt, IsOpen, AreWhole, IsWholeAt, IsAt, IsWithinLines}
+use Rattle.desk_keeping.proofs.Leaving.{kept_moments}
+use Rattle.desk_keeping.proofs.Whole.{whole_lines, whole_ends}
 
 -- ---- the file
 
@@ -54,6 +58,11 @@ others_fit p q all = subst (λ (l : Entries). All IsPair l) (drop-append_seam p 
 if_told : (content : Option (List ℕ)) (P Q : Type 0) → (P → Q) → IfSome content (λ _. P) → IfSome content (λ _. Q)
 if_told None P Q f p = tt
 if_told (Some bytes) P Q f p = f p
+
+-- as many are kept and wait
+more_kept : (kept w m : Entries) (New : Type 0) → (0 < length kept + length (w ++ m)) ⊎ New → (0 < length (kept ++ w) + length m) ⊎ New
+more_kept kept w m New (inl some) = inl (omega (arith, some, length-append w m, length-append kept w))
+more_kept kept w m New (inr new) = inr new
 
 module _ (begin : Start) (start now later : DiskState) where
   -- the first of those that wait were kept
@@ -110,6 +119,7 @@ module _ (begin : Start) (start now later : DiskState) where
       keeps = if_told start.content Before After keeps_also is.keeps;
       during = during_also;
       told = λ some. is.told (told some);
+      more = more_kept is.kept w m (IfSome start.content (λ held. IsOpening held opening.New)) is.more;
       steps = parts.2;
       fits = others_fit w m is.fits;
     }
@@ -126,6 +136,22 @@ module _ (begin : Start) (start now later : DiskState) where
   file_kept (Open from) (Open to) group safe w m market Same carry file is (inr (some, adds, leaves)) = kept_on from to safe w m market file (adds.2 w (first_fit w m file.fits) is) adds.1
   file_kept (Open from) (Kept place ahead) group safe w m market Same carry file is (inr (some, adds, leaves)) = absurd adds
   file_kept (Kept place ahead) c group safe w m market Same carry file is (inr (some, adds, leaves)) = absurd adds
+
+-- and so of each line all was kept, if what waited are the last entries of lines
+pub whole_kept : (begin : Start) (start now later : DiskState) (read : List (List ℕ)) (b c : Book) (group : List ℕ) (safe w m : Entries) (market : Market) (Same : Type 0) → (Same → (P : DiskState → Type 0) → P now → P later)
+    → IsFileAt begin start b now safe (w ++ m) market → IsWholeAt begin start read b now safe → group ≡ stored w → (IsOpen b → (was : Start) (legal : Entries) (k : Market) → HoldsLegal start was legal k → AreWhole begin read legal (safe ++ w))
+    → ((group ≡ []) × (c ≡ b) × Same) ⊎ ((group ≢ []) × AddsTo group b c now later × LeavesWithOrWithout group b now later) → IsWholeAt begin start read c later (safe ++ w)
+whole_kept begin start now later read b c group safe w m market Same carry file whole is all (inl (none, book, same)) =
+    let nothing : w ≡ [] = none_stored w (sym is ∙ none) in
+    subst (λ (x : Book). IsWholeAt begin start read x later (safe ++ w)) (sym book)
+    (carry same (λ s. IsWholeAt begin start read b s (safe ++ w)) (subst (λ (l : Entries). IsWholeAt begin start read b now l) (sym (ap (λ (l : Entries). safe ++ l) nothing ∙ append-nil safe)) whole))
+whole_kept begin start now later read (Open from) (Open to) group safe w m market Same carry file whole is all (inr (some, adds, leaves)) = λ was legal k holds. (
+  whole_ends begin start read from now later safe w whole was legal k holds (all tt was legal k holds)
+      (kept_moments begin was start legal k holds from now safe (w ++ m) market file to later w (adds.2 w (first_fit w m file.fits) is)),
+  all tt was legal k holds,
+)
+whole_kept begin start now later read (Open from) (Kept place ahead) group safe w m market Same carry file whole is all (inr (some, adds, leaves)) = absurd adds
+whole_kept begin start now later read (Kept place ahead) c group safe w m market Same carry file whole is all (inr (some, adds, leaves)) = absurd adds
 
 -- where the next entry is once those that waited were kept
 pub place_kept : (b c : Book) (group : List ℕ) (now later : DiskState) (Same : Type 0)
@@ -202,6 +228,9 @@ module _ (begin : Start) (start now later : DiskState) (first out after : Output
         file = subst (λ (m : Market). IsFileAt begin start next.book later (is.safe ++ is.waiting) [] m) (sym kept.session.market)
             (file_kept begin start now later h.book next.book h.group is.safe is.waiting [] h.session.market SameDisk carry (subst (λ (l : Entries). IsFileAt begin start h.book now is.safe l h.session.market) (sym (append-nil is.waiting)) is.file)
             is.group kept.keeps);
+        whole = whole_kept begin start now later read h.book next.book h.group is.safe is.waiting [] h.session.market SameDisk carry
+            (subst (λ (l : Entries). IsFileAt begin start h.book now is.safe l h.session.market) (sym (append-nil is.waiting)) is.file) is.whole is.group
+            (λ opens was legal m holds. subst (AreWhole begin read legal) is.parts (whole_lines begin read legal is.pairs is.texts h.session.market h.session.talk.desks is.hosted)) kept.keeps;
         all_told = omega (arith, kept.told, kept.within, ap length nothing, length-drop next.written next.session.talk.texts);
         order = omega (arith, kept.told);
         gone = is.texts;

@@ -1,5 +1,5 @@
 -- How the invariant of all lines begins, what it says of a file, and which entries a file at the start had.
-use Rattle.std.proofs.Common.{◌≡◌, ◌≢◌, ◌⊎◌, inl, inr, ℕ, ◌^◌, ◌≤◌, List, [], ◌++◌, Option, Some, None, IfSome, IsSome, length, map, refl, sym, ap, subst, ◌∙◌, arith}
+use Rattle.std.proofs.Common.{◌≡◌, ◌≢◌, ◌⊎◌, inl, inr, ℕ, ◌+◌, ◌^◌, ◌<◌, ◌≤◌, List, [], ◌++◌, Option, Some, None, IfSome, IsSome, length, map, refl, sym, ap, subst, ◌∙◌, arith}
 use Rattle.std.specs.Prelude.{All}
 use Rattle.std.proofs.lemmas.List.{append-nil}
 use Rattle.std.proofs.lemmas.List.Elements.{All-nil}
@@ -19,6 +19,8 @@ use Rattle.journal_disk.specs.Entries.{Head, IsNewDisk, most_unkept, Keeps}
 use Rattle.journal_keeping.specs.Starts.{head_of}
 use Rattle.journal_keeping.specs.Keeping.{IsKeptJournal, HoldsLegal, DuringCall}
 use Rattle.journal_keeping.specs.Beginning.{WhileOpening}
+use Rattle.journal_keeping.specs.Openings.{IsOpening}
+use Rattle.journal_keeping.specs.Openings as opening
 use Rattle.journal_keeping.specs.Outputs.{Output}
 use Rattle.journal_keeping.proofs.Begun.{new_again, opened_old}
 use Rattle.journal_keeping.proofs.Serving.{kept_none}
@@ -28,13 +30,14 @@ use Rattle.desk_lines.specs.Hearing.{most_envelope}
 use Rattle.desk_session.specs.States.{CountsAccounts}
 use Rattle.desk_session.proofs.Bounds.{begins_within}
 use Rattle.desk_opening.specs.Books.{CanFind, CanKeep, GetsMore, Continues, IsBookAfter}
-use Rattle.desk_opening.specs.Openings.{HasOpened, place_of}
+use Rattle.desk_opening.specs.Openings.{HasOpened, IsOpenIfNew, place_of}
 use Rattle.desk_opening.specs.Beginnings.{bytes_before}
 use Rattle.desk_opening.specs.declared.book.Book.{Book}
 use Rattle.desk_opening.specs.declared.book.Book.TheVariants.{Kept, Open}
 use Rattle.desk_opening.proofs.Along.{along_finds}
 use Rattle.desk_keeping.specs.Hosting.{Entries, desks_of}
-use Rattle.desk_keeping.specs.Private.{HostState, stored, IsOrdered, Appends, IsFileAt, IsAt, IsWithinLines, HasGone}
+use Rattle.desk_keeping.specs.Private.{HostState, stored, IsOrdered, Appends, IsFileAt, IsWholeAt, IsAt, IsWithinLines, HasGone}
+use Rattle.desk_keeping.proofs.Whole.{whole_gets}
 
 -- ---- a file at the start
 
@@ -93,9 +96,9 @@ module _ (begin : Start) (start now : DiskState) where
 -- ---- before the first line
 
 -- a file that gets more, after entries that are made, of which none is kept yet
-pub appends_first : (begin : Start) (place : ℕ) (start now : DiskState) (old made : Entries) (market after : Market) → GetsMore begin place start now old market → Follows IsReadAs IsCanonicalOutcome market made after → All IsPair made
-    → Appends begin start place now old made after
-appends_first begin place start now old made market after gets steps fits = record {
+pub appends_first : (begin : Start) (place : ℕ) (start now : DiskState) (old made : Entries) (market after : Market) → GetsMore begin place start now old market
+    → (0 < length made) ⊎ IfSome start.content (λ held. IsOpening held opening.New) → Follows IsReadAs IsCanonicalOutcome market made after → All IsPair made → Appends begin start place now old made after
+appends_first begin place start now old made market after gets more steps fits = record {
   old = old;
   opened = market;
   kept = [];
@@ -106,10 +109,15 @@ appends_first begin place start now old made market after gets steps fits = reco
   keeps = subst (λ (l : Entries). IfSome start.content (λ _. Keeps (head_of begin) (map records_of l) place now)) (sym (append-nil old)) gets.keeps;
   during = opens;
   told = gets.told;
+  more = waits more;
   steps = steps;
   fits = fits;
 }
   where
+    waits : (0 < length made) ⊎ IfSome start.content (λ held. IsOpening held opening.New) → (0 < 0 + length made) ⊎ IfSome start.content (λ held. IsOpening held opening.New)
+    waits (inl some) = inl (omega (arith, some))
+    waits (inr new) = inr new
+
     opens : (was : Start) (legal : Entries) (m : Market) → HoldsLegal start was legal m → DuringCall begin start now old []
     opens was legal m holds =
         let same = old_is begin was start old legal market m gets.continues holds in
@@ -129,9 +137,13 @@ first_host market b = record {
 }
 
 -- a file that was opened
-file_first : (begin : Start) (start mid : DiskState) (b : Book) (market : Market) → IsBookAfter begin b start mid [] market → IsFileAt begin start b mid [] [] market
-file_first begin start mid (Kept place ahead) market after = (refl, after)
-file_first begin start mid (Open place) market after = appends_first begin place start mid [] [] market market after refl (All-nil IsPair)
+file_first : (begin : Start) (start mid : DiskState) (b : Book) (market : Market) → IsBookAfter begin b start mid [] market → IsOpenIfNew b start.content → IsFileAt begin start b mid [] [] market
+file_first begin start mid (Kept place ahead) market after new = (refl, after)
+file_first begin start mid (Open place) market after new = appends_first begin place start mid [] [] market market after (inr new) refl (All-nil IsPair)
+
+whole_first : (begin : Start) (start mid : DiskState) (b : Book) (market : Market) → IsBookAfter begin b start mid [] market → IsWholeAt begin start [] b mid []
+whole_first begin start mid (Kept place ahead) market after = tt
+whole_first begin start mid (Open place) market after = whole_gets begin start [] place mid [] market after
 
 module _ (limit : ℕ) (start mid : DiskState) (market : Market) (b : Book) (window : WindowState) (content rest : Option (List ℕ)) (opened : HasOpened most_envelope limit start mid market b window content rest) where
   -- nothing was heard yet
@@ -147,7 +159,8 @@ module _ (limit : ℕ) (start mid : DiskState) (market : Market) (b : Book) (win
     waiting = [];
     parts = refl;
     group = refl;
-    file = file_first opened.begin start mid b market opened.file;
+    file = file_first opened.begin start mid b market opened.file opened.only_new;
+    whole = whole_first opened.begin start mid b market opened.file;
     all_told = refl;
     order = omega arith;
     gone = [];

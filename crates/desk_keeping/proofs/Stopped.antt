@@ -23,9 +23,10 @@ use Rattle.desk_opening.specs.Openings.{BeginsAlone}
 use Rattle.desk_keeping.specs.declared.fault.HostFault.{HostFault}
 use Rattle.desk_keeping.specs.declared.fault.HostFault.TheVariants.{Read, Write, Disk, Memory, NotDisk, Damaged, Rejected, NotFlow, BadCheckpoint, TooLong, Differs}
 use Rattle.desk_keeping.specs.Hosting.{Entries, Texts, desks_of, AreHostedInto, AreFirstHosted, HostsIn}
-use Rattle.desk_keeping.specs.Private.{HostState, LeavesFile, WhyNot, IsFileAt, IsAt, StopsWithin, BreaksLine, StopsHere}
+use Rattle.desk_keeping.specs.Private.{HostState, LeavesFile, WhyNot, IsFileAt, AreWhole, IsWholeAt, IsAt, StopsWithin, BreaksLine, StopsHere}
 use Rattle.desk_keeping.proofs.Files.{along_now, along_later}
 use Rattle.desk_keeping.proofs.Leaving.{EndsFile, Carries, along_ends}
+use Rattle.desk_keeping.proofs.Whole.{whole_lines}
 use Rattle.desk_keeping.proofs.Ending.{AreFirst, hosts_so, take_within, few_stored, stays_file}
 use Rattle.desk_keeping.proofs.Broken.{hosts_gone}
 
@@ -80,24 +81,28 @@ module _ (limit : ℕ) (content : Option (List ℕ)) (begin was : Start) (start 
     (then : DiskState) (is_disk : IsDisk now) (is_then : IsDisk then) (One : Type 0) (one : Carries One now then) (line : List ℕ) (are_line : AreFirst limit content begin (read ++ line ∷ []))
     (mid : HostState) (after : Output) (SameOut : Type 0) (carry_out : SameOut → (P : Output → Type 0) → P out → P after) where
   abbrev Ends : DiskState → Entries → ℕ → Type 0
-  Ends end pairs safe = EndsFile begin was start end old m pairs safe
+  Ends end pairs safe = EndsFile begin was start end old m read pairs safe
+
+  all_whole : AreWhole begin read old (at.safe ++ at.waiting)
+  all_whole = subst (AreWhole begin read old) at.parts (whole_lines begin read old at.pairs at.texts h.session.market h.session.talk.desks at.hosted)
 
   abbrev Hosts : Type 0 → DiskState → Output → Type 0
   Hosts Cut end later = HostsIn limit content Cut was start end old m first later
 
   -- nothing more was written, and the file perhaps being cut
-  left_file : (b : Book) → LeavesFile b now then One h.session.market → IsFileAt begin start b now at.safe at.waiting h.session.market → Ends then (at.safe ++ at.waiting) (length at.safe)
-  left_file (Kept place ahead) leaves (none, along) =
-      let moments = leaves begin at.safe (along_now begin place ahead start now at.safe h.session.market is_disk along) was old m (looked_legal was old m start now holds along.looks) in
+  left_file : (b : Book) → LeavesFile b now then One h.session.market → IsFileAt begin start b now at.safe at.waiting h.session.market → IsWholeAt begin start read b now at.safe → Ends then (at.safe ++ at.waiting) (length at.safe)
+  left_file (Kept place ahead) leaves (none, along) whole =
+      let moments = (leaves begin at.safe (along_now begin place ahead start now at.safe h.session.market is_disk along)).0 was old m (looked_legal was old m start now holds along.looks) in
       subst (λ (l : Entries). Ends then l (length at.safe)) (sym (ap (λ (l : Entries). at.safe ++ l) none ∙ append-nil at.safe))
-      (along_ends begin was start old m holds place ahead now at.safe h.session.market along alone then is_then moments)
-  left_file (Open place) still file =
-      stays_file begin was start old m holds alone at.safe at.waiting h.session.market (omega (arith, short, ap length at.group, few_stored at.waiting)) (Open place) then (one still (λ s. IsFileAt begin start (Open place) s at.safe at.waiting h.session.market) file) is_then
+      (along_ends begin was start old m holds place ahead now at.safe h.session.market along alone read then is_then moments)
+  left_file (Open place) still file whole =
+      stays_file begin was start old m holds alone read at.safe at.waiting h.session.market (omega (arith, short, ap length at.group, few_stored at.waiting)) all_whole (Open place) then (one still (λ s. IsFileAt begin start (Open place) s at.safe at.waiting h.session.market) file)
+      (one still (λ s. IsWholeAt begin start read (Open place) s at.safe) whole) is_then
 
   hosts_left : (Cut : Type 0) → LeavesFile h.book now then One h.session.market → SameOut → Hosts Cut then after
   hosts_left Cut leaves quiet =
       carry_out quiet (Hosts Cut then)
-      (hosts_gone limit content begin was start old m holds alone first read h now out at short are Cut then (subst (λ (l : Entries). Ends then l (length at.safe)) (sym at.parts) (left_file h.book leaves at.file)))
+      (hosts_gone limit content begin was start old m holds alone first read h now out at short are Cut then (subst (λ (l : Entries). Ends then l (length at.safe)) (sym at.parts) (left_file h.book leaves at.file at.whole)))
 
   -- it stopped at an entry of the file
   module _ (Why : ℕ → Market → List Command → ℕ → List ℕ → Type 0) (s : StopsWithin line h mid now then Why) where
@@ -116,10 +121,10 @@ module _ (limit : ℕ) (content : Option (List ℕ)) (begin was : Start) (start 
     first_file : Ends then at.pairs (length at.safe)
     first_file =
         subst (λ (l : Entries). Ends then l (length at.safe)) (sym same_here)
-        (along_ends begin was start old m holds s.place s.ahead now at.safe h.session.market along_here.1 alone then is_then (looks_alone begin old now then goes_here.looks))
+        (along_ends begin was start old m holds s.place s.ahead now at.safe h.session.market along_here.1 alone read then is_then (looks_alone begin old now then goes_here.looks))
 
-    all_file : Ends then (at.pairs ++ s.taken) (length (at.pairs ++ s.taken))
-    all_file = along_ends begin was start old m holds s.later s.piece then (at.pairs ++ s.taken) mid.session.market then_here alone then is_then (looks_alone begin old then then (looks_none then is_then))
+    all_file : EndsFile begin was start then old m (read ++ line ∷ []) (at.pairs ++ s.taken) (length (at.pairs ++ s.taken))
+    all_file = along_ends begin was start old m holds s.later s.piece then (at.pairs ++ s.taken) mid.session.market then_here alone (read ++ line ∷ []) then is_then (looks_alone begin old then then (looks_none then is_then))
 
     into : AreHostedInto begin read line s.next (at.pairs ++ s.taken) (at.texts ++ s.texts) mid.session.market mid.session.talk.desks
     into = served_into begin start first read h now then out at line mid Why s

@@ -39,7 +39,8 @@ use Rattle.desk_keeping.specs.Faults.{of_disk}
 use Rattle.desk_keeping.specs.Hosting.{Entries}
 use Rattle.desk_keeping.specs.declared.fault.HostFault.{HostFault}
 use Rattle.desk_keeping.specs.declared.fault.HostFault.TheVariants as host
-use Rattle.desk_keeping.specs.Private.{HostState, stored, ReadsOn, ReadsUp, FileGoes, LeavesFile, StaysAside, ServesOne, IsOpen, IsEntryOf, TakesEntry, LeavesEntry, StopsAt, WhyNot, BreaksOne, Replays, AnswersOne}
+use Rattle.desk_keeping.specs.Private.{HostState, stored, ReadsOn, ReadsUp, FileGoes, IsLeftAlone, LeavesFile, StaysAside, ServesOne, IsOpen, IsEntryOf, TakesEntry, LeavesEntry, MakesAtEnd, StopsAt, WhyNot, BreaksOne, Replays, AnswersOne}
+use Rattle.desk_keeping.proofs.KeepingNone.{none_closed, looked_alone}
 use Rattle.desk_keeping.proofs.Files.{moved, goes_more, makes_one, leaves_goes}
 
 -- ---- a file that has no more entries
@@ -61,12 +62,16 @@ none_goes (Open place) (Kept later next) disk now Same m is_disk still found = a
 -- ---- nothing was found
 
 pub leaves_found : (b : Book) (disk now : DiskState) (Same : Type 0) (m : Market) (fault : DiskFault) → IsNotFoundBy b disk now fault → LeavesFile b disk now Same m
-leaves_found (Kept place ahead) disk now Same m fault nothing = λ begin pairs along was legal k holds. by_left begin pairs along was legal k holds nothing.left
+leaves_found (Kept place ahead) disk now Same m fault nothing = λ begin pairs along. ((λ was legal k holds. by_left begin pairs along was legal k holds nothing.left), alone begin pairs along nothing.left)
   where
     by_left : (begin : Start) (pairs : Entries) → IsReadAlong begin place ahead disk disk pairs m → (was : Start) (legal : Entries) (k : Market) → HoldsLegal disk was legal k
         → OnlyLooks disk now ⊎ (IfSome disk.content (IsClosedAt place) × LeavesThese place disk now) → AtEachMoment disk now (WhileOpening begin disk legal)
     by_left begin pairs along was legal k holds (inl looks) = looks_alone begin legal disk now looks
     by_left begin pairs along was legal k holds (inr (closed, leaves)) = cutting begin disk disk pairs m place ahead along closed now leaves was legal k holds
+
+    alone : (begin : Start) (pairs : Entries) → IsReadAlong begin place ahead disk disk pairs m → OnlyLooks disk now ⊎ (IfSome disk.content (IsClosedAt place) × LeavesThese place disk now) → IsLeftAlone disk now
+    alone begin pairs along (inl looks) = looked_alone disk now looks
+    alone begin pairs along (inr (closed, leaves)) = none_closed begin place ahead disk pairs m along closed (OnlyLooks disk now)
 leaves_found (Open place) disk now Same m fault nothing = absurd nothing
 
 -- it stopped at damage
@@ -195,7 +200,7 @@ module _ (h n : HostState) (command : Command) (disk now : DiskState) (Same : Ty
 
   leaves_all : (b : Book) → IsFoundBy b (Kept place next) disk now (Some count) → LeavesFile b disk now Same h.session.market
   leaves_all (Open p) it = absurd it
-  leaves_all (Kept p ahead) it = λ begin pairs along was legal k holds. looks_alone begin legal disk now it.1.looks
+  leaves_all (Kept p ahead) it = λ begin pairs along. ((λ was legal k holds. looks_alone begin legal disk now it.1.looks), looked_alone disk now it.1.looks)
 
   pub breaks_taken : (fault : HostFault) → LeavesEntry fault command h.session t place count next → BreaksOne fault command h n disk now Same
   breaks_taken host.Memory why = leaves_all h.book found
@@ -221,6 +226,17 @@ module _ (h n : HostState) (command : Command) (disk now : DiskState) (Same : Ty
 aside_more : (h m n : HostState) → StaysAside h m → StaysAside m n → StaysAside h n
 aside_more h m n one two = record { group = two.group ∙ one.group; told = two.told ∙ one.told; written = two.written ∙ one.written }
 
+-- an entry that is made is one
+makes_end : (b c : Book) (pair : Pair Record Outcome) → MakesAtEnd b c (pair ∷ [])
+makes_end (Kept place ahead) (Open later) pair = omega arith
+makes_end (Kept place ahead) (Kept later next) pair = tt
+makes_end (Open place) c pair = tt
+
+-- one that is taken from the file doesn't end it
+pub takes_none : (b : Book) (later : ℕ) (next : AheadState) → MakesAtEnd b (Kept later next) []
+takes_none (Kept place ahead) later next = tt
+takes_none (Open place) later next = tt
+
 -- there was no entry for it, and it was served
 pub answers_served : (sender : Recipient) (line : ℕ) (command : Command) (h m n : HostState) (disk now : DiskState) (Same : Type 0) → IsDisk now → Replays false sender line command h m disk now Same → ServesOne sender line command m n → n.book ≡ m.book
     → AnswersOne sender line command h n disk now Same
@@ -234,6 +250,7 @@ answers_served sender line command h m n disk now Same is_disk (session, opens, 
       (goes_more disk now now is_disk h.session.market h.session.market Same ⊤ Same (λ same done. same) (λ done P is. is) n.session.market [] [] [] (one.pair ∷ []) h.book m.book m.book goes
       (makes_one m.book now h.session.market n.session.market one.pair opens (subst (λ (s : State). Step IsReadAs IsCanonicalOutcome s.market one.pair.asked one.pair.answer n.session.market) session one.serves.answers.step) one.serves.fits));
   fresh = one.fresh ∙ ap (λ (l : List ℕ). l ++ stored (one.pair ∷ [])) fresh;
+  more = makes_end h.book n.book one.pair;
   aside = aside_more h m n aside one.aside;
 }
 

@@ -1,5 +1,5 @@
 -- For private functions alone: a host between lines, what hearing a line and keeping a group do, and where it stops.
-use Rattle.std.specs.Prelude.{◌≡◌, ◌≢◌, ◌⊎◌, ◌≤◌, ◌+◌, ◌-◌, ◌*◌, ◌^◌, ℕ, List, [], ◌∷◌, ◌++◌, length, take, drop, map, All, Option, IfSome, IsSome, Bool, true, false, IsTrue, ⊤}
+use Rattle.std.specs.Prelude.{◌≡◌, ◌≢◌, ◌⊎◌, ◌<◌, ◌≤◌, ◌+◌, ◌-◌, ◌*◌, ◌^◌, ℕ, List, [], ◌∷◌, ◌++◌, length, take, drop, map, All, Option, IfSome, IsSome, Bool, true, false, IsTrue, ⊤}
 use Rattle.std.specs.List.{flat_map}
 use Rattle.wire_records.specs.Commands.{Command, Pair}
 use Rattle.wire_records.specs.Versions.{IsReadAs}
@@ -20,6 +20,8 @@ use Rattle.journal_disk.specs.Looking.{OnlyLooks}
 use Rattle.journal_disk.specs.Stepping.{HasEntryAt, StatesAt, IsDamagedAt}
 use Rattle.journal_keeping.specs.Starts.{head_of}
 use Rattle.journal_keeping.specs.Keeping.{HoldsLegal, GoesOn, DuringCall}
+use Rattle.journal_keeping.specs.Openings.{KeepNone, IsOpening}
+use Rattle.journal_keeping.specs.Openings as opening
 use Rattle.journal_keeping.specs.Beginning.{WhileOpening}
 use Rattle.journal_keeping.specs.Outputs.{Output, Gains}
 use Rattle.desk_session.specs.States.{State, CountsAccounts, Answers, Serves, IsUntouched}
@@ -27,7 +29,7 @@ use Rattle.desk_session.specs.Lines.{AreServed, IsLineServed, IsLineBegun}
 use Rattle.desk_opening.specs.Books.{IsReadAlong, GetsMore, Continues, AddsTo, LeavesWithOrWithout}
 use Rattle.desk_opening.specs.declared.book.Book.{Book}
 use Rattle.desk_opening.specs.declared.book.Book.TheVariants.{Kept, Open}
-use Rattle.desk_keeping.specs.Hosting.{Entries, Texts, AreHosted, IsEntryInvalid, IsEntryOther}
+use Rattle.desk_keeping.specs.Hosting.{Entries, Texts, AreHosted, AreOfWholeLines, LeavesWholeLines, IsEntryInvalid, IsEntryOther}
 use Rattle.desk_keeping.specs.declared.fault.HostFault.{HostFault}
 use Rattle.desk_keeping.specs.declared.fault.HostFault.TheVariants.{Write, Disk, Memory, Damaged, Rejected, Differs}
 use Rattle.flow_io.specs.Streams.{Takes}
@@ -97,11 +99,22 @@ FileGoes (Open place) (Open later) disk now SameDisk before taken made after =
     (taken ≡ []) × (later ≡ place) × SameDisk × Follows IsReadAs IsCanonicalOutcome before made after × All IsPair made
 FileGoes (Open place) (Kept later next) disk now SameDisk before taken made after = ⊥
 
--- What a crash leaves of a file that was read along and perhaps being cut: what it might have left before, or the entries of the file. One that gets more is as it was.
+-- a book that was read to its end meanwhile got an entry more
+abbrev pub MakesAtEnd : (old new : Book) → (made : Entries) → Type 0
+MakesAtEnd (Kept place ahead) (Open later) made = 0 < length made
+MakesAtEnd (Kept place ahead) (Kept later next) made = ⊤
+MakesAtEnd (Open place) new made = ⊤
+
+-- a file that keeps no valid journal, and isn't new, was only looked at
+abbrev pub IsLeftAlone : (start now : DiskState) → Type 0
+IsLeftAlone start now = IfSome start.content (λ held. KeepNone held → OnlyLooks start now)
+
+-- What a crash leaves of a file that was read along and perhaps being cut: what it might have left before, or the entries of the file. If that keeps no valid
+-- journal, it was only looked at. One that gets more is as it was.
 abbrev pub LeavesFile : Book → (disk now : DiskState) (SameDisk : Type 0) → Market → Type 0
 LeavesFile (Kept place ahead) disk now SameDisk market =
     (begin : Start) (pairs : Entries) → IsReadAlong begin place ahead disk disk pairs market
-    → (was : Start) (legal : Entries) (m : Market) → HoldsLegal disk was legal m → AtEachMoment disk now (WhileOpening begin disk legal)
+    → ((was : Start) (legal : Entries) (m : Market) → HoldsLegal disk was legal m → AtEachMoment disk now (WhileOpening begin disk legal)) × IsLeftAlone disk now
 LeavesFile (Open place) disk now SameDisk market = SameDisk
 
 -- ---- commands and lines
@@ -120,6 +133,7 @@ pub record AnswersOne (sender : Recipient) (line : ℕ) (command : Command) (old
   pub one : taken ++ made ≡ pair ∷ []
   pub answers : Answers IsAdmissibleOutcome old.session sender line command pair new.session
   pub goes : FileGoes old.book new.book disk now SameDisk old.session.market taken made new.session.market
+  pub more : MakesAtEnd old.book new.book made
   pub fresh : new.fresh ≡ old.fresh ++ stored made
   pub aside : StaysAside old new
 
@@ -186,6 +200,7 @@ abbrev pub Replays : Bool → Recipient → (line : ℕ) → Command → (old ne
 Replays true sender line command old new disk now SameDisk =
     (pair : Pair Record Outcome) × Answers IsAdmissibleOutcome old.session sender line command pair new.session
     × FileGoes old.book new.book disk now SameDisk old.session.market (pair ∷ []) [] new.session.market × (new.fresh ≡ old.fresh) × StaysAside old new
+    × MakesAtEnd old.book new.book []
 Replays false sender line command old new disk now SameDisk =
     (new.session ≡ old.session) × IsOpen new.book × FileGoes old.book new.book disk now SameDisk old.session.market [] [] old.session.market
     × (new.fresh ≡ old.fresh) × StaysAside old new
@@ -211,6 +226,7 @@ pub record AnswersAll (sender : Recipient) (line : ℕ) (commands : List Command
   pub said : new.session.talk.texts ≡ old.session.talk.texts ++ texts
   pub entries : new.session.entries ≡ old.session.entries + length (taken ++ made)
   pub goes : FileGoes old.book new.book disk now SameDisk old.session.market taken made new.session.market
+  pub more : MakesAtEnd old.book new.book made
   pub fresh : new.fresh ≡ old.fresh ++ stored made
   pub aside : StaysAside old new
 
@@ -248,6 +264,7 @@ pub record HearsLine (line : List ℕ) (old new : HostState) (disk now : DiskSta
   pub said : new.session.talk.texts ≡ old.session.talk.texts ++ texts
   pub entries : new.session.entries ≡ old.session.entries + length (taken ++ made)
   pub goes : FileGoes old.book new.book disk now SameDisk old.session.market taken made new.session.market
+  pub more : MakesAtEnd old.book new.book made
   pub fresh : new.fresh ≡ stored made
   pub aside : StaysAside old new
 
@@ -375,7 +392,7 @@ pub record AnswersLong (line : List ℕ) (old new : HostState) : Type 0 where
 -- ---- all lines
 
 -- A file that was read to its end got more, and others wait: the market after the old entries, those that were kept since then, by the canonical rule, and that those
--- that wait follow them by it. What a crash left since the start: what it might have left then, or the old entries and the first of these.
+-- that wait follow them by it. There is one of these at least, unless the file was new. What a crash left since the start: what it might have left then, or the old entries and the first of these.
 pub record Appends (begin : Start) (start : DiskState) (place : ℕ) (now : DiskState) (safe waiting : Entries) (market : Market) : Type 0 where
   pub old : Entries
   pub opened : Market
@@ -387,6 +404,7 @@ pub record Appends (begin : Start) (start : DiskState) (place : ℕ) (now : Disk
   pub keeps : IfSome start.content (λ _. Keeps (head_of begin) (map records_of (old ++ kept)) place now)
   pub during : (was : Start) (legal : Entries) (m : Market) → HoldsLegal start was legal m → DuringCall begin start now old kept
   pub told : IsSome now.content → IsSome start.content
+  pub more : (0 < length kept + length waiting) ⊎ IfSome start.content (λ held. IsOpening held opening.New)
   pub steps : Follows IsReadAs IsCanonicalOutcome between waiting market
   pub fits : All IsPair waiting
 
@@ -394,6 +412,16 @@ pub record Appends (begin : Start) (start : DiskState) (place : ℕ) (now : Disk
 abbrev pub IsFileAt : Start → DiskState → Book → DiskState → (safe waiting : Entries) → Market → Type 0
 IsFileAt begin start (Kept place ahead) now safe waiting market = (waiting ≡ []) × IsReadAlong begin place ahead start now safe market
 IsFileAt begin start (Open place) now safe waiting market = Appends begin start place now safe waiting market
+
+-- these entries are the old ones of a valid journal, or all of the first of these lines
+abbrev pub AreWhole : Start → List (List ℕ) → (legal all : Entries) → Type 0
+AreWhole begin read legal all = (all ≡ legal) ⊎ AreOfWholeLines begin read all
+
+-- of a file that gets more: at each moment since the start a crash left of each of these lines all new entries or none, and the file has such entries
+abbrev pub IsWholeAt : Start → DiskState → (read : List (List ℕ)) → Book → DiskState → (safe : Entries) → Type 0
+IsWholeAt begin start read (Kept place ahead) now safe = ⊤
+IsWholeAt begin start read (Open place) now safe =
+    (was : Start) (legal : Entries) (m : Market) → HoldsLegal start was legal m → AtEachMoment start now (LeavesWholeLines begin read start legal) × AreWhole begin read legal safe
 
 -- The first of these lines were answered with these texts, and their entries are among the first ones of the file.
 abbrev pub AreToldOf : Start → (read : List (List ℕ)) → (gone : Texts) → (safe : Entries) → Type 0
@@ -414,6 +442,7 @@ pub record IsAt (begin : Start) (start : DiskState) (first : Output) (read : Lis
   pub parts : pairs ≡ safe ++ waiting
   pub group : h.group ≡ stored waiting
   pub file : IsFileAt begin start h.book now safe waiting h.session.market
+  pub whole : IsWholeAt begin start read h.book now safe
   pub all_told : h.told ≡ length h.session.talk.texts
   pub order : h.written ≤ h.told
   pub gone : Texts

@@ -7,12 +7,14 @@ ghost use Rattle.wire_records.specs.Commands.{Pair};
 ghost use Rattle.flow_orders.specs.Outcomes.{Outcome};
 ghost use Rattle.market_rules.specs.Market.{Market};
 ghost use Rattle.market_history.specs.Histories.{Start};
+ghost use Rattle.journal_disk.specs.Looking.{OnlyLooks};
 ghost use Rattle.journal_keeping.specs.Keeping.{HoldsLegal};
 ghost use Rattle.journal_keeping.specs.Lengths.{most_input};
+ghost use Rattle.journal_keeping.specs.Openings.{KeepNone};
 ghost use Rattle.journal_keeping.specs.Outputs.{output};
 ghost use Rattle.desk_opening.specs.Openings.{IsNoBook};
-ghost use Rattle.desk_keeping.specs.Hosting.{ComesTo, HostsIn, IsOfFile};
-ghost use Rattle.desk_keeping.specs.Private.{IsHosting};
+ghost use Rattle.desk_keeping.specs.Hosting.{ComesTo, HostsIn, HasTakenBeginning, IsMadeAfterBeginning, IsOfFile};
+ghost use Rattle.desk_keeping.specs.Private.{IsLeftAlone, IsHosting};
 
 use crate::fault::HostFault;
 use crate::host::Host;
@@ -44,10 +46,13 @@ fn host_on<S: Source, D: Disk, K: Sink>(
         (output K.held K.calls K.faults first) (output K.held K.calls K.faults out.new) }
     ensures comes { (was : D) (content : Option (List ℕ)) (first : K) → IsHosting limit content (S.rest source.old) (D.state was) (D.state disk.old)
         (output K.held K.calls K.faults first) (output K.held K.calls K.faults out.old) window.old host.old →
-        IfSome (D.state was).content (λ held. ComesTo limit held content (S.rest source.new) (D.state disk.new)
+        IfSome (D.state was).content (λ held. ComesTo limit held content (S.rest source.new) (D.state was) (D.state disk.new)
         (output K.held K.calls K.faults first) (output K.held K.calls K.faults out.new) result) }
     ensures taken { (was : D) (content : Option (List ℕ)) (first : K) → IsHosting limit content (S.rest source.old) (D.state was) (D.state disk.old)
-        (output K.held K.calls K.faults first) (output K.held K.calls K.faults out.old) window.old host.old → TakesAtMost content (S.rest source.new) (limit + 1) }
+        (output K.held K.calls K.faults first) (output K.held K.calls K.faults out.old) window.old host.old →
+        TakesAtMost content (S.rest source.new) (limit + 1) × HasTakenBeginning limit content (S.rest source.new) }
+    ensures untouched { (was : D) (content : Option (List ℕ)) (first : K) → IsHosting limit content (S.rest source.old) (D.state was) (D.state disk.old)
+        (output K.held K.calls K.faults first) (output K.held K.calls K.faults out.old) window.old host.old → IsLeftAlone (D.state was) (D.state disk.new) }
     ensures disk_cause { Blames (result ≡ Err HostFault.Disk) (D.state disk.old).faults (D.state disk.new).faults }
     ensures source_cause { Blames (result ≡ Err HostFault.Read) (S.faults source.old) (S.faults source.new) }
     ensures out_cause { Blames (result ≡ Err HostFault.Write) (K.faults out.old) (K.faults out.new) }
@@ -100,10 +105,10 @@ fn host_on<S: Source, D: Disk, K: Sink>(
 /// The disk is opened first, up to its first entry: `NotDisk`, and `Damaged` at byte 8, say that it is none of a journal, or that this entry is neither complete
 /// nor the checkpoint of a consistent market, and of such a disk nothing is read of the input. `NotFlow` and `BadCheckpoint` say how the input begins, and
 /// `Differs` with 0 that the disk begins otherwise. None of them changes the disk or writes anything. `Damaged`, `Rejected` and `Differs` with an entry's number
-/// come where a command asks for that entry; all that was taken from the entries before it is answered then, and the disk isn't changed. At `Ok` and `TooLong`
-/// all lines of the first `limit` bytes are answered, and at `Read` all that were complete in what was taken. At most one byte past the limit is taken, which
-/// says that there are more. `Disk`, `Read` and `Write` come only if the count of faults of the disk, the input or `out` rose. `Memory` may come at any time.
-/// The limit is at most 2^40 bytes.
+/// come where a command asks for that entry; all that was taken from the entries before it is answered then, and the disk isn't changed. A disk that isn't new
+/// and keeps no valid journal is never changed, whatever the result, and a new one only once the beginning of the input was taken. At `Ok` and `TooLong` all lines of the first `limit` bytes are answered, and at `Read` all
+/// that were complete in what was taken. At most one byte past the limit is taken, which says that there are more. `Disk`, `Read` and `Write` come only if the
+/// count of faults of the disk, the input or `out` rose. `Memory` may come at any time. The limit is at most 2^40 bytes.
 ///
 /// Costs the reading of each line, for each command what serving it or auditing its entry costs, its texts, and for each group two syncs. Holds a window of
 /// 262,145 bytes, the entries of a group and of a line, and their texts.
@@ -118,9 +123,11 @@ pub fn host_lines<S: Source, D: Disk, K: Sink>(
     ensures keeps { (was : Start) (old : List (Pair Record Outcome)) (market : Market) → HoldsLegal (D.state disk.old) was old market →
         HostsIn limit (S.rest source.old) (result ≡ Err HostFault.Write) was (D.state disk.old) (D.state disk.new) old market
         (output K.held K.calls K.faults out.old) (output K.held K.calls K.faults out.new) }
-    ensures comes { IfSome (D.state disk.old).content (λ held. ComesTo limit held (S.rest source.old) (S.rest source.new) (D.state disk.new)
+    ensures comes { IfSome (D.state disk.old).content (λ held. ComesTo limit held (S.rest source.old) (S.rest source.new) (D.state disk.old) (D.state disk.new)
         (output K.held K.calls K.faults out.old) (output K.held K.calls K.faults out.new) result) }
     ensures refuses { IfSome (D.state disk.old).content (λ held. IsNoBook held → IsOfFile result × (source.new ≡ source.old) × (out.new ≡ out.old)) }
+    ensures untouched { IfSome (D.state disk.old).content (λ held. KeepNone held → OnlyLooks (D.state disk.old) (D.state disk.new)) }
+    ensures made { IfSome (D.state disk.old).content (λ held. IsMadeAfterBeginning limit held (D.state disk.old) (D.state disk.new) (S.rest source.old) (S.rest source.new)) }
     ensures taken { TakesAtMost (S.rest source.old) (S.rest source.new) (limit + 1) }
     ensures disk_cause { Blames (result ≡ Err HostFault.Disk) (D.state disk.old).faults (D.state disk.new).faults }
     ensures source_cause { Blames (result ≡ Err HostFault.Read) (S.faults source.old) (S.faults source.new) }

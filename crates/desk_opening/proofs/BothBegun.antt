@@ -27,7 +27,7 @@ use Rattle.desk_opening.specs.declared.opening.StartFault.{StartFault}
 use Rattle.desk_opening.specs.declared.opening.StartFault.TheVariants as fault
 use Rattle.desk_opening.specs.Beginnings.{bytes_before, IsBeginning, HasBegun, NotBegun}
 use Rattle.desk_opening.specs.Books.{IsBookAfter, Continues}
-use Rattle.desk_opening.specs.Openings.{GrowsBy, BeginsAlone, HasOpened, HasNotOpened, BeginsOtherwise, WasMaking, TakesBeginning}
+use Rattle.desk_opening.specs.Openings.{GrowsBy, BeginsAlone, IsOpenIfNew, HasOpened, HasNotOpened, BeginsOtherwise, WasMaking, TakesBeginning}
 use Rattle.desk_opening.specs.Private.{MakesBook, MakesNoBook}
 
 -- the next order of a market that begins so has a number within the bound
@@ -63,6 +63,10 @@ module _ (start mid now : DiskState) (looks : OnlyLooks start mid) (is_disk : Is
     near = after.near;
   }
 
+  new_first : (file : Book) → IsOpenIfNew file mid.content → IsOpenIfNew file start.content
+  new_first (book.Kept place ahead) is = tt
+  new_first (book.Open place) is = before (λ held. IsOpening held opening.New) is
+
   making_first : (begin : Start) → WasMaking begin mid now → WasMaking begin start now
   making_first begin was_making = record {
     is_new = before (λ held. IsOpening held opening.New) was_making.is_new;
@@ -85,6 +89,7 @@ module _ (start mid now : DiskState) (looks : OnlyLooks start mid) (is_disk : Is
           is_open = begun.is_open;
           file = book_first begun.begin market file made.after;
           alone = before (BeginsAlone begun.begin) made.alone;
+          only_new = new_first file made.only_new;
           orders = orders_few begun.begin market begun.is_one.starts begun.is_one.market_is;
           near = made.near;
           lengths = grows_first (2 * length (bytes_before begun.begin)) made.lengths;

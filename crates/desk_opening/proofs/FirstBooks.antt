@@ -72,6 +72,7 @@ module _ (version : Version) (place : ℕ) (start now : DiskState) (found : IfSo
       holds = still start now (λ _. (left : List ℕ) × Holds (head_of begin) [] place left now) looks (holds_so yes_same start.content refl found);
     };
     alone = alone_so yes_same start.content refl found;
+    only_new = tt;
     near = near;
     lengths = grows_looked (2 * length (bytes_before begin)) start now looks;
     told = told_looked start now looks;
@@ -154,6 +155,7 @@ module _ (start now : DiskState) (version : Version) (begin : Start) (market : M
       near = omega (arith, at, stored_short begin market stored is);
     };
     alone = if_some start.content (λ held. IsFound None held start) (BeginsAlone begin) (alone_new begin) found;
+    only_new = was_making.is_new;
     near = omega (arith, at, stored_short begin market stored is);
     lengths = was_making.lengths;
     told = told;

@@ -42,6 +42,11 @@ abbrev pub BeginsAlone : Start → List ℕ → Type 0
 BeginsAlone (Empty version) held = (¬ IsNewDisk held) → (first : Market) → ¬ HasFirst first held
 BeginsAlone (OfCheckpoint market) held = ⊤
 
+-- a file that gets more from its opening on was new
+abbrev pub IsOpenIfNew : Book → Option (List ℕ) → Type 0
+IsOpenIfNew (Kept place ahead) content = ⊤
+IsOpenIfNew (book.Open place) content = IfSome content (λ held. IsOpening held opening.New)
+
 -- The file and the input were opened: how both begin, what was taken of the input, that its window can be read on for lines of at most `most`
 -- bytes, the book, and how much room there is for more.
 pub record HasOpened (most limit : ℕ) (start now : DiskState) (market : Market) (book : Book) (window : WindowState) (before after : Option (List ℕ)) : Type 0 where
@@ -54,6 +59,7 @@ pub record HasOpened (most limit : ℕ) (start now : DiskState) (market : Market
   pub is_open : IsOpenFor most window after
   pub file : IsBookAfter begin book start now [] market
   pub alone : IfSome start.content (BeginsAlone begin)
+  pub only_new : IsOpenIfNew book start.content
   pub orders : market.next_order ≤ 2 ^ 63
   pub near : place_of book ≤ 2 ^ 60
   pub lengths : GrowsBy (2 * length (bytes_before begin)) start now

@@ -21,7 +21,7 @@ use Rattle.desk_opening.specs.declared.opening.StartFault.{StartFault}
 use Rattle.desk_opening.specs.declared.opening.StartFault.TheVariants as fault
 use Rattle.desk_opening.specs.Beginnings.{bytes_before}
 use Rattle.desk_opening.specs.Books.{IsBookAfter}
-use Rattle.desk_opening.specs.Openings.{place_of, GrowsBy, BeginsAlone, BeginsOtherwise, WasMaking}
+use Rattle.desk_opening.specs.Openings.{place_of, GrowsBy, BeginsAlone, IsOpenIfNew, BeginsOtherwise, WasMaking}
 
 -- what an input lacks that has no more bytes than these, which are fewer than those of a version's line
 abbrev pub IsLacking : List ℕ → InputFault → Type 0
@@ -53,6 +53,7 @@ IsFile (file.New place) disk = (place ≡ 8) × IfSome disk.content (λ held. Is
 pub record MakesBook (begin : Start) (market : Market) (book : Book) (start now : DiskState) : Type 0 where
   pub after : IsBookAfter begin book start now [] market
   pub alone : IfSome start.content (BeginsAlone begin)
+  pub only_new : IsOpenIfNew book start.content
   pub near : place_of book ≤ 2 ^ 60
   pub lengths : GrowsBy (2 * length (bytes_before begin)) start now
   pub told : IsSome now.content → IsSome start.content

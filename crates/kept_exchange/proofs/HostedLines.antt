@@ -18,7 +18,7 @@ use Rattle.journal_keeping.specs.Outputs.{Output}
 use Rattle.journal_keeping.proofs.Gaining.{gains_wider}
 use Rattle.journal_keeping.proofs.Again.{after_run}
 use Rattle.desk_opening.specs.Openings.{IsNoBook}
-use Rattle.desk_keeping.specs.Hosting.{ComesTo, IsOfFile, HostsIn}
+use Rattle.desk_keeping.specs.Hosting.{ComesTo, IsMadeAfterBeginning, IsOfFile, HostsIn}
 use Rattle.desk_keeping.specs.declared.fault.HostFault.{HostFault}
 use Rattle.desk_keeping.specs.declared.fault.HostFault.TheVariants.{Read, Write, Disk, Memory, NotDisk, Damaged, Rejected, NotFlow, BadCheckpoint, TooLong, Differs}
 use Rattle.exit_status.specs.declared.status.Status.{Status}
@@ -90,9 +90,11 @@ hosts_wider limit content Cut Wider was start end old market out later wider h =
   pairs = h.pairs;
   texts = h.texts;
   asked = h.asked;
+  whole = h.whole;
   parts = h.parts;
   count = h.count;
   within = h.within;
+  durable = h.durable;
   told = h.told;
   answered = h.answered;
   gained = gains_wider Cut Wider out later h.told wider h.gained;
@@ -106,8 +108,9 @@ hosts_again limit content Cut was start end old market out later holds is_disk h
 module _ (limit : ℕ) (result : Hosted) (start end : DiskState) (source : Change) (out later : Output) where
   pub hosts : (notes : Change) (noting : Result (Unit {0}) WriteFailed)
       → ((was : Start) (old : List (Pair Record Outcome)) (market : Market) → HoldsLegal start was old market → HostsIn limit source.before (◌≡◌ {A = Hosted} result (Err Write)) was start end old market out later)
-      → IfSome start.content (λ held. ComesTo limit held source.before source.after end out later result)
+      → IfSome start.content (λ held. ComesTo limit held source.before source.after start end out later result)
       → IfSome start.content (λ held. IsNoBook held → IsOfFile result × (source.after ≡ source.before) × (later ≡ out))
+      → IfSome start.content (λ held. IsMadeAfterBeginning limit held start end source.before source.after)
       → TakesAtMost source.before source.after (limit + 1)
       → Blames (◌≡◌ {A = Hosted} result (Err Disk)) start.faults end.faults
       → Blames (◌≡◌ {A = Hosted} result (Err Read)) source.faults source.faults_after
@@ -116,12 +119,13 @@ module _ (limit : ℕ) (result : Hosted) (start end : DiskState) (source : Chang
       → OnErr noting (GrowsByPrefix notes.before notes.after (line_of (host_status limit result)))
       → Blames (IsErr noting) notes.faults notes.faults_after
       → HostsLines limit (host_status limit result) start end source out later notes
-  hosts notes noting keeps comes refuses taken disks reads writes line prefix cause = record {
+  hosts notes noting keeps comes refuses made taken disks reads writes line prefix cause = record {
     keeps = λ was old market holds. hosts_wider limit source.before (◌≡◌ {A = Hosted} result (Err Write)) (host_status limit result ≡ status.WriteFault) was start end old market out later (λ e. ap (λ (r : Hosted). host_status limit r) e) (keeps was old market holds);
     result = result;
     ends_so = refl;
     comes = comes;
     refuses = refuses;
+    made = made;
     taken = taken;
     disks = blames_as _ (host_status limit result ≡ status.DiskFault) start.faults end.faults (λ e. ap (λ (r : Hosted). host_status limit r) e) (λ e. one_result limit result (Err Disk) e) disks;
     reads = blames_as _ (host_status limit result ≡ status.ReadFault) source.faults source.faults_after (λ e. ap (λ (r : Hosted). host_status limit r) e) (λ e. one_result limit result (Err Read) e) reads;

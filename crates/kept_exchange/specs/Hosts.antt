@@ -12,7 +12,7 @@ use Rattle.disk_edge.specs.Disks.{DiskState}
 use Rattle.journal_keeping.specs.Keeping.{HoldsLegal}
 use Rattle.journal_keeping.specs.Outputs.{Output}
 use Rattle.desk_opening.specs.Openings.{IsNoBook}
-use Rattle.desk_keeping.specs.Hosting.{ComesTo, IsOfFile, HostsIn}
+use Rattle.desk_keeping.specs.Hosting.{ComesTo, IsMadeAfterBeginning, IsOfFile, HostsIn}
 use Rattle.desk_keeping.specs.declared.fault.HostFault.{HostFault}
 use Rattle.desk_keeping.specs.declared.fault.HostFault.TheVariants as host
 use Rattle.exit_status.specs.declared.status.Status.{Status}
@@ -46,10 +46,12 @@ pub record HostsLines (limit : ℕ) (ends : Status) (start end : DiskState) (sou
   -- status.
   pub result : Result ⊤ HostFault
   pub ends_so : ends ≡ host_status limit result
-  pub comes : IfSome start.content (λ held. ComesTo limit held source.before source.after end out later result)
+  pub comes : IfSome start.content (λ held. ComesTo limit held source.before source.after start end out later result)
   -- If the file's bytes alone refuse it, as one of no journal, or damaged at its first entry, the call ends at its opening: nothing is read of the source, and
   -- nothing written to the output.
   pub refuses : IfSome start.content (λ held. IsNoBook held → IsOfFile result × (source.after ≡ source.before) × (later ≡ out))
+  -- A new file is only looked at, unless the beginning of the source, within the limit, is among what was taken of it.
+  pub made : IfSome start.content (λ held. IsMadeAfterBeginning limit held start end source.before source.after)
   -- At most one byte past the limit is taken of the source.
   pub taken : TakesAtMost source.before source.after (limit + 1)
   -- A fault is answered only if its count rose; otherwise the count stays.

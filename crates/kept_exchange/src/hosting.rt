@@ -1,12 +1,14 @@
 //! The call that the program makes when asked to `host FILE`.
-ghost use Rattle.std.specs.Prelude.{◌≤◌, List};
+ghost use Rattle.std.specs.Prelude.{◌≤◌, List, IfSome};
 ghost use Rattle.flow_io.specs.Changes.{change};
 ghost use Rattle.wire_records.specs.Records.{Record};
 ghost use Rattle.wire_records.specs.Commands.{Pair};
 ghost use Rattle.flow_orders.specs.Outcomes.{Outcome};
 ghost use Rattle.market_rules.specs.Market.{Market};
 ghost use Rattle.market_history.specs.Histories.{Start};
+ghost use Rattle.journal_disk.specs.Looking.{OnlyLooks};
 ghost use Rattle.journal_keeping.specs.Keeping.{HoldsLegal};
+ghost use Rattle.journal_keeping.specs.Openings.{KeepNone};
 ghost use Rattle.journal_keeping.specs.Ended.{MayBeginAgain};
 ghost use Rattle.journal_keeping.specs.Outputs.{output};
 ghost use Rattle.exit_status.specs.Limits.{input_limit};
@@ -31,6 +33,7 @@ pub fn flow_host_limited<S: Source, D: Disk, K: Sink, N: Sink>(
     requires few { limit ≤ input_limit }
     ensures hosts { HostsLines limit result (D.state disk.old) (D.state disk.new) (change S.rest S.faults source.old source.new)
         (output K.held K.calls K.faults out.old) (output K.held K.calls K.faults out.new) (change N.held N.faults notes.old notes.new) }
+    ensures untouched { IfSome (D.state disk.old).content (λ held. KeepNone held → OnlyLooks (D.state disk.old) (D.state disk.new)) }
     // What a crash leaves of a disk on which a call may begin is such a disk again, at any moment of the call and after it.
     ensures again { (was : Start) (old : List (Pair Record Outcome)) (market : Market) → HoldsLegal (D.state disk.old) was old market →
         MayBeginAgain (D.state disk.old) (D.state disk.new) }
@@ -53,8 +56,9 @@ pub fn flow_host_limited<S: Source, D: Disk, K: Sink, N: Sink>(
 /// `NotFlow` says that the source begins with neither a checkpoint nor the line of a version, and `BadCheckpoint` that it begins with the magic of a checkpoint
 /// but with no checkpoint of a consistent market; nothing is written then. `Differs` has the number, counted from 1, of the first entry of the disk that is valid
 /// and isn't the one that the lines ask for, or 0 if the disk begins otherwise than the source. `Damaged` and `Rejected` may come once entries before
-/// are answered, since the disk is read along with the lines. With none of these is the disk changed. The other statuses are those of
-/// [`flow_lines`](crate::flow_lines). With every status but `Done` one line is written to `notes`; a fault of `notes` changes nothing.
+/// are answered, since the disk is read along with the lines. With none of these is the disk changed, and one that isn't new and keeps no valid journal is never
+/// changed, whatever the status. The other statuses are those of [`flow_lines`](crate::flow_lines). With every status but `Done` one line is written to `notes`;
+/// a fault of `notes` changes nothing.
 ///
 /// Costs for each line what its reading and its answers cost, for each entry that the disk has an audit, and for each further command what `keep` costs, but for the
 /// two syncs, which come once for all lines of a read. Memory is that of the market and 24 bytes for each account, a window of 262,145 bytes, at most 2^20 bytes of
@@ -68,6 +72,9 @@ pub fn flow_host<S: Source, D: Disk, K: Sink, N: Sink>(
 ) -> Status
     ensures hosts { HostsLines input_limit result (D.state disk.old) (D.state disk.new) (change S.rest S.faults source.old source.new)
         (output K.held K.calls K.faults out.old) (output K.held K.calls K.faults out.new) (change N.held N.faults notes.old notes.new) }
+    // A disk that isn't new and keeps no valid journal is never changed, whatever the status. Its entries before the first invalid one may be read along
+    // with the lines, and answered.
+    ensures untouched { IfSome (D.state disk.old).content (λ held. KeepNone held → OnlyLooks (D.state disk.old) (D.state disk.new)) }
     ensures again { (was : Start) (old : List (Pair Record Outcome)) (market : Market) → HoldsLegal (D.state disk.old) was old market →
         MayBeginAgain (D.state disk.old) (D.state disk.new) }
 {

@@ -6,7 +6,7 @@ use Rattle.desk_keeping.specs.Hosting.{ComesTo, IsOfFile}
 use Rattle.desk_keeping.specs.Private.{HostState, IsHosting}
 use Rattle.desk_keeping.specs.declared.fault.HostFault.{HostFault}
 use Rattle.desk_keeping.proofs.Steps.{first_host}
-use Rattle.desk_keeping.proofs.Unopened.{hosts_not_opened, hosts_opened, comes_not_opened, refused_unopened, refused_opened}
+use Rattle.desk_keeping.proofs.Unopened.{hosts_not_opened, hosts_opened, alone_not_opened, alone_opened, made_begun, made_not_opened, made_opened, comes_not_opened, refused_unopened, refused_opened}
 use Rattle.desk_keeping.proofs.Loop.{hosting_begins, always, blames_from, neither}
 use Rattle.desk_keeping.proofs.hosting.host_lines.Goals as goal
 
@@ -18,7 +18,7 @@ returns-in-Err-clause-keeps g c =
 pub returns-in-Err-clause-comes : goal.returns-in-Err-clause-comes
 returns-in-Err-clause-comes g c =
     always (g.D.Disk.state c.args.disk.now).content _
-    (λ held told. subst (λ (f : HostFault). ComesTo c.args.limit held (g.S.Source.rest c.args.source.now) (g.S.Source.rest c.open_desk.new.source) (g.D.Disk.state c.open_desk.new.disk) (output g.K.Sink.held g.K.Sink.calls g.K.Sink.faults c.args.out.now)
+    (λ held told. subst (λ (f : HostFault). ComesTo c.args.limit held (g.S.Source.rest c.args.source.now) (g.S.Source.rest c.open_desk.new.source) (g.D.Disk.state c.args.disk.now) (g.D.Disk.state c.open_desk.new.disk) (output g.K.Sink.held g.K.Sink.calls g.K.Sink.faults c.args.out.now)
     (output g.K.Sink.held g.K.Sink.calls g.K.Sink.faults c.args.out.now) (Err f)) (sym c.from.ensures)
     (comes_not_opened c.args.limit (g.S.Source.rest c.args.source.now) (g.S.Source.rest c.open_desk.new.source) (g.D.Disk.state c.args.disk.now) (g.D.Disk.state c.open_desk.new.disk) held told (output g.K.Sink.held g.K.Sink.calls g.K.Sink.faults c.args.out.now) c.in-Err.fault c.in-Err.ensures.fails))
 
@@ -68,8 +68,19 @@ returns-clause-taken g c =
     let counted : CountsAccounts (first_host c.in-Ok.opened.market c.in-Ok.opened.book).session = subst CountsAccounts c.in-Ok-over.ensures.value c.in-Ok-over.ensures.counted in
     let x = hosting_begins c.args.limit (g.S.Source.rest c.args.source.now) (g.D.Disk.state c.args.disk.now) (output g.K.Sink.held g.K.Sink.calls g.K.Sink.faults c.args.out.now) (g.D.Disk.state c.open_desk.new.disk) c.in-Ok.opened.market c.in-Ok.opened.book
     c.in-Ok.opened.window (g.S.Source.rest c.open_desk.new.source) c.in-Ok.ensures.begun counted in
-    c.host_on.ensures.taken c.args.disk.now (g.S.Source.rest c.args.source.now) c.args.out.now (subst (λ (h : HostState). IsHosting c.args.limit (g.S.Source.rest c.args.source.now) (g.S.Source.rest c.open_desk.new.source) (g.D.Disk.state c.args.disk.now) (g.D.Disk.state c.open_desk.new.disk)
-    (output g.K.Sink.held g.K.Sink.calls g.K.Sink.faults c.args.out.now) (output g.K.Sink.held g.K.Sink.calls g.K.Sink.faults c.args.out.now) c.in-Ok.opened.window h) (sym same) x)
+    (c.host_on.ensures.taken c.args.disk.now (g.S.Source.rest c.args.source.now) c.args.out.now (subst (λ (h : HostState). IsHosting c.args.limit (g.S.Source.rest c.args.source.now) (g.S.Source.rest c.open_desk.new.source) (g.D.Disk.state c.args.disk.now) (g.D.Disk.state c.open_desk.new.disk)
+    (output g.K.Sink.held g.K.Sink.calls g.K.Sink.faults c.args.out.now) (output g.K.Sink.held g.K.Sink.calls g.K.Sink.faults c.args.out.now) c.in-Ok.opened.window h) (sym same) x)).0
+
+pub returns-clause-made : goal.returns-clause-made
+returns-clause-made g c =
+    let same : c.new-host.result ≡ first_host c.in-Ok.opened.market c.in-Ok.opened.book =
+    c.new-host.ensures ∙ ap (λ (s : State). record { session = s; book = c.in-Ok.opened.book; group = []; fresh = []; told = 0; written = 0 }) c.in-Ok-over.ensures.value in
+    let counted : CountsAccounts (first_host c.in-Ok.opened.market c.in-Ok.opened.book).session = subst CountsAccounts c.in-Ok-over.ensures.value c.in-Ok-over.ensures.counted in
+    let x = hosting_begins c.args.limit (g.S.Source.rest c.args.source.now) (g.D.Disk.state c.args.disk.now) (output g.K.Sink.held g.K.Sink.calls g.K.Sink.faults c.args.out.now) (g.D.Disk.state c.open_desk.new.disk) c.in-Ok.opened.market c.in-Ok.opened.book
+    c.in-Ok.opened.window (g.S.Source.rest c.open_desk.new.source) c.in-Ok.ensures.begun counted in
+    made_begun c.args.limit (g.D.Disk.state c.args.disk.now) (g.D.Disk.state c.host_on.new.disk) (g.S.Source.rest c.args.source.now) (g.S.Source.rest c.host_on.new.source)
+    (c.host_on.ensures.taken c.args.disk.now (g.S.Source.rest c.args.source.now) c.args.out.now (subst (λ (h : HostState). IsHosting c.args.limit (g.S.Source.rest c.args.source.now) (g.S.Source.rest c.open_desk.new.source) (g.D.Disk.state c.args.disk.now) (g.D.Disk.state c.open_desk.new.disk)
+    (output g.K.Sink.held g.K.Sink.calls g.K.Sink.faults c.args.out.now) (output g.K.Sink.held g.K.Sink.calls g.K.Sink.faults c.args.out.now) c.in-Ok.opened.window h) (sym same) x)).1
 
 pub returns-clause-disk_cause : goal.returns-clause-disk_cause
 returns-clause-disk_cause g c =
@@ -92,3 +103,29 @@ returns-in-Err-over-clause-refuses g c = refused_opened _ (g.D.Disk.state c.args
 
 pub returns-clause-refuses : goal.returns-clause-refuses
 returns-clause-refuses g c = refused_opened _ (g.D.Disk.state c.args.disk.now).content c.in-Ok.opened (c.open_desk.new.source ≡ c.args.source.now) _ c.in-Ok.ensures.refuses
+
+pub returns-in-Err-clause-untouched : goal.returns-in-Err-clause-untouched
+returns-in-Err-clause-untouched g c =
+    alone_not_opened c.args.limit (g.D.Disk.state c.args.disk.now) (g.D.Disk.state c.open_desk.new.disk) (g.S.Source.rest c.args.source.now) (g.S.Source.rest c.open_desk.new.source) c.in-Err.fault c.in-Err.ensures.fails
+
+pub returns-in-Err-over-clause-untouched : goal.returns-in-Err-over-clause-untouched
+returns-in-Err-over-clause-untouched g c =
+    alone_opened 262144 c.args.limit (g.D.Disk.state c.args.disk.now) (g.D.Disk.state c.open_desk.new.disk) c.in-Ok.opened.market c.in-Ok.opened.book c.in-Ok.opened.window (g.S.Source.rest c.args.source.now) (g.S.Source.rest c.open_desk.new.source) c.in-Ok.ensures.begun
+
+pub returns-clause-untouched : goal.returns-clause-untouched
+returns-clause-untouched g c =
+    let same : c.new-host.result ≡ first_host c.in-Ok.opened.market c.in-Ok.opened.book =
+    c.new-host.ensures ∙ ap (λ (s : State). record { session = s; book = c.in-Ok.opened.book; group = []; fresh = []; told = 0; written = 0 }) c.in-Ok-over.ensures.value in
+    let counted : CountsAccounts (first_host c.in-Ok.opened.market c.in-Ok.opened.book).session = subst CountsAccounts c.in-Ok-over.ensures.value c.in-Ok-over.ensures.counted in
+    let x = hosting_begins c.args.limit (g.S.Source.rest c.args.source.now) (g.D.Disk.state c.args.disk.now) (output g.K.Sink.held g.K.Sink.calls g.K.Sink.faults c.args.out.now) (g.D.Disk.state c.open_desk.new.disk) c.in-Ok.opened.market c.in-Ok.opened.book
+    c.in-Ok.opened.window (g.S.Source.rest c.open_desk.new.source) c.in-Ok.ensures.begun counted in
+    c.host_on.ensures.untouched c.args.disk.now (g.S.Source.rest c.args.source.now) c.args.out.now (subst (λ (h : HostState). IsHosting c.args.limit (g.S.Source.rest c.args.source.now) (g.S.Source.rest c.open_desk.new.source) (g.D.Disk.state c.args.disk.now) (g.D.Disk.state c.open_desk.new.disk)
+    (output g.K.Sink.held g.K.Sink.calls g.K.Sink.faults c.args.out.now) (output g.K.Sink.held g.K.Sink.calls g.K.Sink.faults c.args.out.now) c.in-Ok.opened.window h) (sym same) x)
+
+pub returns-in-Err-clause-made : goal.returns-in-Err-clause-made
+returns-in-Err-clause-made g c =
+    made_not_opened c.args.limit (g.D.Disk.state c.args.disk.now) (g.D.Disk.state c.open_desk.new.disk) (g.S.Source.rest c.args.source.now) (g.S.Source.rest c.open_desk.new.source) c.in-Err.fault c.in-Err.ensures.fails
+
+pub returns-in-Err-over-clause-made : goal.returns-in-Err-over-clause-made
+returns-in-Err-over-clause-made g c =
+    made_opened 262144 c.args.limit (g.D.Disk.state c.args.disk.now) (g.D.Disk.state c.open_desk.new.disk) c.in-Ok.opened.market c.in-Ok.opened.book c.in-Ok.opened.window (g.S.Source.rest c.args.source.now) (g.S.Source.rest c.open_desk.new.source) c.in-Ok.ensures.begun

@@ -9,7 +9,7 @@ use Rattle.desk_keeping.specs.declared.fault.HostFault.{HostFault}
 use Rattle.desk_keeping.specs.declared.fault.HostFault.TheVariants.{Read, Write, Disk}
 use Rattle.desk_keeping.specs.Private.{HearsLine, BreaksLine}
 use Rattle.desk_keeping.proofs.Reaching.{few_at, few_found, few_unread}
-use Rattle.desk_keeping.proofs.Loop.{is_ordered, can_settle, has_room, can_read, hosting_settled, all_settled, hosting_long, settle_broken, out_of_memory, ended, limited, unread, line_broken, stops_ordered, heard_ordered, heard_keeps, unended, hosting_line, none_found, unread_piece, empty_held, same_result, blames_from, blames_none, stops_disk, settle_own, end_own}
+use Rattle.desk_keeping.proofs.Loop.{is_ordered, can_settle, has_room, can_read, left_alone, hosting_settled, all_settled, hosting_long, settle_broken, out_of_memory, ended, limited, unread, line_broken, stops_ordered, heard_ordered, heard_keeps, unended, hosting_line, none_found, unread_piece, empty_held, same_result, blames_from, blames_none, stops_disk, settle_own, end_own}
 use Rattle.desk_keeping.proofs.hosting.host_on.Goals as goal
 
 pub lines-init : goal.lines-init
@@ -466,3 +466,73 @@ returns-in-End-clause-taken g c =
     λ was content first is.
     let x = c.lines.invariant.0 was content first is in
     few_found x.begin c.args.limit c.lines.window content (g.S.Source.rest c.lines.source) x.read x.gone c.next_line_within.new.window (g.S.Source.rest c.next_line_within.new.source) c.in-Ok-next_line_within.next c.in-Ok-next_line_within.ensures.finds
+
+pub returns-in-Err-clause-untouched : goal.returns-in-Err-clause-untouched
+returns-in-Err-clause-untouched g c =
+    λ was content first is.
+    let x = c.lines.invariant.0 was content first is in
+    (settle_broken c.args.limit content (g.D.Disk.state was) (output g.K.Sink.held g.K.Sink.calls g.K.Sink.faults first) (g.S.Source.rest c.lines.source) (g.D.Disk.state c.lines.disk) (output g.K.Sink.held g.K.Sink.calls g.K.Sink.faults c.lines.out) c.lines.window c.lines.host x c.settle.new.self (g.D.Disk.state c.settle.new.disk) (output g.K.Sink.held g.K.Sink.calls g.K.Sink.faults c.settle.new.out) (c.settle.new.disk ≡ c.lines.disk) (g.S.Source.rest c.lines.source) c.in-Err.fault (g.met.D.Disk.is_disk c.settle.new.disk) (λ (same : c.settle.new.disk ≡ c.lines.disk) P is. subst (λ d. P (g.D.Disk.state d)) (sym same) is) c.in-Err.ensures.broken).2
+
+pub returns-in-Err-hear-clause-untouched : goal.returns-in-Err-hear-clause-untouched
+returns-in-Err-hear-clause-untouched g c =
+    λ was content first is.
+    let x = c.lines.invariant.0 was content first is in
+    let y = hosting_settled c.args.limit content (g.D.Disk.state was) (output g.K.Sink.held g.K.Sink.calls g.K.Sink.faults first) (g.S.Source.rest c.lines.source) (g.D.Disk.state c.lines.disk) (output g.K.Sink.held g.K.Sink.calls g.K.Sink.faults c.lines.out) c.lines.window c.lines.host x (g.D.Disk.state c.settle.new.disk) (output g.K.Sink.held g.K.Sink.calls g.K.Sink.faults c.settle.new.out) c.settle.new.self c.is_none-is_last.result (c.settle.new.disk ≡ c.lines.disk) (c.settle.new.out ≡ c.lines.out) (λ (same : c.settle.new.disk ≡ c.lines.disk) P is. subst (λ d. P (g.D.Disk.state d)) (sym same) is) (λ (same : c.settle.new.out ≡ c.lines.out) P is. subst (λ o. P (output g.K.Sink.held g.K.Sink.calls g.K.Sink.faults o)) (sym same) is) c.in-Ok.ensures.keeps in
+    let finds = subst (λ (n : Next). FindsNextWithin most_envelope c.lines.window c.next_line_within.new.window (g.S.Source.rest c.lines.source) (g.S.Source.rest c.next_line_within.new.source) n) c.in-Line.is c.in-Ok-next_line_within.ensures.finds in
+    let line = take c.in-Line.size c.next_line_within.new.window.held in
+    let same_line : take c.in-Line.size c.held-in-Line.result.now ≡ line = ap (λ (l : List ℕ). take c.in-Line.size l) c.held-in-Line.ensures.held in
+    let breaks = subst (λ (l : List ℕ). BreaksLine c.in-Err-hear.fault l c.settle.new.self c.hear.new.self (g.D.Disk.state c.settle.new.disk) (g.D.Disk.state c.hear.new.disk) (c.hear.new.disk ≡ c.settle.new.disk)) same_line c.in-Err-hear.ensures.broken in
+    (line_broken c.args.limit content (g.D.Disk.state was) (output g.K.Sink.held g.K.Sink.calls g.K.Sink.faults first) (g.S.Source.rest c.lines.source) (g.D.Disk.state c.settle.new.disk) (output g.K.Sink.held g.K.Sink.calls g.K.Sink.faults c.settle.new.out) c.lines.window c.settle.new.self y c.next_line_within.new.window (g.S.Source.rest c.next_line_within.new.source) c.in-Line.size finds c.hear.new.self (g.D.Disk.state c.hear.new.disk) (c.hear.new.disk ≡ c.settle.new.disk) (g.met.D.Disk.is_disk c.settle.new.disk) (g.met.D.Disk.is_disk c.hear.new.disk) (λ (same : c.hear.new.disk ≡ c.settle.new.disk) P is. subst (λ d. P (g.D.Disk.state d)) (sym same) is) (output g.K.Sink.held g.K.Sink.calls g.K.Sink.faults c.stop.new.out) (c.stop.new.out ≡ c.settle.new.out) c.in-Err-hear.fault c.stop.result (λ (same : c.stop.new.out ≡ c.settle.new.out) P is. subst (λ o. P (output g.K.Sink.held g.K.Sink.calls g.K.Sink.faults o)) (sym same) is) breaks c.stop.ensures.stops).2
+
+pub returns-in-Err-end_line-clause-untouched : goal.returns-in-Err-end_line-clause-untouched
+returns-in-Err-end_line-clause-untouched g c =
+    λ was content first is.
+    let x = c.lines.invariant.0 was content first is in
+    let y = hosting_settled c.args.limit content (g.D.Disk.state was) (output g.K.Sink.held g.K.Sink.calls g.K.Sink.faults first) (g.S.Source.rest c.lines.source) (g.D.Disk.state c.lines.disk) (output g.K.Sink.held g.K.Sink.calls g.K.Sink.faults c.lines.out) c.lines.window c.lines.host x (g.D.Disk.state c.settle.new.disk) (output g.K.Sink.held g.K.Sink.calls g.K.Sink.faults c.settle.new.out) c.settle.new.self c.is_none-is_last.result (c.settle.new.disk ≡ c.lines.disk) (c.settle.new.out ≡ c.lines.out) (λ (same : c.settle.new.disk ≡ c.lines.disk) P is. subst (λ d. P (g.D.Disk.state d)) (sym same) is) (λ (same : c.settle.new.out ≡ c.lines.out) P is. subst (λ o. P (output g.K.Sink.held g.K.Sink.calls g.K.Sink.faults o)) (sym same) is) c.in-Ok.ensures.keeps in
+    let finds = subst (λ (n : Next). FindsNextWithin most_envelope c.lines.window c.next_line_within.new.window (g.S.Source.rest c.lines.source) (g.S.Source.rest c.next_line_within.new.source) n) c.in-Line.is c.in-Ok-next_line_within.ensures.finds in
+    let line = take c.in-Line.size c.next_line_within.new.window.held in
+    let same_line : take c.in-Line.size c.held-in-Line.result.now ≡ line = ap (λ (l : List ℕ). take c.in-Line.size l) c.held-in-Line.ensures.held in
+    let heard = subst (λ (l : List ℕ). HearsLine l c.settle.new.self c.hear.new.self (g.D.Disk.state c.settle.new.disk) (g.D.Disk.state c.hear.new.disk) (c.hear.new.disk ≡ c.settle.new.disk)) same_line c.in-Ok-hear.ensures.hears in
+    (unended c.args.limit content (g.D.Disk.state was) (output g.K.Sink.held g.K.Sink.calls g.K.Sink.faults first) (g.S.Source.rest c.lines.source) (g.D.Disk.state c.settle.new.disk) (output g.K.Sink.held g.K.Sink.calls g.K.Sink.faults c.settle.new.out) c.lines.window c.settle.new.self y c.next_line_within.new.window (g.S.Source.rest c.next_line_within.new.source) c.in-Line.size finds c.hear.new.self (g.D.Disk.state c.hear.new.disk) (c.hear.new.disk ≡ c.settle.new.disk) (g.met.D.Disk.is_disk c.settle.new.disk) (g.met.D.Disk.is_disk c.hear.new.disk) (λ (same : c.hear.new.disk ≡ c.settle.new.disk) P is. subst (λ d. P (g.D.Disk.state d)) (sym same) is) heard c.end_line.new.self (g.D.Disk.state c.end_line.new.disk) (output g.K.Sink.held g.K.Sink.calls g.K.Sink.faults c.end_line.new.out) (c.end_line.new.disk ≡ c.hear.new.disk) (c.end_line.new.out ≡ c.settle.new.out) (λ (same : c.end_line.new.disk ≡ c.hear.new.disk) P is. subst (λ d. P (g.D.Disk.state d)) (sym same) is) (λ (same : c.end_line.new.out ≡ c.settle.new.out) P is. subst (λ o. P (output g.K.Sink.held g.K.Sink.calls g.K.Sink.faults o)) (sym same) is) c.in-Err-end_line.fault (g.met.D.Disk.is_disk c.end_line.new.disk) c.in-Err-end_line.ensures.broken).2
+
+pub returns-in-Err-next_line_within-clause-untouched : goal.returns-in-Err-next_line_within-clause-untouched
+returns-in-Err-next_line_within-clause-untouched g c =
+    λ was content first is.
+    let x = c.lines.invariant.0 was content first is in
+    let y = hosting_settled c.args.limit content (g.D.Disk.state was) (output g.K.Sink.held g.K.Sink.calls g.K.Sink.faults first) (g.S.Source.rest c.lines.source) (g.D.Disk.state c.lines.disk) (output g.K.Sink.held g.K.Sink.calls g.K.Sink.faults c.lines.out) c.lines.window c.lines.host x (g.D.Disk.state c.settle.new.disk) (output g.K.Sink.held g.K.Sink.calls g.K.Sink.faults c.settle.new.out) c.settle.new.self c.is_none-is_last.result (c.settle.new.disk ≡ c.lines.disk) (c.settle.new.out ≡ c.lines.out) (λ (same : c.settle.new.disk ≡ c.lines.disk) P is. subst (λ d. P (g.D.Disk.state d)) (sym same) is) (λ (same : c.settle.new.out ≡ c.lines.out) P is. subst (λ o. P (output g.K.Sink.held g.K.Sink.calls g.K.Sink.faults o)) (sym same) is) c.in-Ok.ensures.keeps in
+    left_alone c.args.limit content (g.D.Disk.state was) (output g.K.Sink.held g.K.Sink.calls g.K.Sink.faults first) (g.S.Source.rest c.lines.source) (g.D.Disk.state c.settle.new.disk) (output g.K.Sink.held g.K.Sink.calls g.K.Sink.faults c.settle.new.out) c.lines.window c.settle.new.self y
+
+pub returns-in-Err-answer_long-clause-untouched : goal.returns-in-Err-answer_long-clause-untouched
+returns-in-Err-answer_long-clause-untouched g c =
+    λ was content first is.
+    let x = c.lines.invariant.0 was content first is in
+    let y = hosting_settled c.args.limit content (g.D.Disk.state was) (output g.K.Sink.held g.K.Sink.calls g.K.Sink.faults first) (g.S.Source.rest c.lines.source) (g.D.Disk.state c.lines.disk) (output g.K.Sink.held g.K.Sink.calls g.K.Sink.faults c.lines.out) c.lines.window c.lines.host x (g.D.Disk.state c.settle.new.disk) (output g.K.Sink.held g.K.Sink.calls g.K.Sink.faults c.settle.new.out) c.settle.new.self c.is_none-is_last.result (c.settle.new.disk ≡ c.lines.disk) (c.settle.new.out ≡ c.lines.out) (λ (same : c.settle.new.disk ≡ c.lines.disk) P is. subst (λ d. P (g.D.Disk.state d)) (sym same) is) (λ (same : c.settle.new.out ≡ c.lines.out) P is. subst (λ o. P (output g.K.Sink.held g.K.Sink.calls g.K.Sink.faults o)) (sym same) is) c.in-Ok.ensures.keeps in
+    left_alone c.args.limit content (g.D.Disk.state was) (output g.K.Sink.held g.K.Sink.calls g.K.Sink.faults first) (g.S.Source.rest c.lines.source) (g.D.Disk.state c.settle.new.disk) (output g.K.Sink.held g.K.Sink.calls g.K.Sink.faults c.settle.new.out) c.lines.window c.settle.new.self y
+
+pub returns-in-Limit-clause-untouched : goal.returns-in-Limit-clause-untouched
+returns-in-Limit-clause-untouched g c =
+    λ was content first is.
+    let x = c.lines.invariant.0 was content first is in
+    let y = hosting_settled c.args.limit content (g.D.Disk.state was) (output g.K.Sink.held g.K.Sink.calls g.K.Sink.faults first) (g.S.Source.rest c.lines.source) (g.D.Disk.state c.lines.disk) (output g.K.Sink.held g.K.Sink.calls g.K.Sink.faults c.lines.out) c.lines.window c.lines.host x (g.D.Disk.state c.settle.new.disk) (output g.K.Sink.held g.K.Sink.calls g.K.Sink.faults c.settle.new.out) c.settle.new.self c.is_none-is_last.result (c.settle.new.disk ≡ c.lines.disk) (c.settle.new.out ≡ c.lines.out) (λ (same : c.settle.new.disk ≡ c.lines.disk) P is. subst (λ d. P (g.D.Disk.state d)) (sym same) is) (λ (same : c.settle.new.out ≡ c.lines.out) P is. subst (λ o. P (output g.K.Sink.held g.K.Sink.calls g.K.Sink.faults o)) (sym same) is) c.in-Ok.ensures.keeps in
+    left_alone c.args.limit content (g.D.Disk.state was) (output g.K.Sink.held g.K.Sink.calls g.K.Sink.faults first) (g.S.Source.rest c.lines.source) (g.D.Disk.state c.settle.new.disk) (output g.K.Sink.held g.K.Sink.calls g.K.Sink.faults c.settle.new.out) c.lines.window c.settle.new.self y
+
+pub returns-in-Last-clause-untouched : goal.returns-in-Last-clause-untouched
+returns-in-Last-clause-untouched g c =
+    λ was content first is.
+    let x = c.lines.invariant.0 was content first is in
+    let y = hosting_settled c.args.limit content (g.D.Disk.state was) (output g.K.Sink.held g.K.Sink.calls g.K.Sink.faults first) (g.S.Source.rest c.lines.source) (g.D.Disk.state c.lines.disk) (output g.K.Sink.held g.K.Sink.calls g.K.Sink.faults c.lines.out) c.lines.window c.lines.host x (g.D.Disk.state c.settle.new.disk) (output g.K.Sink.held g.K.Sink.calls g.K.Sink.faults c.settle.new.out) c.settle.new.self c.is_none-is_last.result (c.settle.new.disk ≡ c.lines.disk) (c.settle.new.out ≡ c.lines.out) (λ (same : c.settle.new.disk ≡ c.lines.disk) P is. subst (λ d. P (g.D.Disk.state d)) (sym same) is) (λ (same : c.settle.new.out ≡ c.lines.out) P is. subst (λ o. P (output g.K.Sink.held g.K.Sink.calls g.K.Sink.faults o)) (sym same) is) c.in-Ok.ensures.keeps in
+    left_alone c.args.limit content (g.D.Disk.state was) (output g.K.Sink.held g.K.Sink.calls g.K.Sink.faults first) (g.S.Source.rest c.lines.source) (g.D.Disk.state c.settle.new.disk) (output g.K.Sink.held g.K.Sink.calls g.K.Sink.faults c.settle.new.out) c.lines.window c.settle.new.self y
+
+pub returns-in-LongLast-clause-untouched : goal.returns-in-LongLast-clause-untouched
+returns-in-LongLast-clause-untouched g c =
+    λ was content first is.
+    let x = c.lines.invariant.0 was content first is in
+    let y = hosting_settled c.args.limit content (g.D.Disk.state was) (output g.K.Sink.held g.K.Sink.calls g.K.Sink.faults first) (g.S.Source.rest c.lines.source) (g.D.Disk.state c.lines.disk) (output g.K.Sink.held g.K.Sink.calls g.K.Sink.faults c.lines.out) c.lines.window c.lines.host x (g.D.Disk.state c.settle.new.disk) (output g.K.Sink.held g.K.Sink.calls g.K.Sink.faults c.settle.new.out) c.settle.new.self c.is_none-is_last.result (c.settle.new.disk ≡ c.lines.disk) (c.settle.new.out ≡ c.lines.out) (λ (same : c.settle.new.disk ≡ c.lines.disk) P is. subst (λ d. P (g.D.Disk.state d)) (sym same) is) (λ (same : c.settle.new.out ≡ c.lines.out) P is. subst (λ o. P (output g.K.Sink.held g.K.Sink.calls g.K.Sink.faults o)) (sym same) is) c.in-Ok.ensures.keeps in
+    left_alone c.args.limit content (g.D.Disk.state was) (output g.K.Sink.held g.K.Sink.calls g.K.Sink.faults first) (g.S.Source.rest c.lines.source) (g.D.Disk.state c.settle.new.disk) (output g.K.Sink.held g.K.Sink.calls g.K.Sink.faults c.settle.new.out) c.lines.window c.settle.new.self y
+
+pub returns-in-End-clause-untouched : goal.returns-in-End-clause-untouched
+returns-in-End-clause-untouched g c =
+    λ was content first is.
+    let x = c.lines.invariant.0 was content first is in
+    let y = hosting_settled c.args.limit content (g.D.Disk.state was) (output g.K.Sink.held g.K.Sink.calls g.K.Sink.faults first) (g.S.Source.rest c.lines.source) (g.D.Disk.state c.lines.disk) (output g.K.Sink.held g.K.Sink.calls g.K.Sink.faults c.lines.out) c.lines.window c.lines.host x (g.D.Disk.state c.settle.new.disk) (output g.K.Sink.held g.K.Sink.calls g.K.Sink.faults c.settle.new.out) c.settle.new.self c.is_none-is_last.result (c.settle.new.disk ≡ c.lines.disk) (c.settle.new.out ≡ c.lines.out) (λ (same : c.settle.new.disk ≡ c.lines.disk) P is. subst (λ d. P (g.D.Disk.state d)) (sym same) is) (λ (same : c.settle.new.out ≡ c.lines.out) P is. subst (λ o. P (output g.K.Sink.held g.K.Sink.calls g.K.Sink.faults o)) (sym same) is) c.in-Ok.ensures.keeps in
+    left_alone c.args.limit content (g.D.Disk.state was) (output g.K.Sink.held g.K.Sink.calls g.K.Sink.faults first) (g.S.Source.rest c.lines.source) (g.D.Disk.state c.settle.new.disk) (output g.K.Sink.held g.K.Sink.calls g.K.Sink.faults c.settle.new.out) c.lines.window c.settle.new.self y

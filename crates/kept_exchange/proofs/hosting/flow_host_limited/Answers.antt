@@ -15,7 +15,7 @@ returns-clause-hosts g c =
     (change g.S.Source.rest g.S.Source.faults c.args.source.now c.host_lines-ended.new.source)
     (output g.K.Sink.held g.K.Sink.calls g.K.Sink.faults c.args.out.now) (output g.K.Sink.held g.K.Sink.calls g.K.Sink.faults c.host_lines-ended.new.out)
     (change g.N.Sink.held g.N.Sink.faults c.args.notes.now c.write_line.new.notes) c.write_line.result
-    hosted.keeps hosted.comes refuses hosted.taken hosted.disk_cause hosted.source_cause hosted.out_cause line prefix c.write_line.ensures.cause)
+    hosted.keeps hosted.comes refuses hosted.made hosted.taken hosted.disk_cause hosted.source_cause hosted.out_cause line prefix c.write_line.ensures.cause)
 
 pub returns-clause-again : goal.returns-clause-again
 returns-clause-again g c =

@@ -7,7 +7,7 @@ use Rattle.desk_opening.specs.Books.{IsFoundBy}
 use Rattle.desk_keeping.specs.declared.fault.HostFault.{HostFault}
 use Rattle.desk_keeping.specs.Faults.{of_disk}
 use Rattle.desk_keeping.specs.Private.{HostState, Replays, BreaksOne}
-use Rattle.desk_keeping.proofs.Taking.{none_goes, breaks_found, takes_found, breaks_taken}
+use Rattle.desk_keeping.proofs.Taking.{none_goes, breaks_found, takes_found, takes_none, breaks_taken}
 use Rattle.desk_keeping.proofs.host.Host.replay.Goals as goal
 
 pub returns-in-Ok-None-clause-replays : goal.returns-in-Ok-None-clause-replays
@@ -44,7 +44,7 @@ returns-clause-replays g c =
     let found : IsFoundBy i.book (Kept c.in-Kept.journal c.in-Kept.ahead) disk now (Some c.in-Ok-Some.count) =
     subst (λ (b : Book). IsFoundBy i.book b disk now (Some c.in-Ok-Some.count)) c.in-Kept.is (subst (λ (o : Option ℕ). IsFoundBy i.book c.find.new.self disk now o) c.in-Ok-Some.field-0-is c.in-Ok-Some.ensures.found) in
     subst (λ (x : HostState). Replays true c.args.sender c.args.line (command_in c.args.command.now) x n disk now same) c.self.view_is
-    (c.in-Ok.ensures.takes.pair, c.in-Ok.ensures.takes.answers, takes_found i.book c.in-Kept.journal c.take_entry.new.journal c.in-Ok-Some.count c.in-Kept.ahead disk now same i.session c.take_entry.new.session c.args.sender c.args.line (command_in c.args.command.now) found c.in-Ok.ensures.takes, refl, record { group = refl; told = refl; written = refl })
+    (c.in-Ok.ensures.takes.pair, c.in-Ok.ensures.takes.answers, takes_found i.book c.in-Kept.journal c.take_entry.new.journal c.in-Ok-Some.count c.in-Kept.ahead disk now same i.session c.take_entry.new.session c.args.sender c.args.line (command_in c.args.command.now) found c.in-Ok.ensures.takes, refl, record { group = refl; told = refl; written = refl }, takes_none i.book c.take_entry.new.journal c.in-Kept.ahead)
 
 pub returns-clause-room : goal.returns-clause-room
 returns-clause-room g c =
