@@ -10,7 +10,8 @@
 //!
 //! The definition is in `specs`, and `Steps` has the whole of it; each call is proved to answer it, number by number, for
 //! any book within the limits. Nothing overflows in 128 bits: the system is solved in floating point numbers `m * 2^e` with 62
-//! bits of `m`, to which each operation cuts its result.
+//! bits of `m`, to which each operation cuts its result. These numbers and the elimination are public for crates that search for
+//! joint prices in another way.
 //!
 //! # Costs
 //!

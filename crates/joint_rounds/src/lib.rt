@@ -26,9 +26,9 @@
 //!
 //! # Costs
 //!
-//! A step costs a test of its prices and three passes over the legs of all orders; and with rounds the parts that are open and
-//! two passes for each round, at most 100, or with elimination one pass over every two legs of each order and a sixth of the
-//! cube of the number of assets. All memory is allocated before the first step.
+//! A step costs a test of its prices and three passes over the legs of all orders; and with rounds one pass more, what the caller
+//! takes to say which parts are open, and two passes for each round, at most 100, or with elimination one pass over every two
+//! legs of each order and a sixth of the cube of the number of assets. All memory is allocated before the first step.
 #![tactic(auto)]
 
 mod elimination;

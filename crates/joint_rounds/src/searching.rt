@@ -252,17 +252,18 @@ fn elimination_for(alloc: Global, direct: bool, count: usize) -> Result<Eliminat
     Elimination::new(alloc, if direct { count } else { 0 })
 }
 
-/// Returns the joint prices of orders and start prices, in grains by the assets' numbers: those after the fewest steps, at most 100, at
-/// which all assets are even by the test, and else those after 100 steps. They are within 2^62 grains of 0, as the start
-/// prices are.
+/// Returns the joint prices of orders and start prices, in grains by the assets' numbers: those after the fewest steps, at most
+/// 100, at which all assets are even by the test, and else those after 100 steps. They are within 2^62 grains of 0, as the
+/// start prices are.
 ///
 /// The barrier's parameter is halved `fall` times in each step, 0 to 8. Steps go by elimination (`direct`), or by rounds of
 /// conjugate gradients, at most 100 in a step.
 ///
-/// There are at most 2^17 orders and 512 assets, and each asset that an order names has a price. A step costs three passes over
-/// the legs of all orders and one test, and with it two passes for each round, or one over every two legs of each order
-/// and a sixth of the cube of the number of assets. It allocates once, before the first step: 80 bytes for each order, and 200
-/// for each asset, or 24 for each two assets.
+/// There are at most 2^17 orders and 512 assets, and each asset that an order names has a price. A step costs one test and
+/// three passes over the legs of all orders. By rounds it costs a pass and a call of [`TestsEven::open_parts`] more, and two
+/// passes for each round; by elimination one pass over every two legs of each order, and a sixth of the cube of the number
+/// of assets. It allocates once, before the first step: 70 bytes for each order, 150 for each asset, and by elimination 24
+/// for each two assets.
 ///
 /// It fails only with `Memory`.
 pub fn joint_prices_by<T: TestsEven>(
@@ -314,8 +315,8 @@ pub fn joint_prices_by<T: TestsEven>(
     Ok(prices)
 }
 
-/// Returns the joint prices sought quickly: those of [`joint_prices_by`] with a barrier that falls to a quarter in each step, by rounds, and up to 64
-/// assets by elimination.
+/// Returns the joint prices sought quickly: those of [`joint_prices_by`] with a barrier that falls to a quarter in each step, by
+/// rounds, and up to 64 assets by elimination. So it costs what that does, and fails only with `Memory`.
 pub fn joint_prices_quickly<T: TestsEven>(
     alloc: Global,
     orders: &[Order],
@@ -339,8 +340,9 @@ pub fn joint_prices_quickly<T: TestsEven>(
     joint_prices_by(alloc, start.len() <= 64, 2, orders, start, test)
 }
 
-/// Returns the joint prices sought slowly: those of [`joint_prices_by`] with a barrier that falls to a half in each step, by elimination. Some sparse books of
-/// heavy or steep orders have even prices on this way alone.
+/// Returns the joint prices sought slowly: those of [`joint_prices_by`] with a barrier that falls to a half in each step, by
+/// elimination. Some sparse books of heavy or steep orders reach even prices in this way alone. It costs what that does, and fails
+/// only with `Memory`.
 pub fn joint_prices_slowly<T: TestsEven>(
     alloc: Global,
     orders: &[Order],
