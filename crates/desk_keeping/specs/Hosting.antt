@@ -234,9 +234,8 @@ LeavesWholeLines begin lines start old image =
 -- What a call does to a file with these old entries of a valid journal, and to its output. A new file begins as the input does. The entries that the first
 -- lines of the input ask for are the old ones and then the new ones, or only the first of the old ones, and then nothing was added. A crash leaves the old
 -- ones and a first part of the new ones (`runs`): those that are acknowledged, and of the others, which were kept together, all or none. At each moment it
--- leaves of a line all new entries, or none (`whole`). What was written are
--- the answers of lines whose entries are acknowledged. The entries of these lines, old ones too, are `count` at most, and a crash after the call leaves all of
--- them (`durable`).
+-- leaves of a line all new entries, or none (`whole`). What was written are the answers of lines whose entries are acknowledged. The entries of these lines,
+-- old ones too, are `count` at most, and a crash after the call leaves all of them (`durable`).
 pub record HostsIn (limit : ℕ) (content : Option (List ℕ)) (Cut : Type 0) (was : Start) (start end : DiskState) (old : Entries) (market : Market) (out later : Output) : Type 0 where
   pub begin : Start
   pub from : Market
