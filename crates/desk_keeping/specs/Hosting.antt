@@ -174,11 +174,16 @@ pub record TellsFirst (Cut : Type 0) (limit : ℕ) (held : List ℕ) (content : 
   pub answered : AreFirstHosted begin lines pairs texts
   pub gained : Gains Cut out later texts
 
+-- the beginning of an input, within the limit, is among what was taken of it
+abbrev pub HasTakenBeginning : (limit : ℕ) → (before after : Option (List ℕ)) → Type 0
+HasTakenBeginning limit before after = (begin : Start) × CanStart begin × (length (bytes_before begin) ≤ limit) × (more : List ℕ) × Takes before after (bytes_before begin ++ more)
+
 -- What hosting the lines of many senders results in, if the file is known to have held these bytes. `left` is what is left of the input, and `content`
 -- what it was.
 abbrev pub ComesTo : (limit : ℕ) → List ℕ → (content left : Option (List ℕ)) → (start end : DiskState) → Output → Output → Result ⊤ HostFault → Type 0
+-- Nothing is left of the input.
 ComesTo limit held content left start end out later (Ok done) =
-    HasAnswered (λ begin lines. IfSome content (λ bytes. HasAllLines bytes begin lines × (length bytes ≤ limit))) held start end out later
+    HasAnswered (λ begin lines. IfSome content (λ bytes. HasAllLines bytes begin lines × (length bytes ≤ limit))) held start end out later × IfSome left (λ rest. rest ≡ [])
 ComesTo limit held content left start end out later (Err TooLong) =
     HasAnswered (λ begin lines. IfSome content (λ bytes. HasAllLines (take limit bytes) begin lines × (limit < length bytes))) held start end out later
 ComesTo limit held content left start end out later (Err Read) =
@@ -194,15 +199,14 @@ ComesTo limit held content left start end out later (Err (Rejected number)) = St
 ComesTo limit held content left start end out later (Err (Differs number)) =
     ((number ≡ 0) × IsAsBefore start end out later × (begin : Start) × IfSome content (λ bytes. HasFirstLines (take limit bytes) begin []) × BeginsOtherwise begin held end)
     ⊎ StopsAtEntry limit held content start end out later (λ at pairs market next. (number ≡ length pairs + 1) × IsEntryOther held at market next)
+-- After a failed write the last text may be there in part.
 ComesTo limit held content left start end out later (Err Write) = TellsFirst ⊤ limit held content out later
-ComesTo limit held content left start end out later (Err Disk) = (later ≡ out) ⊎ TellsFirst ⊥ limit held content out later
+-- A call of the file fails before anything is read of the input, or once its beginning was taken.
+ComesTo limit held content left start end out later (Err Disk) =
+    ((later ≡ out) ⊎ TellsFirst ⊥ limit held content out later) × ((left ≡ content) ⊎ HasTakenBeginning limit content left)
 ComesTo limit held content left start end out later (Err Memory) = (later ≡ out) ⊎ TellsFirst ⊥ limit held content out later
 
 -- ---- a new file
-
--- the beginning of an input, within the limit, is among what was taken of it
-abbrev pub HasTakenBeginning : (limit : ℕ) → (before after : Option (List ℕ)) → Type 0
-HasTakenBeginning limit before after = (begin : Start) × CanStart begin × (length (bytes_before begin) ≤ limit) × (more : List ℕ) × Takes before after (bytes_before begin ++ more)
 
 -- a file that held these bytes and was new was only looked at, unless the beginning of the input was taken
 abbrev pub IsMadeAfterBeginning : (limit : ℕ) → List ℕ → (start end : DiskState) → (before after : Option (List ℕ)) → Type 0
