@@ -230,7 +230,7 @@ abbrev pub AreOfWholeLines : Start → List (List ℕ) → Entries → Type 0
 AreOfWholeLines begin lines pairs =
     (done : List (List ℕ)) × (rest : List (List ℕ)) × (lines ≡ done ++ rest) × (texts : Texts) × (market : Market) × (desks : Desks) × AreHosted begin done pairs texts market desks
 
--- what a crash leaves while entries are kept a line at a time: what it may leave while the file is opened, or all entries of the first of these lines
+-- what a crash leaves if the entries of a line are kept together: what it may leave while the file is opened, or all entries of the first of these lines
 abbrev pub LeavesWholeLines : Start → List (List ℕ) → DiskState → Entries → Images
 LeavesWholeLines begin lines start old image =
     WhileOpening begin start old image ⊎ ((all : Entries) × AreOfWholeLines begin lines all × StandsForJournal begin all image)
@@ -238,9 +238,8 @@ LeavesWholeLines begin lines start old image =
 -- What a call does to a file with these old entries of a valid journal, and to its output. A new file begins as the input does. The entries that the first
 -- lines of the input ask for are the old ones and then the new ones, or only the first of the old ones, and then nothing was added. A crash leaves the old
 -- ones and a first part of the new ones (`runs`): those that are acknowledged, and of the others, which were kept together, all or none. At each moment it
--- leaves of a line all new entries, or none (`whole`). What was written are
--- the answers of lines whose entries are acknowledged. The entries of these lines, old ones too, are `count` at most, and a crash after the call leaves all of
--- them (`durable`).
+-- leaves of a line all new entries, or none (`whole`). What was written are the answers of lines whose entries, the first `count`, are old or acknowledged.
+-- A crash after the call leaves all of these, old ones too (`durable`).
 pub record HostsIn (limit : ℕ) (content : Option (List ℕ)) (Cut : Type 0) (was : Start) (start end : DiskState) (old : Entries) (market : Market) (out later : Output) : Type 0 where
   pub begin : Start
   pub from : Market
