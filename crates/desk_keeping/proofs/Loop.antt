@@ -265,7 +265,7 @@ module _ (limit : ℕ) (content : Option (List ℕ)) (start : DiskState) (first 
               begin = x.begin;
               alone = x.alone;
               read = x.read ++ line ∷ [];
-              at = at_line x.begin start now then later first out after x.read line h mid n One SameDisk SameOut is_disk x.at heard ends one carry carry_out counts;
+              at = at_line x.begin start now then later first out after x.read line h mid n One SameDisk SameOut is_disk x.at heard ends one carry carry_out counts x.alone;
               gone = gone_line x.begin limit new content rest x.read gone_now size inside piece parts past is;
               within = subst (λ (k : ℕ). IsWithinLines k n) (sym (one_more line)) (within_line x.begin start now then later first out after x.read line h mid n One SameDisk SameOut is_disk x.at heard ends (length x.read) room few near short x.within);
             }

@@ -93,7 +93,7 @@ module _ (begin : Start) (start : DiskState) (held : List ℕ) (told : start.con
         -- no more texts were written
         pub tells_gone : TellsFirst ⊥ limit held content first out
         tells_gone =
-            let (count, within, answered) = told_first begin read at.gone at.safe at.waiting at.pairs at.parts at.told in
+            let (count, within, answered, all) = told_first begin start read at.gone at.safe at.waiting at.pairs at.parts at.told in
             tells_so ⊥ read at.pairs count at.gone out are all_of answered at.gained
 
         -- so many were

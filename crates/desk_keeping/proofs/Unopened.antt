@@ -85,6 +85,7 @@ module _ (limit : ℕ) (content : Option (List ℕ)) (was : Start) (first : Disk
         count = 0;
         within = omega arith;
         durable = λ image left. inl refl;
+        lag = inr (omega arith);
         told = [];
         answered = none;
         gained = gains_none Cut out;

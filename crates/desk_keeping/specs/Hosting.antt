@@ -1,5 +1,5 @@
 -- What comes of the lines of many senders, over a file that is read along with them first and then gets more.
-use Rattle.std.specs.Prelude.{◌≡◌, ◌≢◌, ◌⊎◌, ◌≤◌, ◌<◌, ◌+◌, ℕ, List, [], ◌∷◌, ◌++◌, length, take, All, Option, Some, IfSome, Result, Ok, Err, ⊤}
+use Rattle.std.specs.Prelude.{◌≡◌, ◌≢◌, ◌⊎◌, ◌≤◌, ◌<◌, ◌+◌, ◌-◌, ℕ, List, [], ◌∷◌, ◌++◌, length, take, All, Option, Some, IfSome, Result, Ok, Err, ⊤}
 use Rattle.flow_io.specs.Streams.{Takes}
 use Rattle.wire_records.specs.Records.{Record}
 use Rattle.wire_records.specs.Commands.{Command, Pair}
@@ -239,7 +239,7 @@ LeavesWholeLines begin lines start old image =
 -- lines of the input ask for are the old ones and then the new ones, or only the first of the old ones, and then nothing was added. A crash leaves the old
 -- ones and a first part of the new ones (`runs`): those that are acknowledged, and of the others, which were kept together, all or none. At each moment it
 -- leaves of a line all new entries, or none (`whole`). What was written are the answers of lines whose entries, the first `count`, are old or acknowledged.
--- A crash after the call leaves all of these, old ones too (`durable`).
+-- A crash after the call leaves all of these, old ones too (`durable`). Unless a write failed, they are all that are acknowledged (`lag`).
 pub record HostsIn (limit : ℕ) (content : Option (List ℕ)) (Cut : Type 0) (was : Start) (start end : DiskState) (old : Entries) (market : Market) (out later : Output) : Type 0 where
   pub begin : Start
   pub from : Market
@@ -258,6 +258,7 @@ pub record HostsIn (limit : ℕ) (content : Option (List ℕ)) (Cut : Type 0) (w
   pub count : ℕ
   pub within : count ≤ length old + acknowledged
   pub durable : (image : List ℕ) → end.images image → (count ≡ 0) ⊎ KeepsFirst begin [] (old ++ new) count (length (old ++ new)) image
+  pub lag : Cut ⊎ (acknowledged ≤ count - length old)
   pub told : Texts
   pub answered : AreFirstHosted begin lines (take count pairs) told
   pub gained : Gains Cut out later told
