@@ -239,7 +239,7 @@ LeavesWholeLines begin lines start old image =
 -- lines of the input ask for are the old ones and then the new ones, or only the first of the old ones, and then nothing was added. A crash leaves the old
 -- ones and a first part of the new ones (`runs`): those that are acknowledged, and of the others, which were kept together, all or none. At each moment it
 -- leaves of a line all new entries, or none (`whole`). What was written are the answers of lines whose entries, the first `count`, are old or acknowledged.
--- A crash after the call leaves all of these, old ones too (`durable`). Unless a write failed, they are all that are acknowledged (`lag`).
+-- A crash after the call leaves all of these, old ones too (`durable`). Unless a write failed, all acknowledged ones are among them (`lag`).
 pub record HostsIn (limit : ℕ) (content : Option (List ℕ)) (Cut : Type 0) (was : Start) (start end : DiskState) (old : Entries) (market : Market) (out later : Output) : Type 0 where
   pub begin : Start
   pub from : Market
