@@ -15,8 +15,7 @@ use Rattle.disk_edge.specs.Images.{LeavesOnly}
 use Rattle.input_lines.specs.Finding.{FindsNextWithin, FindsNoFeed}
 use Rattle.input_lines.specs.declared.lines.Next.{Next}
 use Rattle.input_lines.specs.declared.lines.Next.TheVariants as next
-use Rattle.journal_disk.specs.Entries.{entries, IsNewDisk, Holds, Keeps}
-use Rattle.journal_disk.specs.Recovering.{IsForeign}
+use Rattle.journal_disk.specs.Entries.{Keeps}
 use Rattle.journal_disk.specs.Ahead.{AheadState}
 use Rattle.journal_disk.specs.Stepping.{IsDamagedAt}
 use Rattle.journal_keeping.specs.Starts.{head_of}
@@ -31,7 +30,7 @@ use Rattle.desk_opening.specs.Books.{IsReadAlong, Continues}
 use Rattle.desk_opening.specs.Openings.{BeginsAlone}
 use Rattle.desk_keeping.specs.declared.fault.HostFault.{HostFault}
 use Rattle.desk_keeping.specs.declared.fault.HostFault.TheVariants.{Read, Write, Disk, Memory, NotDisk, Damaged, Rejected, NotFlow, BadCheckpoint, TooLong, Differs}
-use Rattle.desk_keeping.specs.Hosting.{Entries, Texts, HasFirstLines, IsReadTo, HasEntriesOf, HasAnswered, StopsAtEntry, IsEntryInvalid, IsEntryOther, HasTakenBeginning, TellsFirst, ComesTo}
+use Rattle.desk_keeping.specs.Hosting.{Entries, Texts, IsReadTo, HasEntriesOf, HasAnswered, StopsAtEntry, IsEntryInvalid, IsEntryOther, HasTakenBeginning, TellsFirst, ComesTo}
 use Rattle.desk_keeping.specs.Private.{HostState, unwritten, IsFileAt, IsAt, HasGone, WhyNot, HearsLine, StopsWithin, BreaksLine, BreaksGroup, BreaksEnd, StopsHere, IsAtEntry}
 use Rattle.desk_keeping.proofs.Leaving.{none_stored}
 use Rattle.desk_keeping.proofs.Stopped.{served_into, left_within, along_first, along_then}
