@@ -1,7 +1,7 @@
 -- Hosting that ends between lines, or while a line is heard or ended: what a crash leaves, and which texts were written.
-use Rattle.std.proofs.Common.{◌≡◌, ◌⊎◌, inl, inr, ℕ, ◌-◌, ◌≤◌, List, [], ◌++◌, Option, IfSome, length, take, drop, refl, sym, ap, subst, ◌∙◌, arith, length-drop}
+use Rattle.std.proofs.Common.{◌≡◌, ◌⊎◌, inl, inr, ℕ, ◌≤◌, List, [], ◌++◌, Option, IfSome, length, take, drop, refl, sym, ap, subst, ◌∙◌, arith}
 use Rattle.std.specs.Prelude.{⊤}
-use Rattle.std.proofs.lemmas.List.{append-nil, take_all, drop-append-le, take-append-le}
+use Rattle.std.proofs.lemmas.List.{append-nil, take_all}
 use Rattle.market_rules.specs.Market.{Market}
 use Rattle.market_history.specs.Histories.{Start}
 use Rattle.disk_edge.specs.Disks.{DiskState, IsDisk}
@@ -15,7 +15,7 @@ use Rattle.desk_opening.specs.declared.book.Book.TheVariants.{Kept, Open}
 use Rattle.desk_opening.specs.Openings.{BeginsAlone}
 use Rattle.desk_keeping.specs.declared.fault.HostFault.{HostFault}
 use Rattle.desk_keeping.specs.declared.fault.HostFault.TheVariants.{Read, Write, Disk, Memory, NotDisk, Damaged, Rejected, NotFlow, BadCheckpoint, TooLong, Differs}
-use Rattle.desk_keeping.specs.Hosting.{Entries, Texts, HostsIn}
+use Rattle.desk_keeping.specs.Hosting.{Entries, Texts, AreFirstHosted, HostsIn}
 use Rattle.desk_keeping.specs.Private.{HostState, stored, unwritten, FileGoes, IsFileAt, AreWhole, IsWholeAt, IsAt, BreaksGroup, BreaksEnd, HearsLine}
 use Rattle.desk_keeping.proofs.Files.{along_now}
 use Rattle.desk_keeping.proofs.Leaving.{EndsFile, Carries, along_ends}
@@ -47,16 +47,24 @@ module _ (limit : ℕ) (content : Option (List ℕ)) (begin was : Start) (start 
   -- no more texts were written
   pub hosts_gone : (Cut : Type 0) (end : DiskState) → Ends end at.pairs (length at.safe) → Hosts Cut end out
   hosts_gone Cut end file =
-      let (count, within, told) = told_first begin read at.gone at.safe at.waiting at.pairs at.parts at.told in
-      hosts_so limit content Cut begin was start end old m read at.pairs at.texts (length at.safe) count at.gone first out (all_hosted begin read at.pairs at.texts h.session.market h.session.talk.desks at.hosted) file are within told
+      let (count, within, told, all) = told_first begin start read at.gone at.safe at.waiting at.pairs at.parts at.told in
+      hosts_so limit content Cut begin was start end old m read at.pairs at.texts (length at.safe) count at.gone first out (all_hosted begin read at.pairs at.texts h.session.market h.session.talk.desks at.hosted) file are within (inr (all was old m holds)) told
       (gains_wider ⊥ Cut first out at.gone (λ never. absurd never) at.gained)
 
   -- so many were
-  hosts_more : (Cut : Type 0) (end : DiskState) (after : Output) (some : ℕ) → Ends end at.pairs (length at.pairs) → Gains Cut out after (take some left) → Hosts Cut end after
-  hosts_more Cut end after some file gained =
+  hosts_more : (Cut : Type 0) → Cut → (end : DiskState) (after : Output) (some : ℕ) → Ends end at.pairs (length at.pairs) → Gains Cut out after (take some left) → Hosts Cut end after
+  hosts_more Cut cut end after some file gained =
       let (count, within, told) = more_first begin read at.pairs at.texts at.gone left h.session.market h.session.talk.desks at.hosted at.said some in
-      hosts_so limit content Cut begin was start end old m read at.pairs at.texts (length at.pairs) count (at.gone ++ take some left) first after (all_hosted begin read at.pairs at.texts h.session.market h.session.talk.desks at.hosted) file are within told
+      hosts_so limit content Cut begin was start end old m read at.pairs at.texts (length at.pairs) count (at.gone ++ take some left) first after (all_hosted begin read at.pairs at.texts h.session.market h.session.talk.desks at.hosted) file are within (inl cut) told
       (gains_more Cut first out after at.gone (take some left) at.gained gained)
+
+  -- all were
+  hosts_all : (Cut : Type 0) (end : DiskState) (after : Output) → Ends end at.pairs (length at.pairs) → Gains Cut out after left → Hosts Cut end after
+  hosts_all Cut end after file gained =
+      let asked = all_hosted begin read at.pairs at.texts h.session.market h.session.talk.desks at.hosted in
+      hosts_so limit content Cut begin was start end old m read at.pairs at.texts (length at.pairs) (length at.pairs) at.texts first after asked file are (omega arith) (inr (inl (omega arith)))
+      (subst (λ (l : Entries). AreFirstHosted begin read l at.texts) (sym (take_all (length at.pairs) at.pairs (omega arith))) asked)
+      (subst (λ (l : Texts). Gains Cut first after l) (sym at.said) (gains_more Cut first out after at.gone left at.gained gained))
 
   -- ---- between lines
 
@@ -71,7 +79,7 @@ module _ (limit : ℕ) (content : Option (List ℕ)) (begin was : Start) (start 
   breaks_host Disk host next mid later after Same may all Cut cut (same, some, leaves) = subst (Hosts Cut later) (sym same) (hosts_gone Cut later (may.fails some leaves))
   breaks_host Write host next mid later after Same may all Cut cut (keeps, (count, within, gained)) =
       let wide : Gains Cut out after (take count (unwritten host)) = gains_wider ⊤ Cut out after (take count (unwritten host)) (λ _. cut refl) gained in
-      hosts_more Cut later after count (may.kept keeps) (subst (λ (l : Texts). Gains Cut out after (take count l)) all wide)
+      hosts_more Cut (cut refl) later after count (may.kept keeps) (subst (λ (l : Texts). Gains Cut out after (take count l)) all wide)
   breaks_host Read host next mid later after Same may all Cut cut never = absurd never
   breaks_host Memory host next mid later after Same may all Cut cut never = absurd never
   breaks_host NotDisk host next mid later after Same may all Cut cut never = absurd never
@@ -132,7 +140,7 @@ module _ (limit : ℕ) (content : Option (List ℕ)) (begin was : Start) (start 
       breaks_end Memory Cut cut (inl (still, quiet)) = carry_out quiet (Hosts Cut later) (hosts_gone Cut later (heard_may.stays still))
       breaks_end Memory Cut cut (inr (keeps, gained)) =
           let wide : Gains Cut out after (unwritten mid) = gains_wider ⊥ Cut out after (unwritten mid) (λ never. absurd never) gained in
-          hosts_more Cut later after (length left) (heard_may.kept keeps) (subst (λ (l : Texts). Gains Cut out after l) (heard_left ∙ sym (take_all (length left) left (omega arith))) wide)
+          hosts_all Cut later after (heard_may.kept keeps) (subst (λ (l : Texts). Gains Cut out after l) heard_left wide)
       breaks_end Disk Cut cut breaks = breaks_host Disk mid next then later after Same heard_may heard_left Cut cut breaks
       breaks_end Write Cut cut breaks = breaks_host Write mid next then later after Same heard_may heard_left Cut cut breaks
       breaks_end Read Cut cut never = absurd never

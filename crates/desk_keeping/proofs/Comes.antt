@@ -15,8 +15,7 @@ use Rattle.disk_edge.specs.Images.{LeavesOnly}
 use Rattle.input_lines.specs.Finding.{FindsNextWithin, FindsNoFeed}
 use Rattle.input_lines.specs.declared.lines.Next.{Next}
 use Rattle.input_lines.specs.declared.lines.Next.TheVariants as next
-use Rattle.journal_disk.specs.Entries.{entries, IsNewDisk, Holds, Keeps}
-use Rattle.journal_disk.specs.Recovering.{IsForeign}
+use Rattle.journal_disk.specs.Entries.{Keeps}
 use Rattle.journal_disk.specs.Ahead.{AheadState}
 use Rattle.journal_disk.specs.Stepping.{IsDamagedAt}
 use Rattle.journal_keeping.specs.Starts.{head_of}
@@ -31,13 +30,13 @@ use Rattle.desk_opening.specs.Books.{IsReadAlong, Continues}
 use Rattle.desk_opening.specs.Openings.{BeginsAlone}
 use Rattle.desk_keeping.specs.declared.fault.HostFault.{HostFault}
 use Rattle.desk_keeping.specs.declared.fault.HostFault.TheVariants.{Read, Write, Disk, Memory, NotDisk, Damaged, Rejected, NotFlow, BadCheckpoint, TooLong, Differs}
-use Rattle.desk_keeping.specs.Hosting.{Entries, Texts, HasFirstLines, IsReadTo, HasEntriesOf, HasAnswered, StopsAtEntry, IsEntryInvalid, IsEntryOther, TellsFirst, ComesTo}
+use Rattle.desk_keeping.specs.Hosting.{Entries, Texts, IsReadTo, HasEntriesOf, HasAnswered, StopsAtEntry, IsEntryInvalid, IsEntryOther, HasTakenBeginning, TellsFirst, ComesTo}
 use Rattle.desk_keeping.specs.Private.{HostState, unwritten, IsFileAt, IsAt, HasGone, WhyNot, HearsLine, StopsWithin, BreaksLine, BreaksGroup, BreaksEnd, StopsHere, IsAtEntry}
 use Rattle.desk_keeping.proofs.Leaving.{none_stored}
 use Rattle.desk_keeping.proofs.Stopped.{served_into, left_within, along_first, along_then}
 use Rattle.desk_keeping.proofs.Ending.{AreFirst, unwritten_all, unwritten_heard}
 use Rattle.desk_keeping.proofs.Telling.{held_along, up_to, tells_gone, tells_more, tells_into}
-use Rattle.desk_keeping.proofs.Reaching.{all_lines, limit_lines, read_lines}
+use Rattle.desk_keeping.proofs.Reaching.{all_lines, none_left, limit_lines, read_lines}
 
 module _ (begin : Start) (start : DiskState) (held : List ℕ) (told : start.content ≡ Some held) (alone : IfSome start.content (BeginsAlone begin)) where
   known_so : (P : List ℕ → Type 0) → IfSome start.content P → P held
@@ -98,7 +97,7 @@ module _ (begin : Start) (start : DiskState) (held : List ℕ) (told : start.con
     module _ (limit : ℕ) (w : WindowState) (content left : Option (List ℕ)) (gone : HasGone begin limit w content left read) (none : h.group ≡ []) (written : drop h.written h.session.talk.texts ≡ []) (new : WindowState) (rest : Option (List ℕ)) where
       -- the input ended
       pub comes_ended : (found : Next) → (found ≡ next.Last) ⊎ ((found ≡ next.LongLast) ⊎ (found ≡ next.End)) → FindsNextWithin most_envelope w new left rest found → ComesTo limit held content rest start now first out (Ok tt)
-      comes_ended found which finds = has_answered _ (all_lines begin limit w content left read gone new rest found which finds) none written
+      comes_ended found which finds = (has_answered _ (all_lines begin limit w content left read gone new rest found which finds) none written, none_left begin limit w content left read gone new rest found which finds)
 
       -- it has more than the limit
       pub comes_limit : FindsNextWithin most_envelope w new left rest next.Limit → ComesTo limit held content rest start now first out (Err TooLong)
@@ -156,33 +155,33 @@ module _ (begin : Start) (start : DiskState) (held : List ℕ) (told : start.con
       tells_quiet quiet = inr (carry_out quiet (λ o. TellsFirst ⊥ limit held content first o) (tells_gone begin start held told alone limit content first read h now out at are_read))
 
       -- why a line wasn't heard to its end
-      pub comes_stopped : (fault result : HostFault) → BreaksLine fault line h mid now then One → StopsHere fault result mid out after SameOut → ComesTo limit held content rest start then first after (Err result)
-      comes_stopped Memory result breaks (inl (not, same, quiet)) = subst Comes (sym same) (tells_quiet quiet)
-      comes_stopped Memory result breaks (inr (never, how)) = absurd never
-      comes_stopped Disk result breaks (inl (not, same, quiet)) = subst Comes (sym same) (tells_quiet quiet)
-      comes_stopped Disk result breaks (inr (never, how)) = absurd never
-      comes_stopped (Damaged place) result breaks here =
+      pub comes_stopped : HasTakenBeginning limit content rest → (fault result : HostFault) → BreaksLine fault line h mid now then One → StopsHere fault result mid out after SameOut → ComesTo limit held content rest start then first after (Err result)
+      comes_stopped begun Memory result breaks (inl (not, same, quiet)) = subst Comes (sym same) (tells_quiet quiet)
+      comes_stopped begun Memory result breaks (inr (never, how)) = absurd never
+      comes_stopped begun Disk result breaks (inl (not, same, quiet)) = subst Comes (sym same) (tells_quiet quiet, inr begun)
+      comes_stopped begun Disk result breaks (inr (never, how)) = absurd never
+      comes_stopped begun (Damaged place) result breaks here =
           let why = why_known (WhyNot (Damaged place)) breaks in
           let because : (breaks.later ≡ place) × IsDamagedAt place held = (why.0, subst (λ (n : ℕ). IsDamagedAt n held) why.0 why.1) in
           from_here (WhyNot (Damaged place)) breaks (Damaged place) result tt here (λ gained. inr (stops_at (WhyNot (Damaged place)) breaks (λ at pairs market next. (at ≡ place) × IsDamagedAt place held) because gained))
-      comes_stopped (Rejected number) result breaks here =
+      comes_stopped begun (Rejected number) result breaks here =
           let why = why_known (WhyNot (Rejected number)) breaks in
           from_here (WhyNot (Rejected number)) breaks (Rejected number) result tt here
           (λ gained. stops_at (WhyNot (Rejected number)) breaks (λ at pairs market next. (number ≡ length pairs + 1) × IsEntryInvalid held at market) why gained)
-      comes_stopped (Differs number) result breaks here =
+      comes_stopped begun (Differs number) result breaks here =
           let why = why_known (WhyNot (Differs number)) breaks in
           from_here (WhyNot (Differs number)) breaks (Differs number) result tt here
           (λ gained. inr (stops_at (WhyNot (Differs number)) breaks (λ at pairs market next. (number ≡ length pairs + 1) × IsEntryOther held at market next) why gained))
-      comes_stopped Read result breaks here = absurd (why_known (WhyNot Read) breaks)
-      comes_stopped Write result breaks here = absurd (why_known (WhyNot Write) breaks)
-      comes_stopped NotDisk result breaks here = absurd (why_known (WhyNot NotDisk) breaks)
-      comes_stopped NotFlow result breaks here = absurd (why_known (WhyNot NotFlow) breaks)
-      comes_stopped BadCheckpoint result breaks here = absurd (why_known (WhyNot BadCheckpoint) breaks)
-      comes_stopped TooLong result breaks here = absurd (why_known (WhyNot TooLong) breaks)
+      comes_stopped begun Read result breaks here = absurd (why_known (WhyNot Read) breaks)
+      comes_stopped begun Write result breaks here = absurd (why_known (WhyNot Write) breaks)
+      comes_stopped begun NotDisk result breaks here = absurd (why_known (WhyNot NotDisk) breaks)
+      comes_stopped begun NotFlow result breaks here = absurd (why_known (WhyNot NotFlow) breaks)
+      comes_stopped begun BadCheckpoint result breaks here = absurd (why_known (WhyNot BadCheckpoint) breaks)
+      comes_stopped begun TooLong result breaks here = absurd (why_known (WhyNot TooLong) breaks)
 
     -- ---- a call failed, or memory ran out
 
-    module _ (limit : ℕ) (content rest : Option (List ℕ)) (are : AreFirst limit content begin read) where
+    module _ (limit : ℕ) (content rest : Option (List ℕ)) (begun : HasTakenBeginning limit content rest) (are : AreFirst limit content begin read) where
       abbrev left : Texts
       left = drop h.written h.session.talk.texts
 
@@ -198,7 +197,7 @@ module _ (begin : Start) (start : DiskState) (held : List ℕ) (told : start.con
 
         -- entries that wait weren't kept, or texts not written
         comes_group : (host next : HostState) (mid : DiskState) (Same : Type 0) → unwritten host ≡ left → (fault : HostFault) → BreaksGroup fault host next mid end out after Same → ComesSo fault
-        comes_group host next mid Same all Disk (same, some, leaves) = inr (tells_still same)
+        comes_group host next mid Same all Disk (same, some, leaves) = (inr (tells_still same), inr begun)
         comes_group host next mid Same all Write (keeps, (count, within, gained)) = tells_some ⊤ count (subst (λ (l : Texts). Gains ⊤ out after (take count l)) all gained)
         comes_group host next mid Same all Read never = absurd never
         comes_group host next mid Same all Memory never = absurd never
@@ -231,6 +230,6 @@ module _ (begin : Start) (start : DiskState) (held : List ℕ) (told : start.con
         comes_unended line mid next then One Same SameOut heard carry_out TooLong never = absurd never
         comes_unended line mid next then One Same SameOut heard carry_out (Differs number) never = absurd never
 
-      -- memory ran out, and nothing was done
-      pub comes_memory : ComesTo limit held content rest start now first out (Err Memory)
-      comes_memory = inr (tells_gone begin start held told alone limit content first read h now out at are)
+    -- memory ran out, and nothing was done
+    pub comes_memory : (limit : ℕ) (content rest : Option (List ℕ)) → AreFirst limit content begin read → ComesTo limit held content rest start now first out (Err Memory)
+    comes_memory limit content rest are = inr (tells_gone begin start held told alone limit content first read h now out at are)

@@ -46,11 +46,17 @@ begins_as limit content begin was start from m begins (inr (is_new, there)) = in
 fewer_first : (begin : Start) (all : Entries) (safe less : ℕ) (image : List ℕ) → less ≤ safe → KeepsFirst begin [] all safe (length all) image → KeepsFirst begin [] all less (length all) image
 fewer_first begin all safe less image few (n, least, most, stands) = (n, omega (arith, few, least), most, stands)
 
+-- so many entries are acknowledged at most
+lags_by : {Cut : Type 0} (acknowledged safe count old : ℕ) → acknowledged ≤ safe - old → Cut ⊎ ((safe ≤ count) ⊎ (safe ≤ old)) → Cut ⊎ (acknowledged ≤ count - old)
+lags_by acknowledged safe count old most (inl cut) = inl cut
+lags_by acknowledged safe count old most (inr (inl all)) = inr (omega (arith, most, all))
+lags_by acknowledged safe count old most (inr (inr none)) = inr (omega (arith, most, none))
+
 -- what lines, their entries and texts, and what became of the file say together
 pub hosts_so : (limit : ℕ) (content : Option (List ℕ)) (Cut : Type 0) (begin was : Start) (start end : DiskState) (old : Entries) (m : Market) (lines : List (List ℕ)) (pairs : Entries) (texts : Texts) (safe count : ℕ) (told : Texts) (out later : Output)
-    → AreFirstHosted begin lines pairs texts → EndsFile begin was start end old m lines pairs safe → AreFirst limit content begin lines → count ≤ safe → AreFirstHosted begin lines (take count pairs) told → Gains Cut out later told
+    → AreFirstHosted begin lines pairs texts → EndsFile begin was start end old m lines pairs safe → AreFirst limit content begin lines → count ≤ safe → Cut ⊎ ((safe ≤ count) ⊎ (safe ≤ length old)) → AreFirstHosted begin lines (take count pairs) told → Gains Cut out later told
     → HostsIn limit content Cut was start end old m out later
-hosts_so limit content Cut begin was start end old m lines pairs texts safe count told out later asked file are within answered gained = record {
+hosts_so limit content Cut begin was start end old m lines pairs texts safe count told out later asked file are within lag answered gained = record {
   begin = begin;
   from = file.from;
   continues = begins_as limit content begin was start file.from m (first_begins limit content begin lines are) file.continues;
@@ -67,6 +73,7 @@ hosts_so limit content Cut begin was start end old m lines pairs texts safe coun
   count = count;
   within = omega (arith, within, file.within);
   durable = λ image left. inr (fewer_first begin (old ++ file.new) safe count image within (file.durable image left));
+  lag = lags_by file.acknowledged safe count (length old) file.most lag;
   told = told;
   answered = answered;
   gained = gained;
@@ -78,8 +85,9 @@ all_hosted begin lines pairs texts market desks served =
     subst (λ (l : List (List ℕ)). AreFirstHosted begin l pairs texts) (append-nil lines) (first_all IsAdmissibleOutcome (market_of begin) market (desks_of begin) desks 0 lines [] pairs texts served)
 
 -- the texts that were written are those of first entries of the file
-pub told_first : (begin : Start) (read : List (List ℕ)) (gone : Texts) (safe waiting pairs : Entries) → pairs ≡ safe ++ waiting → AreToldOf begin read gone safe → (count : ℕ) × (count ≤ length safe) × AreFirstHosted begin read (take count pairs) gone
-told_first begin read gone safe waiting pairs parts (done, rest, read_is, first, others, safe_is, market, desks, hosted) =
+pub told_first : (begin : Start) (start : DiskState) (read : List (List ℕ)) (gone : Texts) (safe waiting pairs : Entries) → pairs ≡ safe ++ waiting → AreToldOf begin start read gone safe
+    → (count : ℕ) × (count ≤ length safe) × AreFirstHosted begin read (take count pairs) gone × ((was : Start) (legal : Entries) (m : Market) → HoldsLegal start was legal m → (length safe ≤ count) ⊎ (length safe ≤ length legal))
+told_first begin start read gone safe waiting pairs parts (done, rest, read_is, first, others, safe_is, market, desks, hosted, old) =
     let first_are : take (length first) pairs ≡ first =
     ap (take (length first)) (parts ∙ ap (λ (l : Entries). l ++ waiting) safe_is ∙ append_assoc first others waiting) ∙ take-append_seam first (others ++ waiting)
     in
@@ -87,6 +95,7 @@ told_first begin read gone safe waiting pairs parts (done, rest, read_is, first,
       length first,
       omega (arith, ap length safe_is, length-append first others),
       subst (λ (l : Entries). AreFirstHosted begin read l gone) (sym first_are) (subst (λ (l : List (List ℕ)). AreFirstHosted begin l first gone) (sym read_is) served),
+      old,
     )
 
 -- so many texts are some of these
@@ -134,20 +143,6 @@ pub few_stored : (waiting : Entries) → length waiting ≤ length (stored waiti
 few_stored [] = omega arith
 few_stored (pair ∷ waiting) = omega (arith, few_stored waiting, length-append (entry (records_of pair)) (stored waiting))
 
--- fewer of them are told to be in the file
-ends_fewer : (begin was : Start) (start end : DiskState) (old : Entries) (m : Market) (lines : List (List ℕ)) (pairs : Entries) (safe less : ℕ) → less ≤ safe → EndsFile begin was start end old m lines pairs safe → EndsFile begin was start end old m lines pairs less
-ends_fewer begin was start end old m lines pairs safe less few file = record {
-  from = file.from;
-  continues = file.continues;
-  new = file.new;
-  acknowledged = file.acknowledged;
-  runs = file.runs;
-  whole = file.whole;
-  parts = file.parts;
-  within = omega (arith, few, file.within);
-  durable = λ image left. fewer_first begin (old ++ file.new) safe less image few (file.durable image left);
-}
-
 module _ (begin was : Start) (start : DiskState) (old : Entries) (m : Market) (holds : HoldsLegal start was old m) (alone : IfSome start.content (BeginsAlone begin)) (lines : List (List ℕ)) where
   abbrev Ends : DiskState → Entries → ℕ → Type 0
   Ends end pairs safe = EndsFile begin was start end old m lines pairs safe
@@ -194,9 +189,9 @@ module _ (begin was : Start) (start : DiskState) (old : Entries) (m : Market) (h
     }
 
     -- from a file in which all of the entries are, if none waits
-    pub may_end_all : (pairs : Entries) (safe : ℕ) → safe ≤ length pairs → host.group ≡ [] → Ends mid pairs (length pairs) → MayEnd begin was start old m lines pairs safe host next mid later Same
+    pub may_end_all : (pairs : Entries) (safe : ℕ) → safe ≡ length pairs → host.group ≡ [] → Ends mid pairs (length pairs) → MayEnd begin was start old m lines pairs safe host next mid later Same
     may_end_all pairs safe within none file = record {
-      stays = λ still. ends_fewer begin was start later old m lines pairs (length pairs) safe within (carry still (λ s. Ends s pairs (length pairs)) file);
+      stays = λ still. subst (λ (n : ℕ). Ends later pairs n) (sym within) (carry still (λ s. Ends s pairs (length pairs)) file);
       kept = λ keeps. by keeps;
       fails = λ some leaves. absurd (some none);
     }

@@ -1,5 +1,5 @@
 -- What became of the file where hosting ended: it was read along only, or keeps entries, and others waited.
-use Rattle.std.proofs.Common.{◌≡◌, ◌⊎◌, inl, inr, ℕ, ◌+◌, ◌<◌, ◌≤◌, List, [], ◌∷◌, ◌++◌, Option, Some, None, IfSome, IsSome, length, length-append, map, take, drop, refl, sym, ap, subst, ◌∙◌, arith, append_assoc}
+use Rattle.std.proofs.Common.{◌≡◌, ◌⊎◌, inl, inr, ℕ, ◌+◌, ◌-◌, ◌<◌, ◌≤◌, List, [], ◌∷◌, ◌++◌, Option, Some, None, IfSome, IsSome, length, length-append, map, take, drop, refl, sym, ap, subst, ◌∙◌, arith, append_assoc}
 use Rattle.std.specs.Prelude.{All}
 use Rattle.std.proofs.lemmas.List.{append-nil, map-append, take-map, take-append-drop}
 use Rattle.std.proofs.lemmas.List.Elements.{All-nil}
@@ -50,6 +50,7 @@ pub record EndsFile (begin was : Start) (start end : DiskState) (old : Entries) 
   pub whole : AtEachMoment start end (LeavesWholeLines begin lines start old)
   pub parts : (pairs ≡ old ++ new) ⊎ ((new ≡ []) × (others : Entries) × (old ≡ pairs ++ others))
   pub within : safe ≤ length old + acknowledged
+  pub most : acknowledged ≤ safe - length old
   pub durable : (image : List ℕ) → end.images image → KeepsFirst begin [] (old ++ new) safe (length (old ++ new)) image
 
 -- these are the first of all entries
@@ -148,6 +149,7 @@ module _ (begin was : Start) (start : DiskState) (old : Entries) (m : Market) (h
             whole = weaker start later (WhileOpening begin start old) (LeavesWholeLines begin lines start old) (λ image left. inl left) (looks_first begin old start now later along.looks moments);
             parts = inr (refl, others, parts);
             within = omega (arith, ap length parts, length-append safe others);
+            most = omega arith;
             durable = λ image left. kept_first begin (old ++ []) old [] (length safe) image refl (omega (arith, ap length parts, length-append safe others)) (kept_whole image (at_the_end now later (WhileOpening begin now old) is_disk moments image left));
           }
 
@@ -176,6 +178,7 @@ module _ (begin was : Start) (start : DiskState) (old : Entries) (m : Market) (h
           whole = whole;
           parts = inl (ap (λ (l : Entries). l ++ waiting) file.parts ∙ append_assoc file.old file.kept waiting ∙ ap (λ (l : Entries). l ++ (file.kept ++ waiting)) (sym is.0));
           within = omega (arith, ap length file.parts, length-append file.old file.kept, ap length is.0);
+          most = omega (arith, ap length file.parts, length-append file.old file.kept, ap length is.0);
           durable = λ image left.
               either image is.0 (at_the_end now later (WithOrWithout (head_of begin) (map records_of (file.old ++ file.kept)) (map records_of waiting)) is_disk moments image left);
         }

@@ -25,7 +25,7 @@ use Rattle.desk_opening.specs.Openings.{HasOpened, place_of}
 use Rattle.desk_opening.specs.declared.book.Book.{Book}
 use Rattle.desk_opening.specs.declared.book.Book.TheVariants.{Kept, Open}
 use Rattle.wire_records.specs.Commands.{Command}
-use Rattle.desk_keeping.specs.Hosting.{Entries, HasFirstLines, HostsIn, ComesTo}
+use Rattle.desk_keeping.specs.Hosting.{Entries, HasFirstLines, HostsIn, ComesTo, HasTakenBeginning}
 use Rattle.desk_keeping.specs.declared.fault.HostFault.{HostFault}
 use Rattle.desk_keeping.specs.declared.fault.HostFault.TheVariants.{Read, Write, Disk, Memory, NotDisk, Damaged, Rejected, NotFlow, BadCheckpoint, TooLong, Differs}
 use Rattle.desk_keeping.specs.Private.{HostState, IsLeftAlone, IsOrdered, CanRead, FileGoes, IsFileAt, HasGone, IsHosting, IsWithinLines, MaySettle, BreaksGroup, AnswersLong, HearsLine, BreaksLine, EndsLine, BreaksEnd, StopsHere, IsAtEntry, StopsWithin, WhyNot}
@@ -35,7 +35,7 @@ use Rattle.desk_keeping.proofs.Ending.{AreFirst}
 use Rattle.desk_keeping.proofs.Steps.{ordered, can_keep, first_host, at_begin, gone_begin, within_begin}
 use Rattle.desk_keeping.proofs.Settled.{at_settled, settled_all, settled_within}
 use Rattle.desk_keeping.proofs.NextLine.{at_long, within_long, at_line, within_line}
-use Rattle.desk_keeping.proofs.Reaching.{are_first}
+use Rattle.desk_keeping.proofs.Reaching.{are_first, few_at}
 use Rattle.desk_keeping.proofs.Passing.{gone_found, gone_long, gone_line, are_next}
 use Rattle.desk_keeping.proofs.Broken.{hosts_at, breaks_settle, breaks_end}
 use Rattle.desk_keeping.proofs.Stopped.{breaks_line}
@@ -139,14 +139,17 @@ module _ (limit : ℕ) (content : Option (List ℕ)) (start : DiskState) (first 
     spared : IsSpared start h.book h.group now
     spared = file_spared start x.begin now x.at.safe x.at.waiting h.session.market h.book h.group x.at.group x.at.file
 
+    begun : HasTakenBeginning limit content left
+    begun = (few_at x.begin limit w content left x.read x.gone).1
+
     pub left_alone : IsLeftAlone start now
     left_alone = spared_alone start h.book h.group now spared
 
     -- what waits wasn't kept, or not written
-    pub settle_broken : (n : HostState) (later : DiskState) (after : Output) (Same : Type 0) (rest : Option (List ℕ)) (fault : HostFault) → IsDisk later → Carries Same now later → BreaksGroup fault h n now later out after Same → Results later after rest (Err fault)
-    settle_broken n later after Same rest fault is_disk carry breaks = (
+    pub settle_broken : (n : HostState) (later : DiskState) (after : Output) (Same : Type 0) (fault : HostFault) → IsDisk later → Carries Same now later → BreaksGroup fault h n now later out after Same → Results later after left (Err fault)
+    settle_broken n later after Same fault is_disk carry breaks = (
       λ was old m holds. breaks_settle limit content x.begin was start old m holds x.alone first x.read h now out x.at few_waiting are fault n later after Same is_disk carry (◌≡◌ {A = Result (Unit {0}) HostFault} (Err fault) (Err Write)) (λ is. ap (λ (f : HostFault). Err f) is) breaks,
-      always start.content _ (λ held told. comes_broken x.begin start held told x.alone first x.read h now out x.at limit content rest are later after n Same fault breaks),
+      always start.content _ (λ held told. comes_broken x.begin start held told x.alone first x.read h now out x.at limit content left begun are later after n Same fault breaks),
       spared_group start h n now later Same carry spared out after fault breaks,
     )
 
@@ -201,6 +204,9 @@ module _ (limit : ℕ) (content : Option (List ℕ)) (start : DiskState) (first 
       gone_now : HasGone x.begin limit new content rest x.read
       gone_now = gone_found x.begin limit w content left x.read x.gone new rest size finds
 
+      begun_line : HasTakenBeginning limit content rest
+      begun_line = (few_at x.begin limit new content rest x.read gone_now).1
+
       inside : size < length new.held
       inside = omega (arith, ap length finds.is.0, finds.is.2)
 
@@ -222,7 +228,7 @@ module _ (limit : ℕ) (content : Option (List ℕ)) (start : DiskState) (first 
         line_broken after SameOut fault result carry_out breaks stops = (
           λ was old m holds. breaks_line limit content x.begin was start old m holds x.alone first x.read h now out x.at few_waiting are then is_disk is_then One one line are_line mid after SameOut carry_out fault result
               (◌≡◌ {A = Result (Unit {0}) HostFault} (Err result) (Err Write)) (λ is. ap (λ (f : HostFault). Err f) is) breaks stops,
-          always start.content _ (λ held told. comes_stopped x.begin start held told x.alone first x.read h now out x.at limit content rest then is_disk line are are_line mid One after SameOut carry_out fault result breaks stops),
+          always start.content _ (λ held told. comes_stopped x.begin start held told x.alone first x.read h now out x.at limit content rest then is_disk line are are_line mid One after SameOut carry_out begun_line fault result breaks stops),
           line_spared start x.begin first x.read h now then out x.at is_disk line mid One fault breaks,
         )
 
@@ -247,7 +253,7 @@ module _ (limit : ℕ) (content : Option (List ℕ)) (start : DiskState) (first 
             unended fault is_later breaks = (
               λ was old m holds. breaks_end limit content x.begin was start old m holds x.alone first x.read h now out x.at few_waiting are then is_disk is_then One one line mid n heard later after SameDisk SameOut is_later carry carry_out fault
                   (◌≡◌ {A = Result (Unit {0}) HostFault} (Err fault) (Err Write)) (λ is. ap (λ (f : HostFault). Err f) is) breaks,
-              always start.content _ (λ held told. comes_unended x.begin start held told x.alone first x.read h now out x.at limit content rest are later after line mid n then One SameDisk SameOut heard carry_out fault breaks),
+              always start.content _ (λ held told. comes_unended x.begin start held told x.alone first x.read h now out x.at limit content rest begun_line are later after line mid n then One SameDisk SameOut heard carry_out fault breaks),
               spared_end start mid n then later SameDisk carry spared_mid out after SameOut fault breaks,
             )
 
@@ -259,7 +265,7 @@ module _ (limit : ℕ) (content : Option (List ℕ)) (start : DiskState) (first 
               begin = x.begin;
               alone = x.alone;
               read = x.read ++ line ∷ [];
-              at = at_line x.begin start now then later first out after x.read line h mid n One SameDisk SameOut is_disk x.at heard ends one carry carry_out counts;
+              at = at_line x.begin start now then later first out after x.read line h mid n One SameDisk SameOut is_disk x.at heard ends one carry carry_out counts x.alone;
               gone = gone_line x.begin limit new content rest x.read gone_now size inside piece parts past is;
               within = subst (λ (k : ℕ). IsWithinLines k n) (sym (one_more line)) (within_line x.begin start now then later first out after x.read line h mid n One SameDisk SameOut is_disk x.at heard ends (length x.read) room few near short x.within);
             }

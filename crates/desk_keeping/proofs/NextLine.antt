@@ -27,22 +27,23 @@ use Rattle.desk_session.specs.States.{State, CountsAccounts}
 use Rattle.desk_session.specs.Bounds.{IsWithin}
 use Rattle.desk_session.specs.Lines.{IsLineServed}
 use Rattle.desk_session.proofs.Going.{lines_more, follows_line}
-use Rattle.desk_opening.specs.Openings.{place_of}
+use Rattle.desk_opening.specs.Openings.{BeginsAlone, place_of}
 use Rattle.desk_opening.specs.declared.book.Book.{Book}
 use Rattle.desk_opening.specs.declared.book.Book.TheVariants.{Kept, Open}
 use Rattle.desk_keeping.specs.Hosting.{Entries, Texts, AreHosted, desks_of}
-use Rattle.desk_keeping.specs.Private.{HostState, stored, unwritten, FileGoes, MakesAtEnd, HearsLine, EndsLine, KeepsWaiting, AnswersLong, Appends, IsFileAt, IsOpen, AreWhole, IsWholeAt, AreToldOf, IsAt, IsWithinLines}
+use Rattle.desk_keeping.specs.Private.{HostState, stored, unwritten, FileGoes, MakesAtEnd, HearsLine, EndsLine, KeepsWaiting, AnswersLong, Appends, IsFileAt, IsOpen, AreWhole, IsWholeAt, AreOthersOld, AreToldOf, IsAt, IsWithinLines}
 use Rattle.desk_keeping.proofs.Files.{along_now, along_later, gets_later}
 use Rattle.desk_keeping.proofs.Steps.{appends_first}
-use Rattle.desk_keeping.proofs.Leaving.{continued_old}
+use Rattle.desk_keeping.proofs.Leaving.{continued_old, old_parts}
 use Rattle.desk_keeping.proofs.Whole.{whole_lines, whole_also, whole_more, whole_gets}
 use Rattle.desk_keeping.proofs.Settled.{file_kept, whole_kept, place_kept, to_write, left_after, gained_all, hosted_same, same_counts, same_within}
 
 -- ---- what was answered
 
 -- lines more were heard, and more entries are in the file
-pub told_more : (begin : Start) (read more : List (List ℕ)) (gone : Texts) (safe others : Entries) → AreToldOf begin read gone safe → AreToldOf begin (read ++ more) gone (safe ++ others)
-told_more begin read more gone safe others (done, rest, lines, first, after, entries, market, desks, hosted) = (
+pub told_more : (begin : Start) (start : DiskState) (read more : List (List ℕ)) (gone : Texts) (safe others : Entries) → ((first : Entries) → AreOthersOld start first safe → AreOthersOld start first (safe ++ others)) → AreToldOf begin start read gone safe
+    → AreToldOf begin start (read ++ more) gone (safe ++ others)
+told_more begin start read more gone safe others also (done, rest, lines, first, after, entries, market, desks, hosted, old) = (
   done,
   rest ++ more,
   ap (λ (l : List (List ℕ)). l ++ more) lines ∙ append_assoc done rest more,
@@ -52,6 +53,7 @@ told_more begin read more gone safe others (done, rest, lines, first, after, ent
   market,
   desks,
   hosted,
+  also first old,
 )
 
 -- as many counts more
@@ -105,7 +107,7 @@ module _ (begin : Start) (start now : DiskState) (first out : Output) (read : Li
         gone = is.gone;
         said = said_more is.texts is.gone h.session.talk.texts answers.texts next.session.talk.texts h.told h.written next.written is.said is.all_told is.order answers.said answers.written;
         gained = is.gained;
-        told = subst (λ (l : Entries). AreToldOf begin (read ++ line ∷ []) is.gone l) (append-nil is.safe) (told_more begin read (line ∷ []) is.gone is.safe [] is.told);
+        told = subst (λ (l : Entries). AreToldOf begin start (read ++ line ∷ []) is.gone l) (append-nil is.safe) (told_more begin start read (line ∷ []) is.gone is.safe [] (λ first old. subst (AreOthersOld start first) (sym (append-nil is.safe)) old) is.told);
       }
 
   -- and a line more is counted
@@ -178,6 +180,40 @@ module _ (begin : Start) (start now mid : DiskState) (Same : Type 0) (safe waiti
       subst (AreWhole begin read legal) (parts ∙ ap (λ (l : Entries). l ++ waiting) (sym (ap (λ (l : Entries). safe ++ l) none ∙ append-nil safe))) (all legal)
   whole_then read pairs is_disk parts all (Open p) (Kept q b) file goes opens was legal m holds = absurd goes
 
+  module _ (alone : IfSome start.content (BeginsAlone begin)) (is_disk : IsDisk now) where
+    -- what was taken from the file is old
+    taken_old : (b c : Book) → IsFileAt begin start b now safe waiting before → FileGoes b c now mid Same before taken made after → (taken ≡ [])
+        ⊎ ((waiting ≡ []) × ((was : Start) (legal : Entries) (m : Market) → HoldsLegal start was legal m → length (safe ++ taken) ≤ length legal))
+    taken_old (Kept p a) (Kept q b) (none, along) (nothing, on) = inr (none, by)
+      where
+        by : (was : Start) (legal : Entries) (m : Market) → HoldsLegal start was legal m → length (safe ++ taken) ≤ length legal
+        by was legal m holds =
+            let here = along_later begin p q a b start now mid safe (safe ++ taken) before after along (on begin safe (along_now begin p a start now safe before is_disk along)) in
+            let (others, parts) = old_parts begin was start legal m holds q b mid (safe ++ taken) after here alone in
+            omega (arith, ap length parts, length-append (safe ++ taken) others)
+    taken_old (Kept p a) (Open q) (none, along) (at, up, steps, fits) = inr (none, by)
+      where
+        by : (was : Start) (legal : Entries) (m : Market) → HoldsLegal start was legal m → length (safe ++ taken) ≤ length legal
+        by was legal m holds =
+            let gets = gets_later begin p q a start now mid safe (safe ++ taken) before at along (up begin safe (along_now begin p a start now safe before is_disk along)) in
+            omega (arith, ap length (continued_old begin was start legal m holds (safe ++ taken) at gets.continues).0)
+    taken_old (Open p) (Open q) file (none, still, same, steps, fits) = inl none
+    taken_old (Open p) (Kept q b) file goes = absurd goes
+
+    old_heard : (first : Entries) (b c : Book) → IsFileAt begin start b now safe waiting before → FileGoes b c now mid Same before taken made after → AreOthersOld start first safe → AreOthersOld start first (safe ++ taken)
+    old_heard first b c file goes others = by (taken_old b c file goes)
+      where
+        by : (taken ≡ []) ⊎ ((waiting ≡ []) × ((was : Start) (legal : Entries) (m : Market) → HoldsLegal start was legal m → length (safe ++ taken) ≤ length legal)) → AreOthersOld start first (safe ++ taken)
+        by (inl none) = subst (AreOthersOld start first) (sym (ap (λ (l : Entries). safe ++ l) none ∙ append-nil safe)) others
+        by (inr (empty, old)) = λ was legal m holds. inr (old was legal m holds)
+
+    old_begun : (pairs : Entries) → pairs ≡ safe ++ waiting → (b c : Book) → IsFileAt begin start b now safe waiting before → FileGoes b c now mid Same before taken made after → AreOthersOld start pairs ((safe ++ taken) ++ waiting)
+    old_begun pairs parts b c file goes = by (taken_old b c file goes)
+      where
+        by : (taken ≡ []) ⊎ ((waiting ≡ []) × ((was : Start) (legal : Entries) (m : Market) → HoldsLegal start was legal m → length (safe ++ taken) ≤ length legal)) → AreOthersOld start pairs ((safe ++ taken) ++ waiting)
+        by (inl none) = λ was legal m holds. inl (omega (arith, ap length parts, ap length none, length-append safe taken, length-append (safe ++ taken) waiting, length-append safe waiting))
+        by (inr (empty, old)) = λ was legal m holds. inr (omega (arith, old was legal m holds, ap length empty, length-append (safe ++ taken) waiting))
+
   -- the order of all entries
   heard_order : (b c : Book) → IsFileAt begin start b now safe waiting before → FileGoes b c now mid Same before taken made after → (safe ++ waiting) ++ (taken ++ made) ≡ (safe ++ taken) ++ (waiting ++ made)
   heard_order (Kept p a) c file goes = rw file.0 (ap (λ (l : Entries). l ++ (taken ++ made)) (append-nil safe) ∙ sym (append_assoc safe taken made))
@@ -211,7 +247,8 @@ module _ (begin : Start) (start now mid later : DiskState) (first out after : Ou
   BeginsGroup =
       (next.group ≡ heard.fresh) × KeepsWaiting heard next mid later SameDisk × Gains ⊥ out after (unwritten heard) × (drop next.written next.session.talk.texts ≡ drop heard.told heard.session.talk.texts)
 
-  module _ (carry_heard : SameHeard → (P : DiskState → Type 0) → P now → P mid) (carry : SameDisk → (P : DiskState → Type 0) → P mid → P later) (carry_out : SameOut → (P : Output → Type 0) → P out → P after) (counts : CountsAccounts heard.session) where
+  module _ (carry_heard : SameHeard → (P : DiskState → Type 0) → P now → P mid) (carry : SameDisk → (P : DiskState → Type 0) → P mid → P later) (carry_out : SameOut → (P : Output → Type 0) → P out → P after) (counts : CountsAccounts heard.session)
+      (alone : IfSome start.content (BeginsAlone begin)) where
     -- the lines and this one
     all_hosted : AreHosted begin (read ++ line ∷ []) (is.pairs ++ (hears.taken ++ hears.made)) (is.texts ++ hears.texts) next.session.market next.session.talk.desks
     all_hosted =
@@ -256,7 +293,8 @@ module _ (begin : Start) (start now mid later : DiskState) (first out after : Ou
       gone = is.gone;
       said = said_more is.texts is.gone h.session.talk.texts hears.texts next.session.talk.texts h.told h.written next.written is.said is.all_told is.order (texts ∙ hears.said) (written ∙ hears.aside.written);
       gained = carry_out output (λ (o : Output). Gains ⊥ first o is.gone) is.gained;
-      told = told_more begin read (line ∷ []) is.gone is.safe hears.taken is.told;
+      told = told_more begin start read (line ∷ []) is.gone is.safe hears.taken
+          (λ first others. old_heard begin start now mid SameHeard is.safe is.waiting hears.taken hears.made h.session.market heard.session.market alone is_disk first h.book heard.book is.file hears.goes others) is.told;
     }
 
     -- of each line all was kept, or none, once what waited before was kept
@@ -302,6 +340,7 @@ module _ (begin : Start) (start now mid later : DiskState) (first out after : Ou
             h.session.market,
             h.session.talk.desks,
             is.hosted,
+            old_begun begin start now mid SameHeard is.safe is.waiting hears.taken hears.made h.session.market heard.session.market alone is_disk is.pairs is.parts h.book heard.book is.file hears.goes,
           );
         }
 

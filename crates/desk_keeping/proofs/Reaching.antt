@@ -136,6 +136,21 @@ module _ (begin : Start) (limit : ℕ) (w : WindowState) (content left : Option 
     all_lines next.Limit (inr (inl is)) finds = absurd cc
     all_lines next.Limit (inr (inr is)) finds = absurd cc
 
+    -- and nothing is left
+    pub none_left : (found : Next) → (found ≡ next.Last) ⊎ ((found ≡ next.LongLast) ⊎ (found ≡ next.End)) → FindsNextWithin most_envelope w new left now found → IfSome now (λ rest. rest ≡ [])
+    none_left next.Last is finds = finds.is.7.1
+    none_left next.LongLast is finds = finds.is.3.1
+    none_left next.End is finds = finds.is.2.1
+    none_left (next.Line size) (inl is) finds = absurd cc
+    none_left (next.Line size) (inr (inl is)) finds = absurd cc
+    none_left (next.Line size) (inr (inr is)) finds = absurd cc
+    none_left next.Long (inl is) finds = absurd cc
+    none_left next.Long (inr (inl is)) finds = absurd cc
+    none_left next.Long (inr (inr is)) finds = absurd cc
+    none_left next.Limit (inl is) finds = absurd cc
+    none_left next.Limit (inr (inl is)) finds = absurd cc
+    none_left next.Limit (inr (inr is)) finds = absurd cc
+
     -- the input has more than the limit
     pub limit_lines : FindsNextWithin most_envelope w new left now next.Limit → IfSome content (λ bytes. HasAllLines (take limit bytes) begin read × (limit < length bytes))
     limit_lines finds = of_known content now (gone.taken ++ (finds.joined ++ finds.past)) (found_takes next.Limit finds) (λ bytes. HasAllLines (take limit bytes) begin read × (limit < length bytes)) (λ bytes after so is.

@@ -236,7 +236,7 @@ module _ (begin : Start) (start now later : DiskState) (first out after : Output
         gone = is.texts;
         said = sym (ap (λ (l : Texts). is.texts ++ l) nothing ∙ append-nil is.texts);
         gained = gained_all first out after is.texts is.gone left (unwritten h) is.said written is.gained kept.gained;
-        told = (read, [], sym (append-nil read), is.pairs, [], sym is.parts ∙ sym (append-nil is.pairs), h.session.market, h.session.talk.desks, is.hosted);
+        told = (read, [], sym (append-nil read), is.pairs, [], sym is.parts ∙ sym (append-nil is.pairs), h.session.market, h.session.talk.desks, is.hosted, λ was legal m holds. inl (omega (arith, ap length is.parts)));
       }
 
   module _ (is_last : Bool) (is : IsAt begin start first read h now out) (settles : MaySettle is_last h next now later out after SameDisk SameOut) where

@@ -166,7 +166,7 @@ module _ (limit : ℕ) (start mid : DiskState) (market : Market) (b : Book) (win
     gone = [];
     said = refl;
     gained = gains_none ⊥ out;
-    told = ([], [], refl, [], [], refl, market_of opened.begin, desks_of opened.begin, (refl, refl, refl, refl));
+    told = ([], [], refl, [], [], refl, market_of opened.begin, desks_of opened.begin, (refl, refl, refl, refl), λ was legal m holds. inl (omega arith));
   }
 
   -- only the beginning was taken

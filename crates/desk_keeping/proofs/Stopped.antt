@@ -25,7 +25,7 @@ use Rattle.desk_keeping.specs.declared.fault.HostFault.TheVariants.{Read, Write,
 use Rattle.desk_keeping.specs.Hosting.{Entries, Texts, desks_of, AreHostedInto, AreFirstHosted, HostsIn}
 use Rattle.desk_keeping.specs.Private.{HostState, LeavesFile, WhyNot, IsFileAt, AreWhole, IsWholeAt, IsAt, StopsWithin, BreaksLine, StopsHere}
 use Rattle.desk_keeping.proofs.Files.{along_now, along_later}
-use Rattle.desk_keeping.proofs.Leaving.{EndsFile, Carries, along_ends}
+use Rattle.desk_keeping.proofs.Leaving.{EndsFile, Carries, old_parts, along_ends}
 use Rattle.desk_keeping.proofs.Whole.{whole_lines}
 use Rattle.desk_keeping.proofs.Ending.{AreFirst, hosts_so, take_within, few_stored, stays_file}
 use Rattle.desk_keeping.proofs.Broken.{hosts_gone}
@@ -126,6 +126,12 @@ module _ (limit : ℕ) (content : Option (List ℕ)) (begin was : Start) (start 
     all_file : EndsFile begin was start then old m (read ++ line ∷ []) (at.pairs ++ s.taken) (length (at.pairs ++ s.taken))
     all_file = along_ends begin was start old m holds s.later s.piece then (at.pairs ++ s.taken) mid.session.market then_here alone (read ++ line ∷ []) then is_then (looks_alone begin old then then (looks_none then is_then))
 
+    -- all of them are old
+    all_old : length (at.pairs ++ s.taken) ≤ length old
+    all_old =
+        let (others, parts) = old_parts begin was start old m holds s.later s.piece then (at.pairs ++ s.taken) mid.session.market then_here alone in
+        omega (arith, ap length parts, length-append (at.pairs ++ s.taken) others)
+
     into : AreHostedInto begin read line s.next (at.pairs ++ s.taken) (at.texts ++ s.texts) mid.session.market mid.session.talk.desks
     into = served_into begin start first read h now then out at line mid Why s
 
@@ -142,7 +148,7 @@ module _ (limit : ℕ) (content : Option (List ℕ)) (begin was : Start) (start 
         let texts_are : take (length at.gone + k) (at.texts ++ s.texts) ≡ at.gone ++ take some others = ap (take (length at.gone + k)) said ∙ take-append-add at.gone others k ∙ ap (λ (l : Texts). at.gone ++ l) (sym same) in
         hosts_so limit content Cut begin was start then old m (read ++ line ∷ []) (at.pairs ++ s.taken) (at.texts ++ s.texts) (length (at.pairs ++ s.taken)) count (at.gone ++ take some others) first after
         (first_into IsAdmissibleOutcome (market_of begin) mid.session.market (desks_of begin) mid.session.talk.desks 0 read line [] s.next (at.pairs ++ s.taken) (at.texts ++ s.texts) into)
-        all_file are_line small (subst (λ (l : Texts). AreFirstHosted begin (read ++ line ∷ []) (take count (at.pairs ++ s.taken)) l) texts_are told)
+        all_file are_line small (inr (inr all_old)) (subst (λ (l : Texts). AreFirstHosted begin (read ++ line ∷ []) (take count (at.pairs ++ s.taken)) l) texts_are told)
         (gains_more Cut first out after at.gone (take some others) at.gained gained)
 
     hosts_within : (fault result : HostFault) (Cut : Type 0) → (result ≡ Write → Cut) → StopsHere fault result mid out after SameOut → Hosts Cut then after

@@ -1,7 +1,6 @@
 -- Hosting that a failed call, or want of memory, ends: what was written are the answers of first lines, by entries of the file.
-use Rattle.std.proofs.Common.{◌≡◌, inl, inr, ℕ, ◌+◌, ◌-◌, ◌≤◌, List, [], ◌∷◌, ◌++◌, Option, Some, IfSome, length, length-append, length-drop, map, take, drop, take-append-drop, sym, ap, subst, ◌∙◌, arith, append_assoc}
-use Rattle.std.specs.Prelude.{⊤}
-use Rattle.std.proofs.lemmas.List.{append-nil, take_all, drop-append-le, take-append-le}
+use Rattle.std.proofs.Common.{◌≡◌, inl, inr, ℕ, ◌+◌, List, [], ◌∷◌, ◌++◌, Option, Some, IfSome, length, length-append, map, take, drop, take-append-drop, sym, ap, subst, ◌∙◌, arith, append_assoc}
+use Rattle.std.proofs.lemmas.List.{append-nil}
 use Rattle.std.proofs.Math.Seq.{take-append-add}
 use Rattle.wire_records.specs.Commands.{Command}
 use Rattle.wire_records.specs.Versions.{IsReadAs}
@@ -25,7 +24,7 @@ use Rattle.desk_opening.specs.declared.book.Book.TheVariants.{Kept, Open}
 use Rattle.desk_opening.specs.Books.{IsReadAlong, Continues}
 use Rattle.desk_opening.specs.Openings.{BeginsAlone}
 use Rattle.desk_keeping.specs.Hosting.{Entries, Texts, desks_of, AreFirstHosted, HasUpTo, AreOfFile, TellsFirst}
-use Rattle.desk_keeping.specs.Private.{HostState, unwritten, IsFileAt, IsAt, HearsLine, StopsWithin}
+use Rattle.desk_keeping.specs.Private.{HostState, IsFileAt, IsAt, StopsWithin}
 use Rattle.desk_keeping.proofs.Ending.{AreFirst, told_first, more_first, take_within}
 use Rattle.desk_keeping.proofs.Stopped.{served_into, left_within, along_then}
 
@@ -93,7 +92,7 @@ module _ (begin : Start) (start : DiskState) (held : List ℕ) (told : start.con
         -- no more texts were written
         pub tells_gone : TellsFirst ⊥ limit held content first out
         tells_gone =
-            let (count, within, answered) = told_first begin read at.gone at.safe at.waiting at.pairs at.parts at.told in
+            let (count, within, answered, all) = told_first begin start read at.gone at.safe at.waiting at.pairs at.parts at.told in
             tells_so ⊥ read at.pairs count at.gone out are all_of answered at.gained
 
         -- so many were

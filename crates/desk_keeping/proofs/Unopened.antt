@@ -85,6 +85,7 @@ module _ (limit : ℕ) (content : Option (List ℕ)) (was : Start) (first : Disk
         count = 0;
         within = omega arith;
         durable = λ image left. inl refl;
+        lag = inr (omega arith);
         told = [];
         answered = none;
         gained = gains_none Cut out;
@@ -143,6 +144,9 @@ alone_opened most limit first now market book window before after opened = by bo
 -- ---- a new file
 
 -- the beginning of the input was taken
+takes_begun : (limit : ℕ) (begin : Start) (before after : Option (List ℕ)) → TakesBeginning limit begin before after → HasTakenBeginning limit before after
+takes_begun limit begin before after (starts, more, takes, few) = (begin, starts, omega (arith, few, length-append (bytes_before begin) more), more, takes)
+
 pub made_begun : (limit : ℕ) (first now : DiskState) (before after : Option (List ℕ)) → HasTakenBeginning limit before after → IfSome first.content (λ held. IsMadeAfterBeginning limit held first now before after)
 made_begun limit first now before after taken = by first.content
   where
@@ -162,8 +166,7 @@ pub made_not_opened : (limit : ℕ) (first now : DiskState) (before after : Opti
 made_not_opened limit first now before after (start.Open fault) (why, looks) = made_looked limit first now before after looks
 made_not_opened limit first now before after (start.Input fault) (why, looks) = made_looked limit first now before after looks
 made_not_opened limit first now before after start.Differs (looks, begin, takes, otherwise) = made_looked limit first now before after looks
-made_not_opened limit first now before after start.Make (begin, (starts, more, takes, few), making) =
-    made_begun limit first now before after (begin, starts, omega (arith, few, length-append (bytes_before begin) more), more, takes)
+made_not_opened limit first now before after start.Make (begin, takes, making) = made_begun limit first now before after (takes_begun limit begin before after takes)
 
 -- they were, and no session was made
 pub made_opened : (most limit : ℕ) (first now : DiskState) (market : Market) (book : Book) (window : WindowState) (before after : Option (List ℕ)) → HasOpened most limit first now market book window before after
@@ -180,21 +183,25 @@ module _ (limit : ℕ) (content left : Option (List ℕ)) (first now : DiskState
   as_before : OnlyLooks first now → IsAsBefore first now out out
   as_before looks = (looks, refl)
 
+  shown_begun : (left ≡ content) ⊎ ((begin : Start) × TakesBeginning limit begin content left) → (left ≡ content) ⊎ HasTakenBeginning limit content left
+  shown_begun (inl same) = inl same
+  shown_begun (inr (begin, takes)) = inr (takes_begun limit begin content left takes)
+
   -- why nothing was hosted
-  pub comes_not_opened : (fault : StartFault) → HasNotOpened limit first now content left fault
+  pub comes_not_opened : (fault : StartFault) → (fault ≡ start.Open unopened.Disk → (left ≡ content) ⊎ ((begin : Start) × TakesBeginning limit begin content left)) → HasNotOpened limit first now content left fault
       → ComesTo limit held content left first now out out (Err (of_start fault))
-  comes_not_opened (start.Open unopened.Disk) not = inl refl
-  comes_not_opened (start.Open unopened.Memory) not = inl refl
-  comes_not_opened (start.Open unopened.NotDisk) (why, looks) = (known_so (λ bytes. IsOpening bytes opening.Foreign) why, as_before looks)
-  comes_not_opened (start.Open (unopened.Damaged place)) (why, looks) = inl (known_so (λ bytes. IsOpening bytes (opening.Damaged place)) why.0, why.1, as_before looks)
-  comes_not_opened (start.Open (unopened.Rejected number)) (why, looks) = absurd why
-  comes_not_opened (start.Input unread.Read) (why, looks) = inr (why, as_before looks)
-  comes_not_opened (start.Input unread.Memory) not = inl refl
-  comes_not_opened (start.Input unread.NotFlow) (why, looks) = (why, as_before looks)
-  comes_not_opened (start.Input unread.BadCheckpoint) (why, looks) = (why, as_before looks)
-  comes_not_opened start.Differs (looks, begin, takes, otherwise) =
+  comes_not_opened (start.Open unopened.Disk) shown not = (inl refl, shown_begun (shown refl))
+  comes_not_opened (start.Open unopened.Memory) shown not = inl refl
+  comes_not_opened (start.Open unopened.NotDisk) shown (why, looks) = (known_so (λ bytes. IsOpening bytes opening.Foreign) why, as_before looks)
+  comes_not_opened (start.Open (unopened.Damaged place)) shown (why, looks) = inl (known_so (λ bytes. IsOpening bytes (opening.Damaged place)) why.0, why.1, as_before looks)
+  comes_not_opened (start.Open (unopened.Rejected number)) shown (why, looks) = absurd why
+  comes_not_opened (start.Input unread.Read) shown (why, looks) = inr (why, as_before looks)
+  comes_not_opened (start.Input unread.Memory) shown not = inl refl
+  comes_not_opened (start.Input unread.NotFlow) shown (why, looks) = (why, as_before looks)
+  comes_not_opened (start.Input unread.BadCheckpoint) shown (why, looks) = (why, as_before looks)
+  comes_not_opened start.Differs shown (looks, begin, takes, otherwise) =
       inl (refl, as_before looks, begin, begins_input limit content left begin takes, known_so (λ bytes. BeginsOtherwise begin bytes now) otherwise)
-  comes_not_opened start.Make not = inl refl
+  comes_not_opened start.Make shown (begin, takes, making) = (inl refl, inr (takes_begun limit begin content left takes))
 
 -- ---- a file that is refused by its bytes
 
@@ -221,3 +228,12 @@ refused_opened T content opened Same P refuses = if_some content _ _ (λ (held :
   where
     ok_no_err : (why : OpenFault) → ◌≡◌ {A = Result T StartFault} (Ok opened) (Err (start.Open why)) → ⊥
     ok_no_err why e = absurd cc
+
+-- what a failed call of the file says of the input
+pub shown_before : (T : Type 0) (fault : StartFault) (before after : Option (List ℕ)) (Same Begun : Type 0) → (Same → after ≡ before) → (◌≡◌ {A = Result T StartFault} (Err fault) (Err (start.Open unopened.Disk)) → Same ⊎ Begun) → fault ≡ start.Open unopened.Disk
+    → (after ≡ before) ⊎ Begun
+shown_before T fault before after Same Begun still shown is = either (shown (ap Err is))
+  where
+    either : Same ⊎ Begun → (after ≡ before) ⊎ Begun
+    either (inl same) = inl (still same)
+    either (inr begun) = inr begun

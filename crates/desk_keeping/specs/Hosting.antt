@@ -1,5 +1,5 @@
 -- What comes of the lines of many senders, over a file that is read along with them first and then gets more.
-use Rattle.std.specs.Prelude.{◌≡◌, ◌≢◌, ◌⊎◌, ◌≤◌, ◌<◌, ◌+◌, ℕ, List, [], ◌∷◌, ◌++◌, length, take, All, Option, Some, IfSome, Result, Ok, Err, ⊤}
+use Rattle.std.specs.Prelude.{◌≡◌, ◌≢◌, ◌⊎◌, ◌≤◌, ◌<◌, ◌+◌, ◌-◌, ℕ, List, [], ◌∷◌, ◌++◌, length, take, All, Option, IfSome, Result, Ok, Err, ⊤}
 use Rattle.flow_io.specs.Streams.{Takes}
 use Rattle.wire_records.specs.Records.{Record}
 use Rattle.wire_records.specs.Commands.{Command, Pair}
@@ -174,11 +174,16 @@ pub record TellsFirst (Cut : Type 0) (limit : ℕ) (held : List ℕ) (content : 
   pub answered : AreFirstHosted begin lines pairs texts
   pub gained : Gains Cut out later texts
 
+-- the beginning of an input, within the limit, is among what was taken of it
+abbrev pub HasTakenBeginning : (limit : ℕ) → (before after : Option (List ℕ)) → Type 0
+HasTakenBeginning limit before after = (begin : Start) × CanStart begin × (length (bytes_before begin) ≤ limit) × (more : List ℕ) × Takes before after (bytes_before begin ++ more)
+
 -- What hosting the lines of many senders results in, if the file is known to have held these bytes. `left` is what is left of the input, and `content`
 -- what it was.
 abbrev pub ComesTo : (limit : ℕ) → List ℕ → (content left : Option (List ℕ)) → (start end : DiskState) → Output → Output → Result ⊤ HostFault → Type 0
+-- Nothing is left of the input.
 ComesTo limit held content left start end out later (Ok done) =
-    HasAnswered (λ begin lines. IfSome content (λ bytes. HasAllLines bytes begin lines × (length bytes ≤ limit))) held start end out later
+    HasAnswered (λ begin lines. IfSome content (λ bytes. HasAllLines bytes begin lines × (length bytes ≤ limit))) held start end out later × IfSome left (λ rest. rest ≡ [])
 ComesTo limit held content left start end out later (Err TooLong) =
     HasAnswered (λ begin lines. IfSome content (λ bytes. HasAllLines (take limit bytes) begin lines × (limit < length bytes))) held start end out later
 ComesTo limit held content left start end out later (Err Read) =
@@ -194,15 +199,14 @@ ComesTo limit held content left start end out later (Err (Rejected number)) = St
 ComesTo limit held content left start end out later (Err (Differs number)) =
     ((number ≡ 0) × IsAsBefore start end out later × (begin : Start) × IfSome content (λ bytes. HasFirstLines (take limit bytes) begin []) × BeginsOtherwise begin held end)
     ⊎ StopsAtEntry limit held content start end out later (λ at pairs market next. (number ≡ length pairs + 1) × IsEntryOther held at market next)
+-- After a failed write the last text may be there in part.
 ComesTo limit held content left start end out later (Err Write) = TellsFirst ⊤ limit held content out later
-ComesTo limit held content left start end out later (Err Disk) = (later ≡ out) ⊎ TellsFirst ⊥ limit held content out later
+-- A call of the file fails before anything is read of the input, or once its beginning was taken.
+ComesTo limit held content left start end out later (Err Disk) =
+    ((later ≡ out) ⊎ TellsFirst ⊥ limit held content out later) × ((left ≡ content) ⊎ HasTakenBeginning limit content left)
 ComesTo limit held content left start end out later (Err Memory) = (later ≡ out) ⊎ TellsFirst ⊥ limit held content out later
 
 -- ---- a new file
-
--- the beginning of an input, within the limit, is among what was taken of it
-abbrev pub HasTakenBeginning : (limit : ℕ) → (before after : Option (List ℕ)) → Type 0
-HasTakenBeginning limit before after = (begin : Start) × CanStart begin × (length (bytes_before begin) ≤ limit) × (more : List ℕ) × Takes before after (bytes_before begin ++ more)
 
 -- a file that held these bytes and was new was only looked at, unless the beginning of the input was taken
 abbrev pub IsMadeAfterBeginning : (limit : ℕ) → List ℕ → (start end : DiskState) → (before after : Option (List ℕ)) → Type 0
@@ -226,7 +230,7 @@ abbrev pub AreOfWholeLines : Start → List (List ℕ) → Entries → Type 0
 AreOfWholeLines begin lines pairs =
     (done : List (List ℕ)) × (rest : List (List ℕ)) × (lines ≡ done ++ rest) × (texts : Texts) × (market : Market) × (desks : Desks) × AreHosted begin done pairs texts market desks
 
--- what a crash leaves while entries are kept a line at a time: what it may leave while the file is opened, or all entries of the first of these lines
+-- what a crash leaves if the entries of a line are kept together: what it may leave while the file is opened, or all entries of the first of these lines
 abbrev pub LeavesWholeLines : Start → List (List ℕ) → DiskState → Entries → Images
 LeavesWholeLines begin lines start old image =
     WhileOpening begin start old image ⊎ ((all : Entries) × AreOfWholeLines begin lines all × StandsForJournal begin all image)
@@ -234,8 +238,8 @@ LeavesWholeLines begin lines start old image =
 -- What a call does to a file with these old entries of a valid journal, and to its output. A new file begins as the input does. The entries that the first
 -- lines of the input ask for are the old ones and then the new ones, or only the first of the old ones, and then nothing was added. A crash leaves the old
 -- ones and a first part of the new ones (`runs`): those that are acknowledged, and of the others, which were kept together, all or none. At each moment it
--- leaves of a line all new entries, or none (`whole`). What was written are the answers of lines whose entries are acknowledged. The entries of these lines,
--- old ones too, are `count` at most, and a crash after the call leaves all of them (`durable`).
+-- leaves of a line all new entries, or none (`whole`). What was written are the answers of lines whose entries, the first `count`, are old or acknowledged.
+-- A crash after the call leaves all of these, old ones too (`durable`). Unless a write failed, all acknowledged ones are among them (`lag`).
 pub record HostsIn (limit : ℕ) (content : Option (List ℕ)) (Cut : Type 0) (was : Start) (start end : DiskState) (old : Entries) (market : Market) (out later : Output) : Type 0 where
   pub begin : Start
   pub from : Market
@@ -254,6 +258,7 @@ pub record HostsIn (limit : ℕ) (content : Option (List ℕ)) (Cut : Type 0) (w
   pub count : ℕ
   pub within : count ≤ length old + acknowledged
   pub durable : (image : List ℕ) → end.images image → (count ≡ 0) ⊎ KeepsFirst begin [] (old ++ new) count (length (old ++ new)) image
+  pub lag : Cut ⊎ (acknowledged ≤ count - length old)
   pub told : Texts
   pub answered : AreFirstHosted begin lines (take count pairs) told
   pub gained : Gains Cut out later told

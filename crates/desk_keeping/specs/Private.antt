@@ -423,11 +423,15 @@ IsWholeAt begin start read (Kept place ahead) now safe = ⊤
 IsWholeAt begin start read (Open place) now safe =
     (was : Start) (legal : Entries) (m : Market) → HoldsLegal start was legal m → AtEachMoment start now (LeavesWholeLines begin read start legal) × AreWhole begin read legal safe
 
--- The first of these lines were answered with these texts, and their entries are among the first ones of the file.
-abbrev pub AreToldOf : Start → (read : List (List ℕ)) → (gone : Texts) → (safe : Entries) → Type 0
-AreToldOf begin read gone safe =
+-- The entries of the file that aren't among these first ones are old ones of a valid journal.
+abbrev pub AreOthersOld : DiskState → (first safe : Entries) → Type 0
+AreOthersOld start first safe = (was : Start) (legal : Entries) (m : Market) → HoldsLegal start was legal m → (length safe ≤ length first) ⊎ (length safe ≤ length legal)
+
+-- The first of these lines were answered with these texts, and their entries are among the first ones of the file, with all that it got since the start.
+abbrev pub AreToldOf : Start → DiskState → (read : List (List ℕ)) → (gone : Texts) → (safe : Entries) → Type 0
+AreToldOf begin start read gone safe =
     (done : List (List ℕ)) × (rest : List (List ℕ)) × (read ≡ done ++ rest) × (first : Entries) × (others : Entries) × (safe ≡ first ++ others)
-    × (market : Market) × (desks : Desks) × AreHosted begin done first gone market desks
+    × (market : Market) × (desks : Desks) × AreHosted begin done first gone market desks × AreOthersOld start first safe
 
 -- These lines were heard, completely: which entries they asked for, in the file or waiting, which texts were written, and which are to be.
 pub record IsAt (begin : Start) (start : DiskState) (first : Output) (read : List (List ℕ)) (h : HostState) (now : DiskState) (out : Output) : Type 0 where
@@ -448,7 +452,7 @@ pub record IsAt (begin : Start) (start : DiskState) (first : Output) (read : Lis
   pub gone : Texts
   pub said : texts ≡ gone ++ drop h.written h.session.talk.texts
   pub gained : Gains ⊥ first out gone
-  pub told : AreToldOf begin read gone safe
+  pub told : AreToldOf begin start read gone safe
 
 -- how far the counts and the file can be after so many lines
 pub record IsWithinLines (lines : ℕ) (h : HostState) : Type 0 where

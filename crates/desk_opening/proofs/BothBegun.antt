@@ -96,7 +96,7 @@ module _ (start mid now : DiskState) (looks : OnlyLooks start mid) (is_disk : Is
           told = λ some. subst (λ (o : Option (List ℕ)). IsSome o) looks.content (made.told some);
         }
 
-    takes_so : TakesBeginning limit begun.begin x y
+    pub takes_so : TakesBeginning limit begun.begin x y
     takes_so = (begun.is_one.starts, window.held, begun.takes, omega (arith, begun.place, begun.limited, begun.is_open.within, length-append (bytes_before begun.begin) window.held))
 
     -- they don't, or a call of the disk failed

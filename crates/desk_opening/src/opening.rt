@@ -9,7 +9,7 @@ ghost use Rattle.journal_disk.specs.Recovering.{IsFound};
 ghost use Rattle.journal_disk.specs.Stepping.{IsDamagedAt};
 ghost use Rattle.journal_keeping.specs.Lengths.{most_input};
 ghost use Rattle.desk_opening.specs.Beginnings.{IsBeginning};
-ghost use Rattle.desk_opening.specs.Openings.{HasOpened, HasNotOpened, IsUnopened, IsNoBook};
+ghost use Rattle.desk_opening.specs.Openings.{HasOpened, HasNotOpened, TakesBeginning, IsUnopened, IsNoBook};
 ghost use Rattle.desk_opening.specs.Private.{first_fault_of, IsFile, MakesBook, MakesNoBook};
 
 use crate::beginning::{Beginning, read_beginning};
@@ -177,8 +177,8 @@ fn book_of<D: Disk>(disk: &mut D, file: File, beginning: &Beginning) -> Result<B
 ///
 /// After each error but `Make` the file was only looked at. `Open` with `NotDisk` or `Damaged` comes before the input is read; `Damaged` has the
 /// place 8, and says that the first entry is neither a complete one of a journal nor the checkpoint of a consistent market of the file's version.
-/// Nothing is read of the input of a file that is so. `Open` with
-/// `Disk`, and `Make`, come only if the disk's count of faults rose, and `Input` with `Read` only if the source's did. Costs what reading a
+/// Nothing is read of the input of a file that is so. `Open` with `Disk` comes before the input is read, or once its beginning was taken. It
+/// and `Make` come only if the disk's count of faults rose, and `Input` with `Read` only if the source's did. Costs what reading a
 /// checkpoint costs, once for the file and once for the input; the file's market is dropped before the input is read.
 pub fn open_desk<S: Source, D: Disk>(
     alloc: Global,
@@ -195,6 +195,8 @@ pub fn open_desk<S: Source, D: Disk>(
     ensures refuses { IfSome (D.state disk.old).content (λ held. IsNoBook held → ((fault : OpenFault) × (result ≡ Err (StartFault.Open fault))) × (source.new ≡ source.old)) }
     ensures unread { (result ≡ Err (StartFault.Open OpenFault.NotDisk)) ⊎ ((place : ℕ) × (result ≡ Err (StartFault.Open (OpenFault.Damaged place)))) →
         source.new ≡ source.old }
+    ensures shown { result ≡ Err (StartFault.Open OpenFault.Disk) →
+        (source.new ≡ source.old) ⊎ ((begin : Start) × TakesBeginning limit begin (S.rest source.old) (S.rest source.new)) }
     ensures taken { TakesAtMost (S.rest source.old) (S.rest source.new) (limit + 1) }
     ensures disk_cause { Blames ((result ≡ Err (StartFault.Open OpenFault.Disk)) ⊎ (result ≡ Err StartFault.Make)) (D.state disk.old).faults (D.state disk.new).faults }
     ensures source_cause { Blames (result ≡ Err (StartFault.Input InputFault.Read)) (S.faults source.old) (S.faults source.new) }

@@ -1,5 +1,5 @@
 -- A call that hosts the lines of many senders does what is promised of it.
-use Rattle.std.proofs.Common.{◌≡◌, ◌+◌, ℕ, List, IfSome, Option, None, Some, Result, Ok, Err, OnOk, OnErr, IsErr, refl, sym, ap, ◌∙◌}
+use Rattle.std.proofs.Common.{◌≡◌, ◌⊎◌, inl, inr, ◌+◌, ◌-◌, ◌≤◌, ℕ, List, length, IfSome, Option, None, Some, Result, Ok, Err, OnOk, OnErr, IsErr, refl, sym, ap, ◌∙◌}
 use Rattle.std.specs.Prelude.{⊤}
 use Rattle.flow_io.specs.Faults.{Blames}
 use Rattle.flow_io.specs.Streams.{TakesAtMost, Grows, GrowsByPrefix}
@@ -95,10 +95,15 @@ hosts_wider limit content Cut Wider was start end old market out later wider h =
   count = h.count;
   within = h.within;
   durable = h.durable;
+  lag = lag_wider h.lag;
   told = h.told;
   answered = h.answered;
   gained = gains_wider Cut Wider out later h.told wider h.gained;
 }
+  where
+    lag_wider : Cut ⊎ (h.acknowledged ≤ h.count - length old) → Wider ⊎ (h.acknowledged ≤ h.count - length old)
+    lag_wider (inl cut) = inl (wider cut)
+    lag_wider (inr few) = inr few
 
 -- a later call may begin on what is left
 pub hosts_again : (limit : ℕ) (content : Option (List ℕ)) (Cut : Type 0) (was : Start) (start end : DiskState) (old : List (Pair Record Outcome)) (market : Market) (out later : Output) → HoldsLegal start was old market → IsDisk end

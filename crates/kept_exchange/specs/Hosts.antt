@@ -37,9 +37,9 @@ host_status limit (Err (host.Differs number)) = status.Differs number
 -- What a call does that hosts the lines of many senders over a file, with a limit of its input. `out` and `later` are the output before and after it.
 pub record HostsLines (limit : ℕ) (ends : Status) (start end : DiskState) (source : Change) (out later : Output) (notes : Change) : Type 0 where
   -- If a crash can leave only valid journals at the start, then at each moment a crash leaves what it might have left then, or the old entries and the first
-  -- of the new ones, which are those that the lines ask for after the old ones, and which are one valid journal with them. After the call it leaves each
-  -- entry that was acknowledged, and of the others, which were kept together, all or none; the output gained the answers of lines whose entries are
-  -- acknowledged.
+  -- of the new ones, which are those that the lines ask for after the old ones, and which are one valid journal with them: of a line all new entries, or
+  -- none. After the call it leaves each entry that was acknowledged, and of the others, which were kept together, all or none; the output gained the answers
+  -- of lines whose entries are old or acknowledged, and a crash after the call leaves all of these; all acknowledged ones are among them, unless a write failed.
   pub keeps : (was : Start) (old : List (Pair Record Outcome)) (market : Market) → HoldsLegal start was old market
       → HostsIn limit source.before (ends ≡ status.WriteFault) was start end old market out later
   -- Which status comes, how far the lines were answered and the source was read, and what the disk and the output have then, by the result that has this

@@ -6,7 +6,7 @@ use Rattle.desk_keeping.specs.Hosting.{ComesTo, IsOfFile}
 use Rattle.desk_keeping.specs.Private.{HostState, IsHosting}
 use Rattle.desk_keeping.specs.declared.fault.HostFault.{HostFault}
 use Rattle.desk_keeping.proofs.Steps.{first_host}
-use Rattle.desk_keeping.proofs.Unopened.{hosts_not_opened, hosts_opened, alone_not_opened, alone_opened, made_begun, made_not_opened, made_opened, comes_not_opened, refused_unopened, refused_opened}
+use Rattle.desk_keeping.proofs.Unopened.{hosts_not_opened, hosts_opened, alone_not_opened, alone_opened, made_begun, made_not_opened, made_opened, comes_not_opened, shown_before, refused_unopened, refused_opened}
 use Rattle.desk_keeping.proofs.Loop.{hosting_begins, always, blames_from, neither}
 use Rattle.desk_keeping.proofs.hosting.host_lines.Goals as goal
 
@@ -20,7 +20,7 @@ returns-in-Err-clause-comes g c =
     always (g.D.Disk.state c.args.disk.now).content _
     (λ held told. subst (λ (f : HostFault). ComesTo c.args.limit held (g.S.Source.rest c.args.source.now) (g.S.Source.rest c.open_desk.new.source) (g.D.Disk.state c.args.disk.now) (g.D.Disk.state c.open_desk.new.disk) (output g.K.Sink.held g.K.Sink.calls g.K.Sink.faults c.args.out.now)
     (output g.K.Sink.held g.K.Sink.calls g.K.Sink.faults c.args.out.now) (Err f)) (sym c.from.ensures)
-    (comes_not_opened c.args.limit (g.S.Source.rest c.args.source.now) (g.S.Source.rest c.open_desk.new.source) (g.D.Disk.state c.args.disk.now) (g.D.Disk.state c.open_desk.new.disk) held told (output g.K.Sink.held g.K.Sink.calls g.K.Sink.faults c.args.out.now) c.in-Err.fault c.in-Err.ensures.fails))
+    (comes_not_opened c.args.limit (g.S.Source.rest c.args.source.now) (g.S.Source.rest c.open_desk.new.source) (g.D.Disk.state c.args.disk.now) (g.D.Disk.state c.open_desk.new.disk) held told (output g.K.Sink.held g.K.Sink.calls g.K.Sink.faults c.args.out.now) c.in-Err.fault (λ same. shown_before _ c.in-Err.fault (g.S.Source.rest c.args.source.now) (g.S.Source.rest c.open_desk.new.source) _ _ (λ still. ap g.S.Source.rest still) c.in-Err.ensures.shown same) c.in-Err.ensures.fails))
 
 pub returns-in-Err-over-clause-keeps : goal.returns-in-Err-over-clause-keeps
 returns-in-Err-over-clause-keeps g c =

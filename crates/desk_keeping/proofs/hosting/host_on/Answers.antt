@@ -114,13 +114,13 @@ pub returns-in-Err-clause-keeps : goal.returns-in-Err-clause-keeps
 returns-in-Err-clause-keeps g c =
     λ was content first is.
     let x = c.lines.invariant.0 was content first is in
-    (settle_broken c.args.limit content (g.D.Disk.state was) (output g.K.Sink.held g.K.Sink.calls g.K.Sink.faults first) (g.S.Source.rest c.lines.source) (g.D.Disk.state c.lines.disk) (output g.K.Sink.held g.K.Sink.calls g.K.Sink.faults c.lines.out) c.lines.window c.lines.host x c.settle.new.self (g.D.Disk.state c.settle.new.disk) (output g.K.Sink.held g.K.Sink.calls g.K.Sink.faults c.settle.new.out) (c.settle.new.disk ≡ c.lines.disk) (g.S.Source.rest c.lines.source) c.in-Err.fault (g.met.D.Disk.is_disk c.settle.new.disk) (λ (same : c.settle.new.disk ≡ c.lines.disk) P is. subst (λ d. P (g.D.Disk.state d)) (sym same) is) c.in-Err.ensures.broken).0
+    (settle_broken c.args.limit content (g.D.Disk.state was) (output g.K.Sink.held g.K.Sink.calls g.K.Sink.faults first) (g.S.Source.rest c.lines.source) (g.D.Disk.state c.lines.disk) (output g.K.Sink.held g.K.Sink.calls g.K.Sink.faults c.lines.out) c.lines.window c.lines.host x c.settle.new.self (g.D.Disk.state c.settle.new.disk) (output g.K.Sink.held g.K.Sink.calls g.K.Sink.faults c.settle.new.out) (c.settle.new.disk ≡ c.lines.disk) c.in-Err.fault (g.met.D.Disk.is_disk c.settle.new.disk) (λ (same : c.settle.new.disk ≡ c.lines.disk) P is. subst (λ d. P (g.D.Disk.state d)) (sym same) is) c.in-Err.ensures.broken).0
 
 pub returns-in-Err-clause-comes : goal.returns-in-Err-clause-comes
 returns-in-Err-clause-comes g c =
     λ was content first is.
     let x = c.lines.invariant.0 was content first is in
-    (settle_broken c.args.limit content (g.D.Disk.state was) (output g.K.Sink.held g.K.Sink.calls g.K.Sink.faults first) (g.S.Source.rest c.lines.source) (g.D.Disk.state c.lines.disk) (output g.K.Sink.held g.K.Sink.calls g.K.Sink.faults c.lines.out) c.lines.window c.lines.host x c.settle.new.self (g.D.Disk.state c.settle.new.disk) (output g.K.Sink.held g.K.Sink.calls g.K.Sink.faults c.settle.new.out) (c.settle.new.disk ≡ c.lines.disk) (g.S.Source.rest c.lines.source) c.in-Err.fault (g.met.D.Disk.is_disk c.settle.new.disk) (λ (same : c.settle.new.disk ≡ c.lines.disk) P is. subst (λ d. P (g.D.Disk.state d)) (sym same) is) c.in-Err.ensures.broken).1
+    (settle_broken c.args.limit content (g.D.Disk.state was) (output g.K.Sink.held g.K.Sink.calls g.K.Sink.faults first) (g.S.Source.rest c.lines.source) (g.D.Disk.state c.lines.disk) (output g.K.Sink.held g.K.Sink.calls g.K.Sink.faults c.lines.out) c.lines.window c.lines.host x c.settle.new.self (g.D.Disk.state c.settle.new.disk) (output g.K.Sink.held g.K.Sink.calls g.K.Sink.faults c.settle.new.out) (c.settle.new.disk ≡ c.lines.disk) c.in-Err.fault (g.met.D.Disk.is_disk c.settle.new.disk) (λ (same : c.settle.new.disk ≡ c.lines.disk) P is. subst (λ d. P (g.D.Disk.state d)) (sym same) is) c.in-Err.ensures.broken).1
 
 pub returns-in-Err-clause-disk_cause : goal.returns-in-Err-clause-disk_cause
 returns-in-Err-clause-disk_cause g c =
@@ -471,7 +471,7 @@ pub returns-in-Err-clause-untouched : goal.returns-in-Err-clause-untouched
 returns-in-Err-clause-untouched g c =
     λ was content first is.
     let x = c.lines.invariant.0 was content first is in
-    (settle_broken c.args.limit content (g.D.Disk.state was) (output g.K.Sink.held g.K.Sink.calls g.K.Sink.faults first) (g.S.Source.rest c.lines.source) (g.D.Disk.state c.lines.disk) (output g.K.Sink.held g.K.Sink.calls g.K.Sink.faults c.lines.out) c.lines.window c.lines.host x c.settle.new.self (g.D.Disk.state c.settle.new.disk) (output g.K.Sink.held g.K.Sink.calls g.K.Sink.faults c.settle.new.out) (c.settle.new.disk ≡ c.lines.disk) (g.S.Source.rest c.lines.source) c.in-Err.fault (g.met.D.Disk.is_disk c.settle.new.disk) (λ (same : c.settle.new.disk ≡ c.lines.disk) P is. subst (λ d. P (g.D.Disk.state d)) (sym same) is) c.in-Err.ensures.broken).2
+    (settle_broken c.args.limit content (g.D.Disk.state was) (output g.K.Sink.held g.K.Sink.calls g.K.Sink.faults first) (g.S.Source.rest c.lines.source) (g.D.Disk.state c.lines.disk) (output g.K.Sink.held g.K.Sink.calls g.K.Sink.faults c.lines.out) c.lines.window c.lines.host x c.settle.new.self (g.D.Disk.state c.settle.new.disk) (output g.K.Sink.held g.K.Sink.calls g.K.Sink.faults c.settle.new.out) (c.settle.new.disk ≡ c.lines.disk) c.in-Err.fault (g.met.D.Disk.is_disk c.settle.new.disk) (λ (same : c.settle.new.disk ≡ c.lines.disk) P is. subst (λ d. P (g.D.Disk.state d)) (sym same) is) c.in-Err.ensures.broken).2
 
 pub returns-in-Err-hear-clause-untouched : goal.returns-in-Err-hear-clause-untouched
 returns-in-Err-hear-clause-untouched g c =

@@ -1,4 +1,4 @@
-use Rattle.std.proofs.Common.{ℕ, ◌+◌, refl, ap, subst}
+use Rattle.std.proofs.Common.{inl, inr, ℕ, ◌+◌, refl, ap, subst}
 use Rattle.flow_io.specs.Windows.{WindowState}
 use Rattle.journal_keeping.proofs.Counts.{went_on, later_call}
 use Rattle.journal_keeping.proofs.Magic.{none_taken}
@@ -6,7 +6,7 @@ use Rattle.journal_keeping.specs.declared.fault.OpenFault.TheVariants.{Memory}
 use Rattle.desk_opening.specs.Beginnings.{HasBegun, NotBegun}
 use Rattle.desk_opening.proofs.FirstBooks.{stored_short}
 use Rattle.desk_opening.proofs.FirstFiles.{refused_anyhow, refused_never}
-use Rattle.desk_opening.proofs.BothBegun.{both_begun, not_both, unbegun_few, begun_few, read_none, read_well, same_blame}
+use Rattle.desk_opening.proofs.BothBegun.{both_begun, takes_so, not_both, unbegun_few, begun_few, read_none, read_well, same_blame}
 use Rattle.desk_opening.proofs.opening.open_desk.Goals as goal
 
 pub returns-in-Err-read_beginning-clause-fails : goal.returns-in-Err-read_beginning-clause-fails
@@ -91,3 +91,25 @@ returns-in-Ok-book_of-clause-refuses g c = refused_never (g.D.Disk.state c.args.
 
 pub returns-in-Err-book_of-clause-refuses : goal.returns-in-Err-book_of-clause-refuses
 returns-in-Err-book_of-clause-refuses g c = refused_never (g.D.Disk.state c.args.disk.now).content _ c.in-Ok.ensures.sound
+
+pub returns-in-Err-book_of-clause-shown : goal.returns-in-Err-book_of-clause-shown
+returns-in-Err-book_of-clause-shown g c =
+    let begun = c.in-Ok-read_beginning.ensures.begun c.args.most (ap (λ (w : WindowState). w.room) c.in-Ok-new.ensures) in
+    λ is. inr (
+      begun.begin,
+      takes_so (g.D.Disk.state c.args.disk.now) (g.D.Disk.state c.open_file.new.disk) (g.D.Disk.state c.book_of.new.disk) c.in-Ok.ensures.looks (g.met.D.Disk.is_disk c.open_file.new.disk) c.args.most c.args.limit c.in-Ok-read_beginning.beginning.market c.in-Ok-read_beginning.beginning.stored.items
+          c.read_beginning.new.window (g.S.Source.rest c.args.source.now) (g.S.Source.rest c.read_beginning.new.source)
+          (subst (λ (n : ℕ). HasBegun c.args.most n c.in-Ok-read_beginning.beginning.market c.in-Ok-read_beginning.beginning.stored.items c.read_beginning.new.window (g.S.Source.rest c.args.source.now) (g.S.Source.rest c.read_beginning.new.source)) (ap (λ (w : WindowState). w.limit) c.in-Ok-new.ensures) begun),
+    )
+
+pub returns-in-Err-clause-shown : goal.returns-in-Err-clause-shown
+returns-in-Err-clause-shown g c = λ is. inl refl
+
+pub returns-in-Err-new-clause-shown : goal.returns-in-Err-new-clause-shown
+returns-in-Err-new-clause-shown g c = λ is. inl refl
+
+pub returns-in-Err-read_beginning-clause-shown : goal.returns-in-Err-read_beginning-clause-shown
+returns-in-Err-read_beginning-clause-shown g c = λ is. absurd cc
+
+pub returns-in-Ok-book_of-clause-shown : goal.returns-in-Ok-book_of-clause-shown
+returns-in-Ok-book_of-clause-shown g c = λ is. absurd cc
