@@ -1,0 +1,18 @@
+//! Laws of a journal that `keep` or `serve` keeps, and of its entries and output: they keep the promises of the exchange, and the bytes of FILE and of the
+//! input determine them.
+//!
+//! Each law is the contract of a function that does nothing. No code depends on them.
+#![tactic(auto)]
+
+ghost use Rattle.kept_laws.specs.Laws.{KeptJournalsKeepPromises, SomeKeptJournal};
+
+/// A kept journal leads to a consistent market, which holds what its entries deposited, and its entries keep the promises of the exchange, from the
+/// market on in which it begins.
+pub fn kept_journals_keep_promises()
+    ensures { KeptJournalsKeepPromises }
+{}
+
+/// Each beginning and the records of each command file have a kept journal, while the numbers of its orders fit into 64 bits.
+pub fn some_kept_journal()
+    ensures { SomeKeptJournal }
+{}
