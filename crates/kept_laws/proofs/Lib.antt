@@ -1,1 +1,4 @@
 pub mod Promised
+pub mod OneAnswer
+pub mod Alike
+pub mod KeptEnds

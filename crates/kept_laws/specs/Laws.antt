@@ -1,5 +1,5 @@
--- What holds of journals that are kept, whatever the code.
-use Rattle.std.specs.Prelude.{◌≡◌, ◌+◌, ◌<◌, ◌^◌, List, All, length}
+-- What holds of journals that are kept, and of the calls that keep them, whatever the code.
+use Rattle.std.specs.Prelude.{◌⊎◌, ◌++◌, Some, Result, Err, ⊤, ℕ, ◌≡◌, ◌+◌, ◌<◌, ◌^◌, List, All, length}
 use Rattle.wire_records.specs.Records.{Record, AreBytes, IsRecord, most_body}
 use Rattle.wire_records.specs.Commands.{Pair}
 use Rattle.wire_records.specs.Versions.{IsReadAs}
@@ -9,7 +9,13 @@ use Rattle.market_rules.specs.Deposits.{HoldsDeposits}
 use Rattle.market_rules.specs.Promises.{KeepsPromises}
 use Rattle.market_history.specs.Histories.{Start, market_of, CanStart}
 use Rattle.journal_keeping.specs.Keeping.{IsKeptJournal}
-use Rattle.journal_keeping.specs.Dialogs.{asked_of}
+use Rattle.flow_io.specs.Streams.{Grows}
+use Rattle.disk_edge.specs.Disks.{DiskState}
+use Rattle.journal_keeping.specs.Dialogs.{KeepsJust, asked_of}
+use Rattle.journal_keeping.specs.Outputs.{Output}
+use Rattle.journal_keeping.specs.Ended as kept
+use Rattle.journal_keeping.specs.declared.fault.KeepFault.{KeepFault}
+use Rattle.journal_keeping.specs.declared.fault.KeepFault.TheVariants.{Read, Write, Disk, Memory}
 
 -- ---- the promises of the exchange
 
@@ -23,3 +29,30 @@ KeptJournalsKeepPromises = (begin : Start) (pairs : List (Pair Record Outcome)) 
 abbrev pub SomeKeptJournal : Type 0
 SomeKeptJournal = (begin : Start) (records : List Record) → CanStart begin → All (IsRecord most_body) records → All (λ r. AreBytes r.body) records → (market_of begin).next_order + length records < 2 ^ 64
     → (pairs : List (Pair Record Outcome)) × (market : Market) × IsKeptJournal begin pairs market × (asked_of pairs ≡ records)
+
+-- ---- one end, and one output
+
+-- a failure: a read or a write failed, a call of the disk did, or memory ran out
+abbrev pub IsFailure : Result ⊤ KeepFault → Type 0
+IsFailure result = (result ≡ Err Read) ⊎ ((result ≡ Err Write) ⊎ ((result ≡ Err Disk) ⊎ (result ≡ Err Memory)))
+
+-- two outputs gained the same bytes, as far as they are known
+abbrev pub GainAlike : Output → Output → Output → Output → Type 0
+GainAlike out later before after = (text : List ℕ) × Grows out.held later.held text × Grows before.held after.held text
+
+-- the second output gained a prefix of the bytes that the first one gained, as far as they are known
+abbrev pub GainsFirst : Output → Output → Output → Output → Type 0
+GainsFirst out later before after =
+    (text : List ℕ) × (begun : List ℕ) × (rest : List ℕ) × Grows out.held later.held text × Grows before.held after.held begun × (text ≡ begun ++ rest)
+
+-- two disks keep the same entries of journals that begin alike, and a crash leaves just these; or they hold the same bytes
+abbrev pub LeaveAlike : List ℕ → DiskState → DiskState → Type 0
+LeaveAlike held end other =
+    ((begin : Start) × (pairs : List (Pair Record Outcome)) × KeepsJust end begin pairs × KeepsJust other begin pairs)
+    ⊎ ((end.content ≡ Some held) × (other.content ≡ Some held))
+
+-- Two calls of `keep`, on the same bytes of a disk and of a source, end alike if neither fails: they have the same result, write the same bytes, and
+-- leave the same entries.
+abbrev pub OneKeptOutput : DiskState → DiskState → Type 0
+OneKeptOutput end other = (limit : ℕ) (held bytes : List ℕ) (out later before after : Output) (a b : Result ⊤ KeepFault) → (¬ IsFailure a) → (¬ IsFailure b)
+    → kept.ComesTo limit held (Some bytes) end out later a → kept.ComesTo limit held (Some bytes) other before after b → (a ≡ b) × GainAlike out later before after × LeaveAlike held end other

@@ -4,7 +4,9 @@
 //! Each law is the contract of a function that does nothing. No code depends on them.
 #![tactic(auto)]
 
-ghost use Rattle.kept_laws.specs.Laws.{KeptJournalsKeepPromises, SomeKeptJournal};
+ghost use Rattle.kept_laws.specs.Laws.{KeptJournalsKeepPromises, SomeKeptJournal, OneKeptOutput};
+
+use disk_edge::Disk;
 
 /// A kept journal leads to a consistent market, which holds what its entries deposited, and its entries keep the promises of the exchange, from the
 /// market on in which it begins.
@@ -15,4 +17,9 @@ pub fn kept_journals_keep_promises()
 /// Each beginning and the records of each command file have a kept journal, while the numbers of its orders fit into 64 bits.
 pub fn some_kept_journal()
     ensures { SomeKeptJournal }
+{}
+
+/// The bytes of FILE and of the input lead `keep` to one result, one output and one list of entries, unless it fails; for any two states of a disk.
+pub fn one_kept_output<D: Disk>(_end: &D, _other: &D)
+    ensures { OneKeptOutput (D.state _end.now) (D.state _other.now) }
 {}
