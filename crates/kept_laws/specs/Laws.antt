@@ -1,5 +1,5 @@
 -- What holds of journals that are kept, and of the calls that keep them, whatever the code.
-use Rattle.std.specs.Prelude.{◌⊎◌, ◌++◌, Some, Result, Err, ⊤, ℕ, ◌≡◌, ◌+◌, ◌<◌, ◌^◌, List, All, length}
+use Rattle.std.specs.Prelude.{◌⊎◌, ◌++◌, Option, Some, Result, Err, ⊤, ℕ, ◌≡◌, ◌+◌, ◌<◌, ◌^◌, List, All, length}
 use Rattle.wire_records.specs.Records.{Record, AreBytes, IsRecord, most_body}
 use Rattle.wire_records.specs.Commands.{Pair}
 use Rattle.wire_records.specs.Versions.{IsReadAs}
@@ -14,6 +14,7 @@ use Rattle.disk_edge.specs.Disks.{DiskState}
 use Rattle.journal_keeping.specs.Dialogs.{KeepsJust, asked_of}
 use Rattle.journal_keeping.specs.Outputs.{Output}
 use Rattle.journal_keeping.specs.Ended as kept
+use Rattle.line_keeping.specs.Ended as lines
 use Rattle.journal_keeping.specs.declared.fault.KeepFault.{KeepFault}
 use Rattle.journal_keeping.specs.declared.fault.KeepFault.TheVariants.{Read, Write, Disk, Memory}
 
@@ -56,3 +57,8 @@ LeaveAlike held end other =
 abbrev pub OneKeptOutput : DiskState → DiskState → Type 0
 OneKeptOutput end other = (limit : ℕ) (held bytes : List ℕ) (out later before after : Output) (a b : Result ⊤ KeepFault) → (¬ IsFailure a) → (¬ IsFailure b)
     → kept.ComesTo limit held (Some bytes) end out later a → kept.ComesTo limit held (Some bytes) other before after b → (a ≡ b) × GainAlike out later before after × LeaveAlike held end other
+
+-- Two calls of `serve`, on the same bytes of a disk and of an input, end alike if neither fails.
+abbrev pub OneServedOutput : DiskState → DiskState → Type 0
+OneServedOutput end other = (limit : ℕ) (held bytes : List ℕ) (left rest : Option (List ℕ)) (out later before after : Output) (a b : Result ⊤ KeepFault) → (¬ IsFailure a) → (¬ IsFailure b)
+    → lines.ComesTo limit held (Some bytes) left end out later a → lines.ComesTo limit held (Some bytes) rest other before after b → (a ≡ b) × GainAlike out later before after × LeaveAlike held end other

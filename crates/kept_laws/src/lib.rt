@@ -4,7 +4,7 @@
 //! Each law is the contract of a function that does nothing. No code depends on them.
 #![tactic(auto)]
 
-ghost use Rattle.kept_laws.specs.Laws.{KeptJournalsKeepPromises, SomeKeptJournal, OneKeptOutput};
+ghost use Rattle.kept_laws.specs.Laws.{KeptJournalsKeepPromises, SomeKeptJournal, OneKeptOutput, OneServedOutput};
 
 use disk_edge::Disk;
 
@@ -22,4 +22,9 @@ pub fn some_kept_journal()
 /// The bytes of FILE and of the input lead `keep` to one result, one output and one list of entries, unless it fails; for any two states of a disk.
 pub fn one_kept_output<D: Disk>(_end: &D, _other: &D)
     ensures { OneKeptOutput (D.state _end.now) (D.state _other.now) }
+{}
+
+/// So they do `serve`.
+pub fn one_served_output<D: Disk>(_end: &D, _other: &D)
+    ensures { OneServedOutput (D.state _end.now) (D.state _other.now) }
 {}
