@@ -3,3 +3,7 @@ pub mod OneAnswer
 pub mod Alike
 pub mod KeptEnds
 pub mod ServedEnds
+pub mod Begun
+pub mod KeptBegun
+pub mod FirstLines
+pub mod ServedBegun

@@ -12,7 +12,7 @@ use Rattle.canonical_journals.proofs.OneCanonicalJournal.{own_step}
 use Rattle.journal_keeping.specs.Dialogs.{asked_of}
 use Rattle.kept_laws.proofs.Promised.{Pairs}
 
-same_pair : (p q : Pair Record Outcome) → p.asked ≡ q.asked → p.answer ≡ q.answer → p ≡ q
+pub same_pair : (p q : Pair Record Outcome) → p.asked ≡ q.asked → p.answer ≡ q.answer → p ≡ q
 same_pair p q asked answer =
     let made : Record → Answer Outcome → Pair Record Outcome = λ a b. record { asked = a; answer = b } in
     ap (λ a. made a p.answer) asked ∙ ap (λ b. made q.asked b) answer

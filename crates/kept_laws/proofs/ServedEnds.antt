@@ -72,7 +72,7 @@ ends_one limit bytes (Legal begin old market) a b (inr x) (inr y) = end_one limi
 
 module _ (limit : ℕ) (held bytes : List ℕ) where
   -- the lines that were answered, with how far the input goes
-  abbrev Answered : Type 0 → DiskState → Output → Output → Type 0
+  abbrev pub Answered : Type 0 → DiskState → Output → Output → Type 0
   Answered Far end out later = HasAnswered held (Some bytes) end out later (λ bytes before lines. HasLinesWithin limit bytes before lines × Far)
 
   -- how the disk was opened, and what the result says of the input

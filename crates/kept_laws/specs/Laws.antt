@@ -1,5 +1,5 @@
 -- What holds of journals that are kept, and of the calls that keep them, whatever the code.
-use Rattle.std.specs.Prelude.{◌⊎◌, ◌++◌, Option, Some, Result, Err, ⊤, ℕ, ◌≡◌, ◌+◌, ◌<◌, ◌^◌, List, All, length}
+use Rattle.std.specs.Prelude.{◌⊎◌, ◌++◌, Option, Some, Result, Err, ⊤, ℕ, ◌≡◌, ◌+◌, ◌<◌, ◌≤◌, ◌^◌, List, All, length}
 use Rattle.wire_records.specs.Records.{Record, AreBytes, IsRecord, most_body}
 use Rattle.wire_records.specs.Commands.{Pair}
 use Rattle.wire_records.specs.Versions.{IsReadAs}
@@ -8,13 +8,14 @@ use Rattle.market_rules.specs.Market.{Market, IsConsistent}
 use Rattle.market_rules.specs.Deposits.{HoldsDeposits}
 use Rattle.market_rules.specs.Promises.{KeepsPromises}
 use Rattle.market_history.specs.Histories.{Start, market_of, CanStart}
-use Rattle.journal_keeping.specs.Keeping.{IsKeptJournal}
+use Rattle.journal_keeping.specs.Keeping.{IsKeptJournal, HoldsLegal}
 use Rattle.flow_io.specs.Streams.{Grows}
 use Rattle.disk_edge.specs.Disks.{DiskState}
-use Rattle.journal_keeping.specs.Dialogs.{KeepsJust, asked_of}
+use Rattle.journal_keeping.specs.Dialogs.{Dialog, ServesIn, KeepsJust, asked_of, record_dialog}
 use Rattle.journal_keeping.specs.Outputs.{Output}
 use Rattle.journal_keeping.specs.Ended as kept
 use Rattle.line_keeping.specs.Ended as lines
+use Rattle.line_keeping.specs.Keeping.{line_dialog}
 use Rattle.journal_keeping.specs.declared.fault.KeepFault.{KeepFault}
 use Rattle.journal_keeping.specs.declared.fault.KeepFault.TheVariants.{Read, Write, Disk, Memory}
 
@@ -62,3 +63,27 @@ OneKeptOutput end other = (limit : ℕ) (held bytes : List ℕ) (out later befor
 abbrev pub OneServedOutput : DiskState → DiskState → Type 0
 OneServedOutput end other = (limit : ℕ) (held bytes : List ℕ) (left rest : Option (List ℕ)) (out later before after : Output) (a b : Result ⊤ KeepFault) → (¬ IsFailure a) → (¬ IsFailure b)
     → lines.ComesTo limit held (Some bytes) left end out later a → lines.ComesTo limit held (Some bytes) rest other before after b → (a ≡ b) × GainAlike out later before after × LeaveAlike held end other
+
+-- ---- what was written before a stop
+
+-- A call with this result did what the clause `keeps` of `keep` or `serve` says: it began on a disk with these bytes, on which a run may begin, and served the
+-- first units of an input with these bytes, from each beginning that the disk may have.
+pub record HasBegun (dialog : Dialog) (limit : ℕ) (held bytes : List ℕ) (result : Result ⊤ KeepFault) (start end : DiskState) (out later : Output) : Type 0 where
+  pub begin : Start
+  pub old : List (Pair Record Outcome)
+  pub market : Market
+  pub told : start.content ≡ Some held
+  pub holds : HoldsLegal start begin old market
+  pub serves : (of : Start) (pairs : List (Pair Record Outcome)) (from : Market) → HoldsLegal start of pairs from
+      → ServesIn dialog limit (Some bytes) (result ≡ Err Write) of start end pairs from out later
+
+-- Of a disk of at most 2^60 bytes: what `keep` wrote, whatever its result is, is a prefix of what it writes on the same bytes of the disk and of the source
+-- if it doesn't fail.
+abbrev pub KeptBegunIsAPrefix : DiskState → DiskState → DiskState → Type 0
+KeptBegunIsAPrefix start end other = (limit : ℕ) (held bytes : List ℕ) (out later before after : Output) (a b : Result ⊤ KeepFault) → length held ≤ 2 ^ 60 → (¬ IsFailure a)
+    → kept.ComesTo limit held (Some bytes) other out later a → HasBegun record_dialog limit held bytes b start end before after → GainsFirst out later before after
+
+-- so it is of `serve`
+abbrev pub ServedBegunIsAPrefix : DiskState → DiskState → DiskState → Type 0
+ServedBegunIsAPrefix start end other = (limit : ℕ) (held bytes : List ℕ) (left : Option (List ℕ)) (out later before after : Output) (a b : Result ⊤ KeepFault) → length held ≤ 2 ^ 60 → (¬ IsFailure a)
+    → lines.ComesTo limit held (Some bytes) left other out later a → HasBegun line_dialog limit held bytes b start end before after → GainsFirst out later before after

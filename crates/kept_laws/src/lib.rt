@@ -4,7 +4,7 @@
 //! Each law is the contract of a function that does nothing. No code depends on them.
 #![tactic(auto)]
 
-ghost use Rattle.kept_laws.specs.Laws.{KeptJournalsKeepPromises, SomeKeptJournal, OneKeptOutput, OneServedOutput};
+ghost use Rattle.kept_laws.specs.Laws.{KeptJournalsKeepPromises, SomeKeptJournal, OneKeptOutput, OneServedOutput, KeptBegunIsAPrefix, ServedBegunIsAPrefix};
 
 use disk_edge::Disk;
 
@@ -27,4 +27,14 @@ pub fn one_kept_output<D: Disk>(_end: &D, _other: &D)
 /// So they do `serve`.
 pub fn one_served_output<D: Disk>(_end: &D, _other: &D)
     ensures { OneServedOutput (D.state _end.now) (D.state _other.now) }
+{}
+
+/// What `keep` wrote before a failure is a prefix of what it writes of the same bytes of FILE and of the input if it doesn't fail.
+pub fn kept_begun_is_a_prefix<D: Disk>(_start: &D, _end: &D, _other: &D)
+    ensures { KeptBegunIsAPrefix (D.state _start.now) (D.state _end.now) (D.state _other.now) }
+{}
+
+/// What `serve` wrote before a failure is such a prefix too.
+pub fn served_begun_is_a_prefix<D: Disk>(_start: &D, _end: &D, _other: &D)
+    ensures { ServedBegunIsAPrefix (D.state _start.now) (D.state _end.now) (D.state _other.now) }
 {}
