@@ -139,12 +139,12 @@ module _ (limit : ℕ) (held bytes : List ℕ) where
       let new = one_entries y.market x.new y.new x.now y.now file.1 (rw (← begun.2) x.goes_on.steps) y.goes_on.steps in
       let texts = x.are.1 ∙ ap (map pair_encoding) new ∙ sym y.are.1 in
       let keeps : KeepsJust end y.begin (y.old ++ y.new) = rw (← begun.0, ← begun.1, ← new) x.at in
-      ((joined y.texts, subst (λ t. Grows out.held later.held (joined t)) texts (whole_text out later x.texts x.gained), whole_text before after y.texts y.gained), inl (y.begin, y.old ++ y.new, keeps, y.at))
+      ((joined y.texts, subst (λ t. Grows out.held later.held (joined t)) texts (whole_text out later x.texts x.gained), whole_text before after y.texts y.gained), inl (y.begin, y.old ++ y.new, y.now, y.goes_on.journal, keeps, y.at))
 
   left_alike : (end other : DiskState) → HasLeftAll limit held (Some bytes) end → HasLeftAll limit held (Some bytes) other → LeaveAlike held end other
   left_alike end other (inl a) (inl b) =
       let same = legal_is a.0 b.0 a.1 b.1 a.2 b.2 (one_opening held (Legal a.0 a.1 a.2) (Legal b.0 b.1 b.2) a.3 b.3) in
-      inl (b.0, b.1, rw (← same.0, ← same.1) a.5, b.5)
+      inl (b.0, b.1, b.2, b.3.2, rw (← same.0, ← same.1) a.5, b.5)
   left_alike end other (inl a) (inr b) = absurd (a.3.0 b.0.0)
   left_alike end other (inr a) (inl b) = absurd (b.3.0 a.0.0)
   left_alike end other (inr a) (inr b) = inr (a.2, b.2)

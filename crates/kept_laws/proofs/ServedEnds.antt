@@ -125,7 +125,7 @@ module _ (limit : ℕ) (held bytes : List ℕ) where
   all_alike Far end other out later before after x y =
       let one = one_output limit held bytes x.begin y.begin (x.old ++ x.new) (y.old ++ y.new) x.texts y.texts x.now y.now (leads Far end out later x) (leads Far other before after y) in
       let keeps : KeepsJust end y.begin (y.old ++ y.new) = subst (λ (p : Pairs). KeepsJust end y.begin p) one.1 (subst (λ (b : Start). KeepsJust end b (x.old ++ x.new)) one.0 x.at) in
-      ((joined y.texts, subst (λ t. Grows out.held later.held (joined t)) one.2 (whole_text out later x.texts x.gained), whole_text before after y.texts y.gained), inl (y.begin, y.old ++ y.new, keeps, y.at))
+      ((joined y.texts, subst (λ t. Grows out.held later.held (joined t)) one.2 (whole_text out later x.texts x.gained), whole_text before after y.texts y.gained), inl (y.begin, y.old ++ y.new, y.now, y.goes_on.journal, keeps, y.at))
 
   alike : (left rest : Option (List ℕ)) (end other : DiskState) (out later before after : Output) (result : Result ⊤ KeepFault) → (¬ IsFailure result)
       → ComesTo limit held (Some bytes) left end out later result → ComesTo limit held (Some bytes) rest other before after result → GainAlike out later before after × LeaveAlike held end other
@@ -134,7 +134,7 @@ module _ (limit : ℕ) (held bytes : List ℕ) where
   alike left rest end other out later before after (Err NotFlow) fine x y =
       let same = legal_is x.1 y.1 x.2 y.2 x.3 y.3 (one_opening held (Legal x.1 x.2 x.3) (Legal y.1 y.2 y.3) x.4 y.4) in
       let keeps : KeepsJust end y.1 y.2 = subst (λ (p : Pairs). KeepsJust end y.1 p) same.1 (subst (λ (b : Start). KeepsJust end b x.2) same.0 x.6) in
-      (nothing_alike out later before after x.0 y.0, inl (y.1, y.2, keeps, y.6))
+      (nothing_alike out later before after x.0 y.0, inl (y.1, y.2, y.3, y.4.2, keeps, y.6))
   alike left rest end other out later before after (Err BadCheckpoint) fine x y = (nothing_alike out later before after x.0 y.0, inr (x.1.2, y.1.2))
   alike left rest end other out later before after (Err NotDisk) fine x y = (nothing_alike out later before after x.0 y.0, inr (x.1.1, y.1.1))
   alike left rest end other out later before after (Err (Damaged place)) fine x y = (nothing_alike out later before after x.0 y.0, inr (x.1.1, y.1.1))

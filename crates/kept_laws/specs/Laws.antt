@@ -47,10 +47,10 @@ abbrev pub GainsFirst : Output → Output → Output → Output → Type 0
 GainsFirst out later before after =
     (text : List ℕ) × (begun : List ℕ) × (rest : List ℕ) × Grows out.held later.held text × Grows before.held after.held begun × (text ≡ begun ++ rest)
 
--- two disks keep the same entries of journals that begin alike, and a crash leaves just these; or they hold the same bytes
+-- two disks keep the entries of one kept journal, and a crash leaves just these; or they hold these bytes
 abbrev pub LeaveAlike : List ℕ → DiskState → DiskState → Type 0
 LeaveAlike held end other =
-    ((begin : Start) × (pairs : List (Pair Record Outcome)) × KeepsJust end begin pairs × KeepsJust other begin pairs)
+    ((begin : Start) × (pairs : List (Pair Record Outcome)) × (market : Market) × IsKeptJournal begin pairs market × KeepsJust end begin pairs × KeepsJust other begin pairs)
     ⊎ ((end.content ≡ Some held) × (other.content ≡ Some held))
 
 -- Two calls of `keep`, on the same bytes of a disk and of a source, end alike if neither fails: they have the same result, write the same bytes, and
