@@ -1,9 +1,9 @@
-pub mod Promised
-pub mod OneAnswer
-pub mod Alike
-pub mod KeptEnds
-pub mod ServedEnds
-pub mod Begun
-pub mod KeptBegun
-pub mod FirstLines
-pub mod ServedBegun
+mod Promised
+mod OneAnswer
+mod Alike
+mod KeptEnds
+mod ServedEnds
+mod Begun
+mod KeptBegun
+mod FirstLines
+mod ServedBegun

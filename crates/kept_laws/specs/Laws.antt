@@ -66,8 +66,8 @@ OneServedOutput end other = (limit : ℕ) (held bytes : List ℕ) (left rest : O
 
 -- ---- what was written before a stop
 
--- A call with this result did what the clause `keeps` of `keep` or `serve` says: it began on a disk with these bytes, on which a run may begin, and served the
--- first units of an input with these bytes, from each beginning that the disk may have.
+-- What the clause `keeps` says of a call with this result: it began on a disk of these bytes, on which a run may begin, and served the first units of an
+-- input of these bytes, from each beginning that the disk may have.
 pub record HasBegun (dialog : Dialog) (limit : ℕ) (held bytes : List ℕ) (result : Result ⊤ KeepFault) (start end : DiskState) (out later : Output) : Type 0 where
   pub begin : Start
   pub old : List (Pair Record Outcome)
@@ -77,8 +77,8 @@ pub record HasBegun (dialog : Dialog) (limit : ℕ) (held bytes : List ℕ) (res
   pub serves : (of : Start) (pairs : List (Pair Record Outcome)) (from : Market) → HoldsLegal start of pairs from
       → ServesIn dialog limit (Some bytes) (result ≡ Err Write) of start end pairs from out later
 
--- Of a disk of at most 2^60 bytes: what `keep` wrote, whatever its result is, is a prefix of what it writes on the same bytes of the disk and of the source
--- if it doesn't fail.
+-- What a call of `keep` wrote, whatever its result is, is a prefix of what a call writes that doesn't fail, on the same bytes of a disk, of at most 2^60, and
+-- of a source.
 abbrev pub KeptBegunIsAPrefix : DiskState → DiskState → DiskState → Type 0
 KeptBegunIsAPrefix start end other = (limit : ℕ) (held bytes : List ℕ) (out later before after : Output) (a b : Result ⊤ KeepFault) → length held ≤ 2 ^ 60 → (¬ IsFailure a)
     → kept.ComesTo limit held (Some bytes) other out later a → HasBegun record_dialog limit held bytes b start end before after → GainsFirst out later before after
