@@ -7,11 +7,11 @@ use Rattle.wire_records.specs.Versions.{IsReadAs}
 use Rattle.wire_records.proofs.Readings.{reading_unique}
 use Rattle.flow_orders.specs.Outcomes.{Outcome}
 use Rattle.canonical_rule.specs.Canonical.{IsCanonicalOutcome}
+use Rattle.order_text.specs.Lines.{commands_of}
 use Rattle.journal_records.specs.Formats.{records_of}
 use Rattle.market_rules.specs.Market.{Market}
 use Rattle.market_rules.specs.Journal.{Step}
 use Rattle.canonical_journals.proofs.OneCanonicalJournal.{own_step}
-use Rattle.order_text.specs.Lines.{commands_of}
 use Rattle.batch_report.specs.Reports.{IsReport}
 use Rattle.batch_report.proofs.OneReport.{one_report}
 use Rattle.line_keeping.specs.Answers.{AreAnswered, IsLineAnswered, AreLinesAnswered, IsLineBegun, AreFirstAnswered}

@@ -1,5 +1,6 @@
 -- What holds of journals that are kept, and of the calls that keep them, whatever the code.
-use Rattle.std.specs.Prelude.{◌⊎◌, ◌++◌, Option, Some, Result, Err, ⊤, ℕ, ◌≡◌, ◌+◌, ◌<◌, ◌≤◌, ◌^◌, List, All, length}
+use Rattle.std.specs.Prelude.{◌≡◌, ◌⊎◌, ◌+◌, ◌<◌, ◌≤◌, ◌^◌, ℕ, List, ◌++◌, length, All, Option, Some, Result, Err, ⊤}
+use Rattle.flow_io.specs.Streams.{Grows}
 use Rattle.wire_records.specs.Records.{Record, AreBytes, IsRecord, most_body}
 use Rattle.wire_records.specs.Commands.{Pair}
 use Rattle.wire_records.specs.Versions.{IsReadAs}
@@ -8,16 +9,15 @@ use Rattle.market_rules.specs.Market.{Market, IsConsistent}
 use Rattle.market_rules.specs.Deposits.{HoldsDeposits}
 use Rattle.market_rules.specs.Promises.{KeepsPromises}
 use Rattle.market_history.specs.Histories.{Start, market_of, CanStart}
-use Rattle.journal_keeping.specs.Keeping.{IsKeptJournal, HoldsLegal}
-use Rattle.flow_io.specs.Streams.{Grows}
 use Rattle.disk_edge.specs.Disks.{DiskState}
+use Rattle.journal_keeping.specs.Keeping.{IsKeptJournal, HoldsLegal}
 use Rattle.journal_keeping.specs.Dialogs.{Dialog, ServesIn, KeepsJust, asked_of, record_dialog}
 use Rattle.journal_keeping.specs.Outputs.{Output}
 use Rattle.journal_keeping.specs.Ended as kept
-use Rattle.line_keeping.specs.Ended as lines
-use Rattle.line_keeping.specs.Keeping.{line_dialog}
 use Rattle.journal_keeping.specs.declared.fault.KeepFault.{KeepFault}
 use Rattle.journal_keeping.specs.declared.fault.KeepFault.TheVariants.{Read, Write, Disk, Memory}
+use Rattle.line_keeping.specs.Ended as lines
+use Rattle.line_keeping.specs.Keeping.{line_dialog}
 
 -- ---- the promises of the exchange
 
