@@ -1,0 +1,9 @@
+mod Promised
+mod OneAnswer
+mod Alike
+mod KeptEnds
+mod ServedEnds
+mod Begun
+mod KeptBegun
+mod FirstLines
+mod ServedBegun
