@@ -1,4 +1,4 @@
--- Hosting that a failed call, or want of memory, ends: what was written are the answers of first lines, by entries of the file.
+-- Hosting that a failed call, or memory that ran out, ends: what was written are the answers of first lines, by entries of the file.
 use Rattle.std.proofs.Common.{◌≡◌, inl, inr, ℕ, ◌+◌, List, [], ◌∷◌, ◌++◌, Option, Some, IfSome, length, length-append, map, take, drop, take-append-drop, sym, ap, subst, ◌∙◌, arith, append_assoc}
 use Rattle.std.proofs.lemmas.List.{append-nil}
 use Rattle.std.proofs.Math.Seq.{take-append-add}
