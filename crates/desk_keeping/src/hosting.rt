@@ -106,9 +106,10 @@ fn host_on<S: Source, D: Disk, K: Sink>(
 /// nor the checkpoint of a consistent market, and of such a disk nothing is read of the input. `NotFlow` and `BadCheckpoint` say how the input begins, and
 /// `Differs` with 0 that the disk begins otherwise. None of them changes the disk or writes anything. `Damaged`, `Rejected` and `Differs` with an entry's number
 /// come where a command asks for that entry; all that was taken from the entries before it is answered then, and the disk isn't changed. A disk that isn't new
-/// and keeps no valid journal is never changed, whatever the result, and a new one only once the beginning of the input was taken. At `Ok` and `TooLong` all lines of the first `limit` bytes are answered, and at `Read` all
-/// that were complete in what was taken. At most one byte past the limit is taken, which says that there are more. `Disk`, `Read` and `Write` come only if the
-/// count of faults of the disk, the input or `out` rose. `Memory` may come at any time. The limit is at most 2^40 bytes.
+/// and keeps no valid journal is never changed, whatever the result, and a new one only once the beginning of the input was taken. At `Ok` and `TooLong` all
+/// lines of the first `limit` bytes are answered, and at `Read` all that were complete in what was taken. At most one byte past the limit is taken, which says
+/// that there are more. `Disk`, `Read` and `Write` come only if the count of faults of the disk, the input or `out` rose. `Memory` may come at any time. The
+/// limit is at most 2^40 bytes.
 ///
 /// Costs the reading of each line, for each command what serving it or auditing its entry costs, its texts, and for each group two syncs. Holds a window of
 /// 262,145 bytes, the entries of a group and of a line, and their texts.
