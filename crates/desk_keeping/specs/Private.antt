@@ -99,7 +99,7 @@ FileGoes (Open place) (Open later) disk now SameDisk before taken made after =
     (taken ≡ []) × (later ≡ place) × SameDisk × Follows IsReadAs IsCanonicalOutcome before made after × All IsPair made
 FileGoes (Open place) (Kept later next) disk now SameDisk before taken made after = ⊥
 
--- a book that was read to its end meanwhile got an entry more
+-- if a book was read to its end meanwhile, one entry at least was made
 abbrev pub MakesAtEnd : (old new : Book) → (made : Entries) → Type 0
 MakesAtEnd (Kept place ahead) (Open later) made = 0 < length made
 MakesAtEnd (Kept place ahead) (Kept later next) made = ⊤
@@ -392,7 +392,8 @@ pub record AnswersLong (line : List ℕ) (old new : HostState) : Type 0 where
 -- ---- all lines
 
 -- A file that was read to its end got more, and others wait: the market after the old entries, those that were kept since then, by the canonical rule, and that those
--- that wait follow them by it. There is one of these at least, unless the file was new. What a crash left since the start: what it might have left then, or the old entries and the first of these.
+-- that wait follow them by it. There is one of these at least, unless the file was new. What a crash left since the start: what it might have left then, or the old
+-- entries and the first of these.
 pub record Appends (begin : Start) (start : DiskState) (place : ℕ) (now : DiskState) (safe waiting : Entries) (market : Market) : Type 0 where
   pub old : Entries
   pub opened : Market
