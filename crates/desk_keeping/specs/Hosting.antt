@@ -93,7 +93,7 @@ pub record IsReadTo (held : List ℕ) (begin : Start) (pairs : Entries) (market 
   pub durable : LeavesOnly end.images held
 
 -- The file, which held these bytes, got more entries after those that it had, by the canonical rule, and keeps just these all. It got one at least, unless
--- it was new: no other is changed before a command gets an entry that isn't in it.
+-- it was new.
 pub record HasMore (held : List ℕ) (begin : Start) (pairs : Entries) (market : Market) (end : DiskState) : Type 0 where
   pub old : Entries
   pub before : Market
