@@ -19,10 +19,12 @@
 //! | `changes PRICES CHANGES: BOOK` | `excess_at`, `set_price`, `excess`, `is_settled` for each change | the prices; then a row for each change: both bounds before it and after it, and whether the asset is settled |
 //! | `excess PRICES PARTS ASSET/PRICE: BOOK` | `excess_at` | both bounds |
 //! | `amount PRICES PARTS/ASSET WAY REACH: BOOK` | `move_amount`, of a rise if WAY is `rise`, of a fall if it is `fall` | the grains |
+//! | `even PRICES: BOOK` | `is_even` and `direction` of each asset, `first_uneven`, `first_uneven_of` | `even`, `rise` or `fall` for each asset; then `first`, and the first asset that isn't even or `none`, by both calls |
 //! | `settle PRICES PARTS: BOOK` | `settle_single` | `at` and the prices |
 //! | `step PRICES PARTS REACH: BOOK` | `step` of asset 0 | `at` and the prices |
 //! | `search PRICES PARTS BUDGET: BOOK` | `search` | `settled` or `spent`, the moves, `at` and the prices |
 //! | `retrace PRICES PARTS MOVES: BOOK` | `retrace` | `legal` or `illegal PLACE`, `at` and the prices |
+//! | `joint PRICES WAY: BOOK` | `joint_prices_by` rounds, with the barrier halved twice in each step, if WAY is `rounds`; `joint_prices_quickly` if it is `quickly`; `joint_prices_slowly` if it is `slowly` | `at` and the prices |
 //! | `clear PRICES WAY PARTS/BUDGET: BOOK` | `clear`, with joint prices if WAY is `joint`, without them if it is `walks` | the clearing, or the skip |
 //!
 //! - A CURVE is `LOW/HIGH,RATE/ROOM`, with both limits in grains and the batch maximum.
@@ -32,14 +34,18 @@
 //! - An empty list is `-`.
 //! - A clearing is printed as `cleared PRICES rates RATES imbalances IMBALANCES gap GAP`, a skip as `skipped START END moves MOVES`, with
 //!   the dual values before and after the moves.
+//! - Joint prices are searched for with a test that no prices pass, which has 40 parts open of each asset.
 //!
-//! What is in `stdout` was computed in fractions by another program, with pencil and paper, or by the market of `tools/dev/make_samples`.
+//! What is in `stdout` was computed in fractions by another program, with pencil and paper, or by the market of `tools/dev/make_samples`;
+//! joint prices by a program of lists that follows their definition.
 #![tactic(auto)]
 
 mod batches;
 mod books;
 mod curves;
+mod even;
 mod excess;
+mod joint;
 mod moves;
 mod rates;
 mod telling;
@@ -67,6 +73,8 @@ fn put_over_book(alloc: Global, words: (&str, &str), book: &Book<'_>, told: &mut
         "changes" => excess::put_changes(alloc, with, book, told),
         "excess" => excess::put_excess_in(alloc, with, book, told),
         "amount" => excess::put_move(alloc, with, book, told),
+        "even" => even::put_even(alloc, book, told),
+        "joint" => joint::put_joint(alloc, with, book, told),
         "settle" | "step" | "search" | "retrace" => moves::put_moved(alloc, call, with, book, told),
         _ => told.give_up(),
     }
