@@ -19,9 +19,10 @@ pub fn steady_orders_widen_nothing()
     ensures { SteadyOrdersWidenNothing }
 {}
 
-/// Who has nobody to trade with trades nothing, whatever the weights and the rate. Of an even asset that nobody sells, or
-/// that nobody buys, no order demands 1/256 of a unit, and a unit more of any order adds to the imbalance. An order that is
-/// alone at even prices has 0 as its demand rounded down, and each other rate leaves a larger imbalance.
+/// Who has nobody to trade with asks for less than 1/256 of a unit, whatever the weights and the rate. Of an even asset that
+/// nobody sells, or that nobody buys, no order demands as much, and a unit more of any order adds to the imbalance. An order
+/// that is alone at even prices has 0 as its demand rounded down. The only other rounding is 1, which leaves a larger
+/// imbalance, so a choice that leaves no larger one trades nothing.
 pub fn nobody_trades_alone()
     ensures { NobodyTradesAlone }
 {}
