@@ -74,7 +74,7 @@ pub record TradesNothing (o : Order) (prices : List ℤ) : Type 0 where
   pub rounded : (x : ℕ) → IsRounding (terms_of o) x (price_for prices o) → x ≤ 1
   pub nothing : (x : ℕ) → left_alone (length prices) o x ≤ left_alone (length prices) o (floor_rate (terms_of o) (price_for prices o)) → x ≡ 0
 
--- who has nobody to trade with trades nothing, whatever weights and rate
+-- who has nobody to trade with asks for less than 1/256 of a unit, whatever weights and rate
 pub record NobodyTradesAlone : Type 0 where
   -- of an even asset that nobody sells, or that nobody buys, no order demands 1/256 of a unit
   pub one_sided : (orders : List Order) (prices : List ℤ) (asset : ℕ)
@@ -82,7 +82,7 @@ pub record NobodyTradesAlone : Type 0 where
   -- one unit more of any order only adds to the imbalance of such an asset, whatever the rates
   pub adds : (orders : List Order) (rates : List ℕ) (asset : ℕ) → IsOneSided orders asset
       → All (λ o. unsigned_abs (residual (trades orders rates) asset +ℤ weight_in o.row asset) ≡ unsigned_abs (residual (trades orders rates) asset) + unsigned_abs (weight_in o.row asset)) orders
-  -- an order that is alone at even prices trades nothing
+  -- an order that is alone at even prices trades nothing, unless its rate is chosen to leave a larger imbalance
   pub alone : (o : Order) (prices : List ℤ) → IsOrder o → IsPricedBy o.row prices → AreEven (o ∷ []) prices → TradesNothing o prices
 
 -- the tests tell which assets are even, and no price is both too low and too high
