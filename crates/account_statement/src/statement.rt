@@ -25,7 +25,6 @@ use wire_records::Memory;
 /// What an account has by the entries so far, after the empty market or the one that the statement was made from: its own money, units
 /// and live orders, the assets that there are, and whether the account is open. Credits and the count of batches change no line, and
 /// aren't kept. Contracts see these and whose statement it is; it agrees with a market if what it holds is what the account has there.
-#[derive(Drop)]
 pub struct Statement {
     pub(crate) alloc: Global,
     pub(crate) account: u32,
@@ -37,6 +36,21 @@ pub struct Statement {
     pub(crate) units: Vec<i64>,
     // The live orders of the account alone.
     pub(crate) book: Book,
+}
+
+impl Drop for Statement {
+    // By hand, so that the end of a value is one call in the proofs of those who own it (docs/PROVING_TRAPS.md).
+    fn drop(self) {
+        let Statement {
+            alloc: _,
+            account: _,
+            is_open: _,
+            tickers: _,
+            money: _,
+            units: _,
+            book: _,
+        } = self;
+    }
 }
 
 impl Model for Statement {

@@ -17,7 +17,6 @@ use wire_records::Memory;
 const MOST_GROUP: usize = 1 << 20;
 
 // A market of many senders, its file, and what isn't kept or written yet.
-#[derive(Drop)]
 pub(crate) struct Host {
     pub(crate) alloc: Global,
     pub(crate) session: DeskSession,
@@ -31,6 +30,22 @@ pub(crate) struct Host {
     // How many of the texts belong to complete lines, and how many were written.
     pub(crate) told: usize,
     pub(crate) written: usize,
+}
+
+impl Drop for Host {
+    // By hand, so that the end of a value is one call in the proofs of those who own it (docs/PROVING_TRAPS.md).
+    fn drop(self) {
+        let Host {
+            alloc: _,
+            session: _,
+            book: _,
+            group: _,
+            fresh: _,
+            has_batch: _,
+            told: _,
+            written: _,
+        } = self;
+    }
 }
 
 impl Model for Host {

@@ -21,13 +21,23 @@ use std::marker::Model;
 use wire_records::{CommandView, Memory};
 
 // Texts that are to be written, each by one call, and how many lines and messages there were. Contracts see it as the counts and the list of texts.
-#[derive(Drop)]
 pub(crate) struct Talk {
     desks: Desks,
     // All texts, one after the other.
     text: Vec<u8>,
     // Where each of them ends.
     ends: Vec<usize>,
+}
+
+impl Drop for Talk {
+    // By hand, so that the end of a value is one call in the proofs of those who own it (docs/PROVING_TRAPS.md).
+    fn drop(self) {
+        let Talk {
+            desks: _,
+            text: _,
+            ends: _,
+        } = self;
+    }
 }
 
 impl Model for Talk {

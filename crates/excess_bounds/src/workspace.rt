@@ -26,7 +26,6 @@ use std::marker::Model;
 /// order names has a price, and there are at most 64.
 ///
 /// Contracts see both lists.
-#[derive(Drop)]
 pub struct Workspace<'a> {
     orders: &'a [Order],
     prices: Vec<i64>,
@@ -36,6 +35,19 @@ pub struct Workspace<'a> {
     columns: Vec<Column>,
     // Room for the steps of a column.
     steps: Vec<Step>,
+}
+
+impl Drop for Workspace<'_> {
+    // By hand, so that the end of a value is one call in the proofs of those who own it (docs/PROVING_TRAPS.md).
+    fn drop(self) {
+        let Workspace {
+            orders: _,
+            prices: _,
+            quotes: _,
+            columns: _,
+            steps: _,
+        } = self;
+    }
 }
 
 /// Prices, in grains by the assets' numbers, and each order of a batch at them.
@@ -126,10 +138,14 @@ impl<'a> Workspace<'a> {
         ensures prices { result.prices.items ≡ self.entry.prices }
         ensures quoted { AreQuoted self.entry.orders result.prices.items result.quotes.items }
     {
-        Quoted {
-            prices: self.prices,
-            quotes: self.quotes,
-        }
+        let Workspace {
+            orders: _,
+            prices,
+            quotes,
+            columns: _,
+            steps: _,
+        } = self;
+        Quoted { prices, quotes }
     }
 
     /// Returns the excess of an asset at the prices, in units: both bounds are within 2^50 of 0. It costs one pass over the

@@ -27,10 +27,19 @@ use wire_records::{
 };
 
 /// The market of a run, from record to record. Contracts see it as that market.
-#[derive(Drop)]
 pub struct Session {
     alloc: Global,
     market: Market,
+}
+
+impl Drop for Session {
+    // By hand, so that the end of a value is one call in the proofs of those who own it (docs/PROVING_TRAPS.md).
+    fn drop(self) {
+        let Session {
+            alloc: _,
+            market: _,
+        } = self;
+    }
 }
 
 impl Model for Session {
@@ -208,7 +217,8 @@ impl Session {
     pub fn into_market(self) -> Market
         ensures { result ≡ self }
     {
-        self.market
+        let Session { alloc: _, market } = self;
+        market
     }
 
     /// Serves one record, and appends its entry: the record as it was given, and the record of its one answer. The

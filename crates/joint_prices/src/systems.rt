@@ -18,13 +18,25 @@ use std::alloc::{AllocError, Global};
 use std::marker::Model;
 
 /// The memory of the system of a step, and by how much each price moves, in grains.
-#[derive(Drop)]
 pub(crate) struct System {
     grid: Vec<Sums>,
     sides: Vec<i128>,
     rows: Vec<Row>,
     found: Vec<Number>,
     by: Vec<i64>,
+}
+
+impl Drop for System {
+    // By hand, so that the end of a value is one call in the proofs of those who own it (docs/PROVING_TRAPS.md).
+    fn drop(self) {
+        let System {
+            grid: _,
+            sides: _,
+            rows: _,
+            found: _,
+            by: _,
+        } = self;
+    }
 }
 
 impl Model for System {

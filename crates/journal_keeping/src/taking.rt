@@ -33,7 +33,6 @@ use flow_io::{Filled, ReadFailed, Sink, Source, Window};
 use journal_disk::Appender;
 
 /// Serves records with its session, and keeps their entries with its appender.
-#[derive(Drop)]
 pub struct Writer {
     /// The market after the entries that are kept.
     pub session: Session,
@@ -43,6 +42,18 @@ pub struct Writer {
     pub entries: u64,
     /// One buffer for all entries.
     pub pair: Vec<u8>,
+}
+
+impl Drop for Writer {
+    // By hand, so that the end of a value is one call in the proofs of those who own it (docs/PROVING_TRAPS.md).
+    fn drop(self) {
+        let Writer {
+            session: _,
+            appender: _,
+            entries: _,
+            pair: _,
+        } = self;
+    }
 }
 
 /// Keeps an entry on the disk, and then writes its text to `out`, by one write. `Disk` and `Write` come only if the count of faults of the disk or of `out`
