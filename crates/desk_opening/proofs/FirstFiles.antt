@@ -26,7 +26,7 @@ use Rattle.journal_keeping.proofs.Beginnings.{bare_place}
 use Rattle.journal_keeping.proofs.Begun.{first_known}
 use Rattle.journal_keeping.proofs.Counts.{if_some, if_both}
 use Rattle.desk_opening.specs.Openings.{IsUnopened, IsNoBook}
-use Rattle.desk_opening.specs.Private.{first_fault_of, BeginsSomehow}
+use Rattle.desk_opening.specs.Private.{BeginsSomehow}
 
 -- what is known of a disk's bytes is known of them later, if the disk was only looked at
 pub still : (start now : DiskState) (P : List ℕ → Type 0) → OnlyLooks start now → IfSome start.content P → IfSome now.content P
@@ -65,16 +65,20 @@ module _ (version : Version) (start mid : DiskState) (looks : OnlyLooks start mi
         first_known version start.content mid mid fault (sym looks.content) refl
         (if_some start.content _ _ (λ (held : List ℕ) is. (is.0, is.1, looks_hold (head_of (Empty version)) [] 8 (drop 8 held) start mid is.2 looks)) found) stops
 
-    pub file_stops : IsUnopened start.content (first_fault_of fault)
+    pub file_stops : (fault ≡ Disk) ⊎ ((fault ≡ Memory) ⊎ (fault ≡ Damaged 8)) → IsUnopened start.content fault
     file_stops = of_fault fault stops_so opens_not
       where
-        of_fault : (f : OpenFault) → IfSome start.content (StopsFirst f) → IfSome start.content (λ held. OpensNot held mid f) → IsUnopened start.content (first_fault_of f)
-        of_fault Disk why not = tt
-        of_fault Memory why not = tt
-        of_fault NotDisk why not = (if_some start.content _ _ (λ (held : List ℕ) none. absurd none) why, refl)
-        of_fault (Rejected number) why not = (if_some start.content _ _ (λ (held : List ℕ) none. absurd none) why, refl)
-        of_fault (Damaged place) why not =
-            (if_both start.content (StopsFirst (Damaged place)) (λ held. OpensNot held mid (Damaged place)) (λ held. IsOpening held (opening.Damaged 8)) (λ held w n. subst (λ (k : ℕ). IsOpening held (opening.Damaged k)) w.0 n.0) why not, refl)
+        is_eight : (place : ℕ) → (Damaged place ≡ Disk) ⊎ ((Damaged place ≡ Memory) ⊎ (Damaged place ≡ Damaged 8)) → place ≡ 8
+        is_eight place refused = elim refused [ inl e ↦ absurd cc | inr others ↦ elim others [ inl e ↦ absurd cc | inr e ↦ cc ] ]
+
+        of_fault : (f : OpenFault) → IfSome start.content (StopsFirst f) → IfSome start.content (λ held. OpensNot held mid f)
+            → (f ≡ Disk) ⊎ ((f ≡ Memory) ⊎ (f ≡ Damaged 8)) → IsUnopened start.content f
+        of_fault Disk why not refused = tt
+        of_fault Memory why not refused = tt
+        of_fault NotDisk why not refused = absurd (elim refused [ inl e ↦ cc | inr others ↦ elim others [ inl e ↦ cc | inr e ↦ cc ] ])
+        of_fault (Rejected number) why not refused = absurd (elim refused [ inl e ↦ cc | inr others ↦ elim others [ inl e ↦ cc | inr e ↦ cc ] ])
+        of_fault (Damaged place) why not refused =
+            (if_both start.content (StopsFirst (Damaged place)) (λ held. OpensNot held mid (Damaged place)) (λ held. IsOpening held (opening.Damaged 8)) (λ held w n. subst (λ (k : ℕ). IsOpening held (opening.Damaged k)) w.0 n.0) why not, is_eight place refused)
 
 -- ---- its first entry is seen
 

@@ -12,11 +12,10 @@ use Rattle.journal_disk.specs.Looking.{OnlyLooks}
 use Rattle.journal_keeping.specs.Beginning.{BeginsAt}
 use Rattle.journal_keeping.specs.declared.fault.InputFault.{InputFault}
 use Rattle.journal_keeping.specs.declared.fault.InputFault.TheVariants.{NotFlow, BadCheckpoint}
-use Rattle.journal_keeping.specs.declared.fault.OpenFault.{OpenFault}
-use Rattle.journal_keeping.specs.declared.fault.OpenFault.TheVariants as unopened
 use Rattle.desk_opening.specs.declared.book.Book.{Book}
 use Rattle.desk_opening.specs.declared.opening.File.{File}
 use Rattle.desk_opening.specs.declared.opening.File.TheVariants as file
+use Rattle.journal_keeping.specs.declared.fault.OpenFault.TheVariants as unopened
 use Rattle.desk_opening.specs.declared.opening.StartFault.{StartFault}
 use Rattle.desk_opening.specs.declared.opening.StartFault.TheVariants as fault
 use Rattle.desk_opening.specs.Beginnings.{bytes_before}
@@ -31,14 +30,6 @@ IsLacking bytes fault = (HasCheckpointMagic bytes × (fault ≡ BadCheckpoint)) 
 abbrev pub checkpoint_of : Start → Option (List ℕ)
 checkpoint_of (Empty version) = None
 checkpoint_of (Kept market) = Some (checkpoint_bytes market)
-
--- why the first entry of a file wasn't found: what is no failed call and no lack of memory is damage at the first commit byte
-abbrev pub first_fault_of : OpenFault → OpenFault
-first_fault_of unopened.Disk = unopened.Disk
-first_fault_of unopened.Memory = unopened.Memory
-first_fault_of unopened.NotDisk = unopened.Damaged 8
-first_fault_of (unopened.Damaged place) = unopened.Damaged 8
-first_fault_of (unopened.Rejected number) = unopened.Damaged 8
 
 -- the bytes are those of a file of a version, and its entries of the journal begin at the place
 abbrev pub BeginsSomehow : Version → ℕ → DiskState → List ℕ → Type 0

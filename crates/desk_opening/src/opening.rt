@@ -10,7 +10,7 @@ ghost use Rattle.journal_disk.specs.Stepping.{IsDamagedAt};
 ghost use Rattle.journal_keeping.specs.Lengths.{most_input};
 ghost use Rattle.desk_opening.specs.Beginnings.{IsBeginning};
 ghost use Rattle.desk_opening.specs.Openings.{HasOpened, HasNotOpened, TakesBeginning, IsUnopened, IsNoBook};
-ghost use Rattle.desk_opening.specs.Private.{first_fault_of, IsFile, MakesBook, MakesNoBook};
+ghost use Rattle.desk_opening.specs.Private.{IsFile, MakesBook, MakesNoBook};
 
 use crate::beginning::{Beginning, read_beginning};
 use crate::book::Book;
@@ -22,9 +22,6 @@ use journal_keeping::{InputFault, OpenFault, first_market, make_disk};
 use market_core::Market;
 use std::alloc::Global;
 use wire_records::Version;
-
-// The place of the first commit byte.
-const FIRST: u64 = 8;
 
 /// A market of many senders that was opened.
 #[derive(Drop)]
@@ -55,19 +52,6 @@ pub enum StartFault {
 enum File {
     Kept(Version, DiskJournal, Ahead),
     New(Appender),
-}
-
-// Returns why the first entry of a file wasn't found.
-fn first_fault(fault: OpenFault) -> OpenFault
-    ensures { result ≡ first_fault_of fault }
-{
-    match fault {
-        OpenFault::Disk => OpenFault::Disk,
-        OpenFault::Memory => OpenFault::Memory,
-        OpenFault::NotDisk => OpenFault::Damaged(FIRST),
-        OpenFault::Damaged(_) => OpenFault::Damaged(FIRST),
-        OpenFault::Rejected(_) => OpenFault::Damaged(FIRST),
-    }
 }
 
 // Looks whether the first entry of a file is complete, or there is none, unless the reading is past it.
@@ -114,7 +98,7 @@ fn kept_file<D: Disk>(alloc: Global, disk: &mut D, version: Version) -> Result<F
     let mut journal = DiskJournal::after_magic();
     match first_market(alloc, &mut journal, disk, &mut ahead, version) {
         Ok(_) => {}
-        Err(fault) => return Err(first_fault(fault)),
+        Err(fault) => return Err(fault),
     }
     match see_first(disk, &mut ahead, &journal) {
         Ok(()) => Ok(File::Kept(version, journal, ahead)),

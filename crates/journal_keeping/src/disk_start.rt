@@ -61,6 +61,7 @@ pub fn first_market<D: Disk>(
         Holds (record { version = version; first = None }) [] 8 rest (D.state disk.old) → BeginsAt version bytes market journal.new (D.state disk.new)) }
     ensures stops { IfErr result (λ fault. (rest bytes : List ℕ) → (D.state disk.old).content ≡ Some bytes →
         Holds (record { version = version; first = None }) [] 8 rest (D.state disk.old) → StopsFirst fault bytes) }
+    ensures refused { IfErr result (λ fault. (fault ≡ OpenFault.Disk) ⊎ ((fault ≡ OpenFault.Memory) ⊎ (fault ≡ OpenFault.Damaged 8))) }
     ensures piece { IfSome (D.state disk.new).content (IsPiece ahead.new) }
     ensures near { IfOk result (λ market. (market.next_order ≤ 2 ^ 63) × (journal.new ≤ 2 ^ 60)) }
     ensures looks { OnlyLooks (D.state disk.old) (D.state disk.new) }

@@ -1,13 +1,10 @@
-use Rattle.std.proofs.Common.{sym, subst}
-use Rattle.journal_keeping.specs.declared.fault.OpenFault.{OpenFault}
-use Rattle.desk_opening.specs.Openings.{IsUnopened}
 use Rattle.desk_opening.proofs.FirstFiles.{file_seen, file_sound, first_stops, file_stops}
 use Rattle.desk_opening.proofs.opening.kept_file.Goals as goal
 
 pub returns-in-Err-first_market-clause-refused : goal.returns-in-Err-first_market-clause-refused
 returns-in-Err-first_market-clause-refused g c =
-    subst (λ (f : OpenFault). IsUnopened (g.D.Disk.state c.args.disk.now).content f) (sym c.first_fault.ensures)
-    (file_stops c.args.version (g.D.Disk.state c.args.disk.now) (g.D.Disk.state c.new.new.disk) c.in-Ok.ensures.looks c.requires.found c.in-Err-first_market.fault c.in-Err-first_market.ensures.stops)
+    file_stops c.args.version (g.D.Disk.state c.args.disk.now) (g.D.Disk.state c.new.new.disk) c.in-Ok.ensures.looks c.requires.found c.in-Err-first_market.fault c.in-Err-first_market.ensures.stops
+    c.in-Err-first_market.ensures.refused
 
 pub returns-in-Ok-see_first-clause-found : goal.returns-in-Ok-see_first-clause-found
 returns-in-Ok-see_first-clause-found g c = (
