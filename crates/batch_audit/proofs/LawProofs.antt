@@ -39,15 +39,15 @@ step_is_legal : (old : Market) (pair : Pair Record Outcome) (new : Market) → I
 step_is_legal old pair new is step = record { answer = pair.answer; encoded = record { fits = is.answer; encoded = refl }; step = step }
 
 -- one entry has these records
-pair_is : (p q : Pair Record Outcome) → IsPair p → IsPair q → records_of p ≡ records_of q → p ≡ q
+pub pair_is : (p q : Pair Record Outcome) → IsPair p → IsPair q → records_of p ≡ records_of q → p ≡ q
 pair_is p q p_is q_is same =
     let asked : p.asked ≡ q.asked = ap (λ (r : Record × Record). r.0) same in
     let answer = answer_unique p.answer q.answer p_is.answer q_is.answer (ap (λ (r : Record × Record). r.1) same) in
     let made : Record → Answer Outcome → Pair Record Outcome = λ a b. record { asked = a; answer = b } in
     ap (λ a. made a p.answer) asked ∙ ap (λ b. made q.asked b) answer
 
--- the valid entries end in one place
-judged_once : (start : Market) (p q : List (Pair Record Outcome)) (x y : List (Record × Record)) (m n : Market) → map records_of p ++ x ≡ map records_of q ++ y → All IsPair p → All IsPair q
+-- the valid entries end in one place, whatever market they begin in
+pub judged_once : (start : Market) (p q : List (Pair Record Outcome)) (x y : List (Record × Record)) (m n : Market) → map records_of p ++ x ≡ map records_of q ++ y → All IsPair p → All IsPair q
     → Follows IsReadAs IsAdmissibleOutcome start p m → Follows IsReadAs IsAdmissibleOutcome start q n → StopsAt m x → StopsAt n y → (p ≡ q) × (x ≡ y) × (m ≡ n)
 judged_once start [] [] x y m n e i j a b s t = (refl, e, a ∙ sym b)
 judged_once start [] (w ∷ q) [] y m n e i j a b s t = absurd cc

@@ -1,10 +1,10 @@
 -- A history as it was read.
-use Rattle.std.proofs.Common.{◌≡◌, ◌⊎◌, ◌+◌, ◌<◌, suc, ℕ, List, [], ◌∷◌, ◌++◌, All, map, length, take, inl, inr, refl, sym, ap, ◌∙◌, subst, append-nil, append_assoc, arith}
+use Rattle.std.proofs.Common.{◌≡◌, ◌⊎◌, ◌+◌, ◌<◌, ℕ, List, [], ◌∷◌, ◌++◌, All, map, length, take, inl, inr, sym, ap, ◌∙◌, subst, append-nil, append_assoc, arith}
 use Rattle.std.proofs.lemmas.Bool.{cases_lt}
 use Rattle.std.proofs.lemmas.List.{flat_map_more}
 use Rattle.std.proofs.lemmas.List.Elements.{All-push}
 use Rattle.wire_records.specs.Records.{Record}
-use Rattle.wire_records.specs.Commands.{Answer, Pair}
+use Rattle.wire_records.specs.Commands.{Pair}
 use Rattle.wire_records.specs.Versions.{IsReadAs}
 use Rattle.wire_records.specs.Grammars.{BeginsWith, BeginsWithNone, encode_all}
 use Rattle.wire_records.specs.Reading.{Ending, End, EndsAs, ReadsOn}
@@ -14,15 +14,14 @@ use Rattle.flow_orders.specs.Outcomes.{Outcome, IsAdmissibleOutcome}
 use Rattle.journal_records.specs.Pairs.{IsPair}
 use Rattle.journal_records.specs.Formats.{journals, records_of}
 use Rattle.journal_records.proofs.Files.{journals_readable}
-use Rattle.journal_records.proofs.Encoded.{answer_unique}
 use Rattle.market_rules.specs.Market.{Market, IsConsistent}
-use Rattle.market_rules.specs.Journal.{Step, Follows}
+use Rattle.market_rules.specs.Journal.{Follows}
 use Rattle.market_rules.proofs.Consistency.{consistent-empty}
 use Rattle.market_rules.proofs.LawProofs.{journals_hold_deposits}
 use Rattle.market_rules.proofs.Promised.{legal_journal_keeps_promises}
 use Rattle.market_history.specs.Histories.{Start, Empty, Kept, CanStart, market_of, starts, histories}
-use Rattle.batch_audit.specs.Legal.{IsLegalPair, IsIllegalPair, StopsAt}
-use Rattle.batch_audit.proofs.LawProofs.{one_market}
+use Rattle.batch_audit.specs.Legal.{IsIllegalPair}
+use Rattle.batch_audit.proofs.LawProofs.{judged_once}
 use Rattle.journal_replay.proofs.Judged.{read_more}
 use Rattle.history_words.proofs.Starts.{one_start}
 use Rattle.exit_status.specs.declared.status.Status.{Status}
@@ -71,44 +70,6 @@ reads_here place More bytes units ending on = record {
 }
 
 -- ---- bytes are at most one history
-
-heads : (a b : Record × Record) (x y : List (Record × Record)) → a ∷ x ≡ b ∷ y → (a ≡ b) × (x ≡ y)
-heads a b x y e = (cc, cc)
-
-first_of : {X : Type 0} (P : X → Type 0) (x : X) (xs : List X) → All P (x ∷ xs) → P x
-first_of P x xs all = all 0 x (omega arith)
-
-others_of : {X : Type 0} (P : X → Type 0) (x : X) (xs : List X) → All P (x ∷ xs) → All P xs
-others_of P x xs all k d inside = all (suc k) d (omega (arith, inside))
-
-step_is_legal : (old : Market) (pair : Pair Record Outcome) (new : Market) → IsPair pair → Step IsReadAs IsAdmissibleOutcome old pair.asked pair.answer new → IsLegalPair old (records_of pair) new
-step_is_legal old pair new is step = record { answer = pair.answer; encoded = record { fits = is.answer; encoded = refl }; step = step }
-
-pub pair_is : (p q : Pair Record Outcome) → IsPair p → IsPair q → records_of p ≡ records_of q → p ≡ q
-pair_is p q p_is q_is same =
-    let asked : p.asked ≡ q.asked = ap (λ (r : Record × Record). r.0) same in
-    let answer = answer_unique p.answer q.answer p_is.answer q_is.answer (ap (λ (r : Record × Record). r.1) same) in
-    let made : Record → Answer Outcome → Pair Record Outcome = λ a b. record { asked = a; answer = b } in
-    ap (λ a. made a p.answer) asked ∙ ap (λ b. made q.asked b) answer
-
--- the valid entries end in one place
-judged_once : (start : Market) (p q : List (Pair Record Outcome)) (x y : List (Record × Record)) (m n : Market) → map records_of p ++ x ≡ map records_of q ++ y → All IsPair p → All IsPair q
-    → Follows IsReadAs IsAdmissibleOutcome start p m → Follows IsReadAs IsAdmissibleOutcome start q n → StopsAt m x → StopsAt n y → (p ≡ q) × (x ≡ y) × (m ≡ n)
-judged_once start [] [] x y m n e i j a b s t = (refl, e, a ∙ sym b)
-judged_once start [] (w ∷ q) [] y m n e i j a b s t = absurd cc
-judged_once start [] (w ∷ q) (v ∷ x) y m n e i j a b s t =
-    let first = heads v (records_of w) x (map records_of q ++ y) e in
-    absurd (s b.0 (rw (a, first.0) (step_is_legal start w b.0 (first_of IsPair w q j) b.1)))
-judged_once start (v ∷ p) [] x [] m n e i j a b s t = absurd cc
-judged_once start (v ∷ p) [] x (w ∷ y) m n e i j a b s t =
-    let first = heads (records_of v) w (map records_of p ++ x) y e in
-    absurd (t a.0 (rw (b, ← first.0) (step_is_legal start v a.0 (first_of IsPair v p i) a.1)))
-judged_once start (v ∷ p) (w ∷ q) x y m n e i j a b s t =
-    let first = heads (records_of v) (records_of w) (map records_of p ++ x) (map records_of q ++ y) e in
-    let same = pair_is v w (first_of IsPair v p i) (first_of IsPair w q j) first.0 in
-    let next = one_market start (records_of w) a.0 b.0 (subst (λ r. IsLegalPair start r a.0) first.0 (step_is_legal start v a.0 (first_of IsPair v p i) a.1)) (step_is_legal start w b.0 (first_of IsPair w q j) b.1) in
-    let rest = judged_once b.0 p q x y m n first.1 (others_of IsPair v p i) (others_of IsPair w q j) (subst (λ k. Follows IsReadAs IsAdmissibleOutcome k p m) next a.2) b.2 s t in
-    (ap (λ z. z ∷ p) same ∙ ap (λ z. w ∷ z) rest.0, rest.1, rest.2)
 
 pub one_history : (limit : ℕ) (bytes : List ℕ) (a b : History) → IsHistory limit bytes a → IsHistory limit bytes b → a ≡ b
 one_history limit bytes a b x y =

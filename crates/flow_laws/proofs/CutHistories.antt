@@ -16,12 +16,12 @@ use Rattle.market_rules.specs.Journal.{Follows}
 use Rattle.market_rules.proofs.LawProofs.{market_is_determined, sequences_compose}
 use Rattle.market_snapshot.specs.Checkpoints.{checkpoint_bytes, IsCheckpoint}
 use Rattle.market_history.specs.Histories.{Start, Kept, CanStart, market_of, encode_start}
+use Rattle.batch_audit.proofs.LawProofs.{pair_is}
 use Rattle.history_words.proofs.Starts.{one_start}
 use Rattle.flow_exchange.specs.declared.form.Form.TheVariants.{Checkpoint}
 use Rattle.exit_status.specs.declared.status.Status.TheVariants.{Done}
 use Rattle.flow_exchange.specs.HistoryFiles.{AreLegalFrom}
 use Rattle.flow_exchange.specs.Program.{ComesTo}
-use Rattle.flow_exchange.proofs.HistoryOf.{pair_is}
 use Rattle.flow_laws.specs.Laws.{EncodesHistory, HistoriesGoOn}
 use Rattle.flow_laws.proofs.CheckpointLaws.{checkpoints_of_histories}
 
