@@ -38,26 +38,6 @@ impl OwnPart {
     }
 }
 
-// Returns the price of an asset that has one.
-fn price_at(view: &ClearedView<'_>, asset: u16) -> i64
-    requires { asset < length view.now.clearing.prices }
-    ensures { result ≡ residual_in view.now.clearing.prices asset }
-{
-    view.price(asset).unwrap()
-}
-
-// Returns a copy of the prices.
-fn prices_of(alloc: Global, view: &ClearedView<'_>) -> Result<Vec<i64>, Memory>
-    ensures { IfOk result (λ prices. prices.items ≡ view.now.clearing.prices) }
-{
-    let count = view.price_count();
-    let mut prices = Vec::with_capacity(alloc, usize::from(count))?;
-    for asset in 0..count {
-        prices.push_reserved(price_at(view, asset));
-    }
-    Ok(prices)
-}
-
 // Returns what an order pays at a rate, in grains.
 fn cost_of(order: &Order, rate: u32, prices: &[i64]) -> i128
     requires range { All IsPrice prices.now }
@@ -126,7 +106,7 @@ pub(crate) fn own_part(
         ≡ int_sum_by (paid view.now.clearing.prices) (trades_for view.now.clearing.fills orders.now)) }
 {
     let rates = rates_of(alloc, view, orders)?;
-    let prices = prices_of(alloc, view)?;
+    let prices = view.to_prices(alloc)?;
     let mut brought = vec![in alloc; 0; prices.len()]?;
     let cost = put_costs(orders, rates.as_slice(), prices.as_slice(), out)?;
     bring(orders, rates.as_slice(), brought.as_mut_slice());

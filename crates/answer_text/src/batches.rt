@@ -1,6 +1,5 @@
 //! What all are told of batches.
 ghost use Rattle.std.specs.Prelude.{◌≡◌, ◌<◌, ◌++◌, [], length, OnOk};
-ghost use Rattle.weight_rows.specs.Rows.{price_of};
 ghost use Rattle.flow_orders.specs.Outcomes.{Cleared, Skipped};
 ghost use Rattle.pair_text.specs.Texts.{◌then◌};
 ghost use Rattle.answer_text.specs.Texts.{listed, comma};
@@ -12,14 +11,6 @@ use journal_records::{ClearedView, SkippedView};
 use pair_text::Text;
 use ticker_table::TickerTable;
 use wire_records::Memory;
-
-// Returns the price of an asset that has one.
-fn price_at(view: &ClearedView<'_>, asset: u16) -> i64
-    requires { asset < length view.now.clearing.prices }
-    ensures { result ≡ price_of view.now.clearing.prices asset }
-{
-    view.price(asset).unwrap()
-}
 
 // Appends the price of an asset, with the comma before it.
 fn put_price(
@@ -34,7 +25,7 @@ fn put_price(
 {
     put_comma(asset as usize, out)?;
     put_ticker(tickers, asset, out)?;
-    out.put_number(b":\"", price_at(view, asset))?;
+    out.put_number(b":\"", view.price_at(asset))?;
     out.put(b"\"")
 }
 

@@ -1,7 +1,6 @@
 //! The lines of batches.
 ghost use Rattle.std.specs.Prelude.{◌≡◌, ◌<◌, ◌++◌, length, OnOk};
 ghost use Rattle.std.specs.List.{flat_map, range_with_len};
-ghost use Rattle.weight_rows.specs.Rows.{price_of};
 ghost use Rattle.flow_orders.specs.Residuals.{residual_in};
 ghost use Rattle.batch_report.specs.Reports.{price_line, rate_line, cleared_lines, skipped_line};
 ghost use Rattle.batch_report.specs.Private.{fill_at};
@@ -11,14 +10,6 @@ use journal_records::{ClearedView, SkippedView};
 use pair_text::Text;
 use ticker_table::TickerTable;
 use wire_records::Memory;
-
-// Returns the price of an asset that has one.
-fn price_at(view: &ClearedView<'_>, asset: u16) -> i64
-    requires { asset < length view.now.clearing.prices }
-    ensures { result ≡ price_of view.now.clearing.prices asset }
-{
-    view.price(asset).unwrap()
-}
 
 // Returns the imbalance of an asset that has one.
 fn residual_at(view: &ClearedView<'_>, asset: u16) -> i64
@@ -57,7 +48,7 @@ fn put_price(
     ensures put { OnOk result (out.new.text ≡ out.old.text ++ price_line tickers.now view.now.clearing asset) }
 {
     out.put_name(b"  ", tickers, asset)?;
-    out.put_number(b" price ", price_at(view, asset))?;
+    out.put_number(b" price ", view.price_at(asset))?;
     out.put_number(b" residual ", residual_at(view, asset))?;
     out.put(b"\n")
 }

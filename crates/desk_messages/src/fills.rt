@@ -1,6 +1,6 @@
 //! What accounts are told of a batch that cleared.
-ghost use Rattle.std.specs.Prelude.{◌≡◌, ◌<◌, ◌≤◌, ◌+◌, ◌^◌, length, All, IfOk, OnOk, vec_capacity};
-ghost use Rattle.weight_rows.specs.Rows.{IsPrice, IsPricedBy, price_of};
+ghost use Rattle.std.specs.Prelude.{◌≡◌, ◌<◌, ◌≤◌, ◌+◌, ◌^◌, length, All, OnOk, vec_capacity};
+ghost use Rattle.weight_rows.specs.Rows.{IsPrice, IsPricedBy};
 ghost use Rattle.flow_orders.specs.Trades.{Trade};
 ghost use Rattle.desk_messages.specs.Messages.{Tells, cost_of, own_costs, fill_message, fill_messages};
 ghost use Rattle.desk_messages.specs.Batches.{FitsBook};
@@ -15,26 +15,6 @@ use journal_records::ClearedView;
 use pair_text::Text;
 use std::alloc::Global;
 use wire_records::Memory;
-
-// Returns the price of an asset that has one.
-fn price_at(view: &ClearedView<'_>, asset: u16) -> i64
-    requires { asset < length view.now.clearing.prices }
-    ensures { result ≡ price_of view.now.clearing.prices asset }
-{
-    view.price(asset).unwrap()
-}
-
-// Returns a copy of the prices.
-fn prices_of(alloc: Global, view: &ClearedView<'_>) -> Result<Vec<i64>, Memory>
-    ensures { IfOk result (λ prices. prices.items ≡ view.now.clearing.prices) }
-{
-    let count = view.price_count();
-    let mut prices = Vec::with_capacity(alloc, usize::from(count))?;
-    for asset in 0..count {
-        prices.push_reserved(price_at(view, asset));
-    }
-    Ok(prices)
-}
 
 // Returns the rate at a place that has one.
 fn rate_at(view: &ClearedView<'_>, place: usize) -> u32
@@ -106,7 +86,7 @@ impl Desks {
             (fill_messages (length self.old.accounts) orders.now view.now.batch view.now.clearing)) }
     {
         let accounts = self.accounts();
-        let prices = prices_of(alloc, view)?;
+        let prices = view.to_prices(alloc)?;
         let links = links_of(alloc, orders, accounts)?;
         let mut own = Vec::with_capacity(alloc, orders.len())?;
         for account in 0..accounts {

@@ -1,5 +1,6 @@
 //! A batch that cleared, in the bytes of its reply.
-ghost use Rattle.std.specs.Prelude.{◌≡◌, IfOk, IfSome, IfNone};
+ghost use Rattle.std.specs.Prelude.{◌≡◌, ◌<◌, length, IfOk, IfSome, IfNone};
+ghost use Rattle.weight_rows.specs.Rows.{price_of};
 ghost use Rattle.journal_records.specs.Private.{EncodesCleared, EncodesNoCleared};
 
 use crate::fills_view::{FillsView, take_fills};
@@ -13,7 +14,8 @@ use wire_records::Memory;
 /// What a reply says of a batch that cleared, with its lists in the borrowed bytes: the batch's number, a price in grains
 /// and an imbalance in units for each asset, the number of each order with its rate in units of its portfolio, and the gap
 /// in grains. There are at most 65,535 prices, and as many imbalances. Contracts see it as these numbers. Each call but
-/// [`to_cleared`](ClearedView::to_cleared) is of constant cost and doesn't allocate.
+/// those that copy, [`to_prices`](ClearedView::to_prices) and [`to_cleared`](ClearedView::to_cleared), is of constant cost and
+/// doesn't allocate.
 #[derive(Drop)]
 pub struct ClearedView<'a> {
     batch: u32,
@@ -45,6 +47,21 @@ impl<'a> ClearedView<'a> {
         ensures { result ≡ self.now.batch }
     {
         self.batch
+    }
+
+    /// Returns the price of an asset that has one, in grains.
+    pub fn price_at(&self, asset: u16) -> i64
+        requires { asset < length self.now.clearing.prices }
+        ensures { result ≡ price_of self.now.clearing.prices asset }
+    {
+        self.price(asset).unwrap()
+    }
+
+    /// Copies the prices, in grains. Fails only if out of memory. Costs one pass over them.
+    pub fn to_prices(&self, alloc: Global) -> Result<Vec<i64>, Memory>
+        ensures { IfOk result (λ prices. prices.items ≡ self.now.clearing.prices) }
+    {
+        self.prices.to_vec(alloc)
     }
 
     /// Copies the outcome into memory of its own, without the numbers of the orders. Fails only if out of memory. Costs one
