@@ -12,7 +12,6 @@ ghost use Rattle.statement_rules.specs.Statements.{cost_line};
 ghost use Rattle.account_statement.specs.Private.{HasOwn, rates_for, trades_for};
 
 use crate::rates::rates_of;
-use batch_outcome::ClearedParts;
 use flow_orders::{Order, add_residuals};
 use journal_records::ClearedView;
 use pair_text::Text;

@@ -75,12 +75,12 @@ pub enum Replayed {
 }
 
 // Returns whether a record is the one that these bytes encode.
-fn is_same(record: &RecordView<'_>, bytes: &[u8]) -> bool
+fn is_same(held: &RecordView<'_>, bytes: &[u8]) -> bool
     requires { (asked : Record) × AreEncoding asked bytes.now }
-    ensures { (asked : Record) → AreEncoding asked bytes.now → IsTrue result ↔ (record.now ≡ asked) }
+    ensures { (asked : Record) → AreEncoding asked bytes.now → IsTrue result ↔ (held.now ≡ asked) }
 {
     let other = RecordView::of(bytes);
-    record.tag() == other.tag() && record.body() == other.body()
+    held.tag() == other.tag() && held.body() == other.body()
 }
 
 // Makes the step of an entry that was judged, and tells of it: of a batch before it is settled.
