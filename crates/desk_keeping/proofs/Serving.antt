@@ -17,7 +17,8 @@ use Rattle.journal_disk.proofs.Entries.{length-framed}
 use Rattle.journal_keeping.specs.Lengths.{longest_stored_entry}
 use Rattle.journal_keeping.proofs.Turns.{same_bytes}
 use Rattle.desk_session.specs.States.{State, Serves}
-use Rattle.desk_session.proofs.Answered.{IsPlacement, serves_admissible, placed_plain}
+use Rattle.desk_session.specs.Said.{IsPlacement}
+use Rattle.desk_session.proofs.Answered.{serves_admissible, placed_plain}
 use Rattle.desk_keeping.specs.Private.{HostState, stored, ServesOne, plain_stored_entry}
 
 -- what is stored of one entry

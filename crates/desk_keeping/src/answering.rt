@@ -8,7 +8,7 @@ ghost use Rattle.desk_opening.specs.Books.{CanFind};
 ghost use Rattle.desk_opening.specs.Openings.{place_of};
 ghost use Rattle.desk_session.specs.States.{CountsAccounts};
 ghost use Rattle.desk_session.specs.Bounds.{IsWithin};
-ghost use Rattle.desk_session.proofs.Answered.{IsPlacement};
+ghost use Rattle.desk_session.specs.Said.{IsPlacement};
 ghost use Rattle.journal_disk.specs.Ahead.{HoldsPart};
 ghost use Rattle.desk_keeping.specs.Private.{TakesEntry, LeavesEntry};
 

@@ -29,7 +29,7 @@ use Rattle.desk_messages.proofs.Telling.{told_accounts}
 use Rattle.desk_session.specs.Talks.{Talk}
 use Rattle.desk_session.specs.Lines.{entry_messages, IsLineBegun}
 use Rattle.desk_session.specs.States.{State, Answers}
-use Rattle.desk_session.specs.Said.{AsksFor}
+use Rattle.desk_session.specs.Said.{AsksFor, IsPlacement}
 use Rattle.desk_session.proofs.Going.{served_count}
 use Rattle.desk_session.proofs.Left.{line_accounts, heard_there}
 
@@ -99,10 +99,6 @@ begun_few Rule old new d later count line sender next pairs texts begun =
     (few, omega (arith, few, same.0, ap length begun.parts, length-append begun.first next), same.1 ∙ sym same.0)
 
 -- ---- placements
-
--- a command places an order
-abbrev pub IsPlacement : Command → Type 0
-IsPlacement command = (last : Option ℕ) × (request : Request) × (command ≡ Place last request)
 
 -- all commands of a ladder place orders
 pub ladder_places : (version : Version) (tickers : List (List ℕ)) (text : List ℕ) (commands : List Command) → LineAsks version tickers text (OfLadder commands) → All IsPlacement commands

@@ -1,5 +1,6 @@
 -- What a line that was heard leaves to do.
-use Rattle.std.specs.Prelude.{◌≡◌, ℕ, ◌+◌, List, [], ◌++◌, map, All}
+use Rattle.std.specs.Prelude.{◌≡◌, ℕ, ◌+◌, List, [], ◌++◌, map, All, Option}
+use Rattle.wire_records.specs.Commands.{Command, Request, Place}
 use Rattle.wire_records.specs.CommandRecords.{HasShortRow}
 use Rattle.wire_records.specs.Views.{command_in}
 use Rattle.market_rules.specs.Step.{NoOutcome}
@@ -35,3 +36,7 @@ IsSaid said.Done old line new = IsAnswered old line new
 IsSaid (said.Serve sender number command) old line new = AsksFor old line sender number (Alone (command_in command)) new × HasShortRow (command_in command)
 IsSaid (said.ServeAll sender number commands) old line new =
     AsksFor old line sender number (OfLadder (map command_in commands)) new × All (λ command. HasShortRow (command_in command)) commands
+
+-- a command places an order, as each of a ladder does
+abbrev pub IsPlacement : Command → Type 0
+IsPlacement command = (last : Option ℕ) × (request : Request) × (command ≡ Place last request)

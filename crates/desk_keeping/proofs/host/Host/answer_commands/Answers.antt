@@ -4,7 +4,7 @@ use Rattle.wire_records.specs.Commands.{Command}
 use Rattle.wire_records.specs.Views.{command_in}
 use Rattle.wire_records.specs.declared.command.Command as owned
 use Rattle.desk_session.specs.Bounds.{IsWithin}
-use Rattle.desk_session.proofs.Answered.{IsPlacement}
+use Rattle.desk_session.specs.Said.{IsPlacement}
 use Rattle.desk_keeping.specs.Private.{AnswersAll, BreaksAll}
 use Rattle.desk_keeping.proofs.Commands.{parted_at, all_none, all_more, breaks_more, near_more}
 use Rattle.desk_keeping.proofs.host.Host.answer_commands.Goals as goal

@@ -4,11 +4,11 @@ use Rattle.wire_records.specs.Views.{command_in}
 use Rattle.wire_records.specs.declared.command.Command as owned
 use Rattle.market_rules.specs.Market.{Market}
 use Rattle.order_text.specs.Lines.{Alone, OfLadder}
-use Rattle.desk_session.specs.Said.{IsSaid}
+use Rattle.desk_session.specs.Said.{IsSaid, IsPlacement}
 use Rattle.desk_session.specs.Bounds.{IsWithin}
 use Rattle.desk_session.specs.declared.lines.Said.{Said}
 use Rattle.desk_session.proofs.Bounds.{said_within, asks_within}
-use Rattle.desk_session.proofs.Answered.{IsPlacement, asks_places}
+use Rattle.desk_session.proofs.Answered.{asks_places}
 use Rattle.std.specs.Prelude.{All}
 use Rattle.wire_records.specs.Commands.{Command}
 use Rattle.desk_keeping.specs.Private.{HostState, CanRead, AnswersAll, BreaksAll, HearsLine, BreaksLine}
