@@ -78,7 +78,9 @@ module _ (version : Version) (start mid : DiskState) (looks : OnlyLooks start mi
         of_fault NotDisk why not refused = absurd (elim refused [ inl e ↦ cc | inr others ↦ elim others [ inl e ↦ cc | inr e ↦ cc ] ])
         of_fault (Rejected number) why not refused = absurd (elim refused [ inl e ↦ cc | inr others ↦ elim others [ inl e ↦ cc | inr e ↦ cc ] ])
         of_fault (Damaged place) why not refused =
-            (if_both start.content (StopsFirst (Damaged place)) (λ held. OpensNot held mid (Damaged place)) (λ held. IsOpening held (opening.Damaged 8)) (λ held w n. subst (λ (k : ℕ). IsOpening held (opening.Damaged k)) w.0 n.0) why not, is_eight place refused)
+            let eight = is_eight place refused in
+            let damaged = if_both start.content (StopsFirst (Damaged place)) (λ held. OpensNot held mid (Damaged place)) (λ held. IsOpening held (opening.Damaged 8)) (λ held w n. subst (λ (k : ℕ). IsOpening held (opening.Damaged k)) w.0 n.0) why not in
+            (subst (λ (k : ℕ). IfSome start.content (λ held. IsOpening held (opening.Damaged k))) (sym eight) damaged, eight)
 
 -- ---- its first entry is seen
 
@@ -172,7 +174,7 @@ module _ (version : Version) (start mid now : DiskState) (looks : OnlyLooks star
         refl,
         subst (λ (o : Option (List ℕ)). IfSome o (IsDamagedAt 8)) same damaged,
         (begins rest bytes told holds).unfit eight,
-      )))
+      )) (inr (inr refl)))
 
 -- a new file isn't refused by its bytes
 pub new_sound : (start : DiskState) → IfSome start.content (λ held. IsFound None held start) → IfSome start.content (λ held. ¬ IsNoBook held)
