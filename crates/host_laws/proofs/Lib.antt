@@ -1,0 +1,10 @@
+mod Together
+mod Continuing
+mod Lockstep
+mod Inputs
+mod Files
+mod Stops
+mod Results
+mod Begun
+mod Prefixes
+mod Statuses
