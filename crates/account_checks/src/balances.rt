@@ -214,6 +214,7 @@ fn put_opened(accounts: &mut Accounts, count: u32, told: &mut Told) {
 }
 
 // Adds so many assets, each of which has to be counted.
+#[tactic(auto, using(flow_accounts::proofs::Limits::assets_are))]
 fn put_added(accounts: &mut Accounts, count: u32, told: &mut Told) {
     for _ in 0..count {
         let before = accounts.assets();

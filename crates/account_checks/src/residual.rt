@@ -3,12 +3,11 @@ ghost use Rattle.std.specs.Prelude.{◌<◌, length};
 
 use crate::telling::{put, put_name};
 use check_lines::Told;
+use flow_accounts::MOST_ASSETS;
 use residual_account::ResidualAccount;
 
-// How many assets there may be.
-const MOST_ASSETS: u16 = 64;
-
 // Adds so many assets, each of which has to be counted.
+#[tactic(auto, using(flow_accounts::proofs::Limits::assets_are))]
 fn put_added(account: &mut ResidualAccount, count: u32, told: &mut Told) {
     for _ in 0..count {
         let before = account.assets();

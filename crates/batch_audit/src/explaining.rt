@@ -53,6 +53,7 @@ fn plain_finding(market: &Market, command: &CommandView<'_>, seen: &ReplyView<'_
 }
 
 // Returns the finding on a reply while a batch with this budget is due.
+#[tactic(auto, using(market_rules::proofs::VersionLimits::batches_fit))]
 fn outcome_finding(
     alloc: Global,
     market: &mut Market,

@@ -52,6 +52,7 @@ pub(crate) fn outcome_for(
 }
 
 // Returns a copy of a clearing, if it is admissible and under the next number.
+#[tactic(auto, using(market_rules::proofs::VersionLimits::batches_fit))]
 fn cleared_for(
     alloc: Global,
     market: &mut Market,
@@ -82,6 +83,7 @@ fn is_clearing_admissible(
 }
 
 // Returns the verdict on a clearing of the live orders, from the start prices.
+#[tactic(auto, using(market_rules::proofs::VersionLimits::tickers_are_assets, market_rules::proofs::VersionLimits::prices_are_assets))]
 fn verdict_on(alloc: Global, market: &mut Market, view: &ClearedView<'_>) -> Result<Verdict, Memory>
     ensures verdict { IfOk result (IsVerdict market.old.orders (start_prices market.old) view.now.clearing) }
     ensures right { IfOk result (λ verdict. (verdict ≡ Right)
@@ -111,6 +113,7 @@ pub(crate) fn clearing_finding(
 
 // Returns a skip, if it is admissible and under the next number. The market needs none of its walk, so that isn't
 // copied.
+#[tactic(auto, using(market_rules::proofs::VersionLimits::batches_fit))]
 fn skipped_for(
     alloc: Global,
     market: &mut Market,
@@ -156,6 +159,7 @@ fn is_legal(found: Finding) -> bool
 }
 
 // Returns the finding on a skip of a batch that is due.
+#[tactic(auto, using(market_rules::proofs::VersionLimits::tickers_are_assets, market_rules::proofs::VersionLimits::prices_are_assets))]
 pub(crate) fn skip_finding(
     alloc: Global,
     market: &mut Market,
@@ -241,6 +245,7 @@ fn other_dual(orders: &[Order], prices: &[i64], told: i128) -> Option<i128>
 }
 
 // Returns whether all assets are settled.
+#[tactic(auto, using(flow_orders::proofs::Limits::prices_fit))]
 fn are_settled(work: &Workspace<'_>) -> bool
     ensures { IsTrue result ↔ AreSettled (length work.now.prices) (is_unsettled work.now.orders) work.now.prices }
 {

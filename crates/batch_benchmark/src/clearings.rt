@@ -31,7 +31,7 @@ fn fills(alloc: Global) -> Result<Vec<(u64, u32)>, AllocError> {
 }
 
 // Returns how often a clearing with these rates is found admissible.
-#[tactic(auto, using(flow_orders::proofs::Limits::orders_are))]
+#[tactic(auto, using(flow_orders::proofs::Limits::orders_are, flow_orders::proofs::Limits::prices_are))]
 fn rights(orders: &[Order], fills: &[(u64, u32)], passes: u32) -> u32 {
     let start = [0; ASSETS];
     let assets = [(0, 0); ASSETS];
@@ -62,7 +62,7 @@ pub fn checks(alloc: Global, orders: &[Order], passes: u32) -> Option<u32> {
 }
 
 /// Returns how often a batch of the book from prices of 0 clears, or `None` if there is no memory for it.
-#[tactic(auto, using(flow_orders::proofs::Limits::orders_are))]
+#[tactic(auto, using(flow_orders::proofs::Limits::orders_are, flow_orders::proofs::Limits::prices_are))]
 pub fn clearings(alloc: Global, orders: &[Order], passes: u32) -> Option<u32> {
     let start = [0; ASSETS];
     if orders.len() > MOST_ORDERS as usize || !orders.iter().all(|order| is_priced(order, &start)) {

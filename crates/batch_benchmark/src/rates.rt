@@ -47,6 +47,7 @@ fn are_priced(orders: &[Order], prices: &[i64]) -> bool
 
 /// Rounds the demands so many times, and returns how many units all orders trade together, or `None` if there is no
 /// memory for the rates.
+#[tactic(auto, using(flow_orders::proofs::Limits::prices_are))]
 pub fn traded(alloc: Global, orders: &[Order], rounding: Rounding, passes: u32) -> Option<u64> {
     let prices = prices();
     if !are_priced(orders, &prices) {

@@ -6,7 +6,7 @@ use flow_orders::{MOST_ORDERS, Order};
 use std::alloc::{AllocError, Global};
 
 /// Returns what a search from prices of 0 finds: the moves made, whether all assets are settled, and the sum of the prices.
-#[tactic(auto, using(flow_orders::proofs::Limits::orders_are))]
+#[tactic(auto, using(flow_orders::proofs::Limits::orders_are, flow_orders::proofs::Limits::prices_are))]
 pub fn found(
     alloc: Global,
     orders: &[Order],

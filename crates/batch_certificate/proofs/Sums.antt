@@ -21,7 +21,7 @@ use Rattle.flow_orders.specs.Trades.{Trade, trades, received, residual, residual
 use Rattle.flow_orders.specs.Outcomes.{residuals_of, gap_of}
 use Rattle.flow_orders.specs.Residuals.{most_prices, AreNear, HasEach, AreZeros, IsTradeAdded}
 use Rattle.flow_orders.proofs.TradeFacts.{All-trades}
-use Rattle.flow_orders.proofs.Limits.{orders_fit}
+use Rattle.flow_orders.proofs.Limits.{orders_fit, prices_fit}
 use Rattle.batch_certificate.specs.Residuals.{cost_at}
 use Rattle.batch_certificate.proofs.Rates.{rate_is_small}
 use Rattle.excess_bounds.specs.Quotes.{Quote, quote_at, quotes_at}
@@ -272,7 +272,7 @@ pub cost_grows : (prices residuals : List ℤ) (i : ℕ) (sum part : ℤ) → le
 cost_grows prices residuals i sum part few inside range near is before =
     let small : unsigned_abs part ≤ 2 ^ 62 * 2 ^ 50 = rw is (unsigned_abs-mul_le (price_of prices i) (price_of residuals i) (2 ^ 62) (2 ^ 50) (range i (pos 0) inside) (near i)) in
     let bound : unsigned_abs (sum +ℤ part) ≤ (i + 1) * 2 ^ 112 = omega (arith, unsigned_abs-add sum part, before.small, small) in
-    let little : unsigned_abs (sum +ℤ part) ≤ 2 ^ 120 = omega (arith, bound, few, inside) in
+    let little : unsigned_abs (sum +ℤ part) ≤ 2 ^ 120 = omega (arith, bound, few, inside, prices_fit) in
     let part_small : unsigned_abs part ≤ 2 ^ 120 = omega (arith, small) in
     let kept = sum_kept sum part part_small little in
     let at : 0 + i ≡ i = omega arith in

@@ -10,6 +10,7 @@ use Rattle.std.proofs.lemmas.List.Elements.{All-take}
 use Rattle.std.proofs.lemmas.List.Sums.{sum_by-cons, sum_by_more, sum_by-le}
 use Rattle.weight_rows.specs.declared.entries.Entry.{Entry}
 use Rattle.weight_rows.specs.Rows.{most_weight, IsWeightVector, weight_in}
+use Rattle.weight_rows.proofs.Limits.{legs_fit}
 use Rattle.weight_rows.proofs.RowLawProofs.{weights_are_small}
 use Rattle.flow_orders.specs.Orders.{Order}
 use Rattle.batch_certificate.specs.Weighing.{count_in, AreSmall, HasCounts, HasGrownBy, square, weighed}
@@ -87,7 +88,7 @@ module _ (f : ℤ → ℕ) where
   on_the_way little row old j now asset lawful small inside before =
       let each : All (λ e. given asset e ≤ 2 ^ 24) (take j row) = All-take (λ e. given asset e ≤ 2 ^ 24) j row (λ k d there. given_little little asset (get_or row k d) (lawful.weights k d there).1) in
       let sum = sum_by-le (given asset) (2 ^ 24) (take j row) each in
-      omega (arith, before.each asset inside, small asset, sum, length-take j row, lawful.few)
+      omega (arith, before.each asset inside, small asset, sum, length-take j row, lawful.few, legs_fit)
 
   -- ---- order by order
   -- the weights of the first i orders are added

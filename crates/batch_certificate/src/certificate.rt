@@ -166,6 +166,7 @@ fn add_trades(orders: &[Order], rates: &[u32], residuals: &mut [i64])
 }
 
 // Returns what the imbalances cost at the prices, in grains.
+#[tactic(auto, using(flow_orders::proofs::Limits::prices_fit))]
 pub(crate) fn cost(prices: &[i64], residuals: &[i64]) -> i128
     requires assets { length prices.now ≤ most_prices }
     requires range { All IsPrice prices.now }

@@ -46,6 +46,7 @@ const MOST_PRICE: u64 = 1 << 62;
 /// It allocates nothing, and keeps four numbers for each of 64 assets. It goes three times over the legs of all orders,
 /// for all assets together: to add up their weights, to price each order, and to add its trade. It divides once for each
 /// order, asks for each number of the clearing once, and stops at the first part that is wrong.
+#[tactic(auto, using(flow_orders::proofs::Limits::prices_are))]
 pub fn check_cleared<P: ClearedParts>(orders: &[Order], start: &[i64], parts: &P) -> Verdict
     requires few { length orders.now ≤ most_orders }
     requires assets { length start.now ≤ most_prices }

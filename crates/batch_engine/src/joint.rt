@@ -44,6 +44,7 @@ impl<'a> Settles for Tested<'a> {
 }
 
 // Sets all prices.
+#[tactic(auto, using(flow_orders::proofs::Limits::prices_fit))]
 fn set_prices(work: &mut Workspace<'_>, prices: &[i64])
     requires count { length prices.now ≡ length work.old.prices }
     requires range { All IsPrice prices.now }
@@ -58,6 +59,7 @@ fn set_prices(work: &mut Workspace<'_>, prices: &[i64])
 }
 
 // Returns whether all assets are settled.
+#[tactic(auto, using(flow_orders::proofs::Limits::prices_fit))]
 fn are_settled(work: &Workspace<'_>) -> bool
     ensures { result ≡ are_settled work.now.orders (length work.now.prices) work.now.prices }
 {
@@ -118,6 +120,7 @@ pub(crate) fn find_prices(
 
 // Tries joint prices, if this search does so: first a short search from the start prices, then one from the joint prices. If
 // none of them settles all assets, the prices are those of the start again, and the trace is empty.
+#[tactic(auto, using(flow_orders::proofs::Limits::prices_fit))]
 fn try_joint_prices(
     alloc: Global,
     search: Search,
@@ -213,6 +216,7 @@ fn set_joint_prices(
 }
 
 // Cuts joint prices to where a search may start; an asset that no order names keeps its start price.
+#[tactic(auto, using(flow_orders::proofs::Limits::prices_fit))]
 fn cut_all(work: &Workspace<'_>, start: &[i64], prices: &mut [i64])
     requires range { All (IsWithin (2 ^ 60)) start.now }
     requires count { length prices.old ≡ length start.now }

@@ -1,6 +1,7 @@
 -- An order of one leg is within the limits of each version, and so are one asset, a few live orders and a few batches.
 use Rattle.std.proofs.Common.{ℕ, ◌<◌, ◌≤◌, ℤ, [], ◌∷◌, lit≤, arith}
 use Rattle.std.proofs.lemmas.List.Elements.{All-from_recursion}
+use Rattle.weight_rows.proofs.Limits.{entries_are}
 use Rattle.weight_rows.specs.declared.entries.Entry.{Entry}
 use Rattle.weight_rows.specs.Rows.{IsLawfulWeight}
 use Rattle.wire_records.specs.declared.version.Version.{Version}
@@ -32,7 +33,7 @@ pub row_of_one : (version : Version) (asset : ℕ) (weight : ℤ) → IsLawfulWe
 row_of_one version asset weight lawful = (
   record {
     some = omega arith;
-    few = omega arith;
+    few = omega (arith, entries_are);
     ascending = λ k inside. absurd (omega (arith, inside));
     weights = All-from_recursion (λ (e : Entry). IsLawfulWeight e.weight) (record { asset = asset; weight = weight } ∷ []) (lawful, tt);
   },

@@ -5,6 +5,7 @@ use Rattle.std.proofs.lemmas.Bool.{false≢true}
 use Rattle.std.specs.Prelude.{Option, neg_ℤ, ◌≤ℤ◌, All, codes, slice_index, slice_index_or, unsigned_abs}
 use Rattle.std.proofs.lemmas.Int.{ints}
 use Rattle.std.proofs.lemmas.List.Elements.{All-from_recursion}
+use Rattle.weight_rows.proofs.Limits.{entries_are}
 use Rattle.weight_rows.specs.declared.entries.Entry.{Entry}
 use Rattle.weight_rows.specs.Rows.{IsWeightVector, IsLawfulWeight, IsPrice, price_of, weight_in, portfolio_price}
 use Rattle.demand_curve.specs.Demand.{IsRounding, most_rate, scaled_demand, line, span, loss, dual_floor, scaled_dual, floor_rate, ceil_rate, floor_in, ceil_in}
@@ -469,7 +470,7 @@ wide_is_consistent =
         limits = record { low_in_range = (omega (arith, ints), omega (arith, ints)); high_in_range = (omega (arith, ints), omega (arith, ints)); span_least = omega (arith, ints); room_least = omega arith; room_most = omega arith; rate_most = omega arith };
         lawful = record {
           some = omega arith;
-          few = omega arith;
+          few = omega (arith, entries_are);
           ascending = ascending;
           weights = All-from_recursion (λ (e : Entry). IsLawfulWeight e.weight) basket_bought.row ((omega arith, omega arith), ((omega arith, omega arith), tt));
         };

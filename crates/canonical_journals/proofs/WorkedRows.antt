@@ -3,6 +3,7 @@ use Rattle.std.proofs.Common.{◌≡◌, ℕ, zero, suc, ◌+◌, ◌-◌, ◌*�
 use Rattle.std.specs.Prelude.{Option, neg_ℤ, ◌≤ℤ◌, All, Contains, codes, slice_index_or, Result, Ok}
 use Rattle.std.proofs.lemmas.Int.{ints}
 use Rattle.std.proofs.lemmas.List.Elements.{All-from_recursion}
+use Rattle.weight_rows.proofs.Limits.{legs_fit}
 use Rattle.weight_rows.specs.declared.entries.Entry.{Entry}
 use Rattle.weight_rows.specs.Rows.{IsWeightVector, IsLawfulWeight, weight_in, portfolio_price}
 use Rattle.ticker_table.specs.Tickers.{IsNameCharacter, IsTicker}
@@ -477,7 +478,7 @@ weight_4097 : FirstRefusal enough (Place None (record buys { row = entry 0 (pos 
 weight_4097 = bad_row (entry 0 (pos 4097) ∷ []) (λ lawful. let weight = lawful.weights 0 (entry 0 (pos 0)) (omega arith) in omega (arith, weight.1))
 
 entries_17 : FirstRefusal enough (Place None (record buys { row = replicate 17 (entry 0 (pos 1)) })) (Some BadRow)
-entries_17 = bad_row (replicate 17 (entry 0 (pos 1))) (λ lawful. let few = lawful.few in omega (arith, few))
+entries_17 = bad_row (replicate 17 (entry 0 (pos 1))) (λ lawful. let few = lawful.few in omega (arith, few, legs_fit))
 
 no_entry : FirstRefusal enough (Place None (record buys { row = [] })) (Some BadRow)
 no_entry = bad_row [] (λ lawful. let some = lawful.some in omega (arith, some))

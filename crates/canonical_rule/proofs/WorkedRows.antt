@@ -4,6 +4,7 @@ use Rattle.std.specs.Prelude.{neg_ℤ, if◌then◌else◌, ◌==◌, slice_inde
 use Rattle.std.proofs.lemmas.Int.{ints}
 use Rattle.std.proofs.lemmas.Bool.{false≢true}
 use Rattle.std.proofs.lemmas.List.Elements.{All-from_recursion}
+use Rattle.weight_rows.proofs.Limits.{entries_are}
 use Rattle.weight_rows.specs.declared.entries.Entry.{Entry}
 use Rattle.weight_rows.specs.Rows.{IsWeightVector, IsLawfulWeight, IsPrice, IsPricedBy, price_of, weight_in, portfolio_price}
 use Rattle.demand_curve.specs.Demand.{Terms, IsWithin, span, line, scaled_demand, floor_rate, ceil_rate, floor_in, ceil_in, IsRounding, loss, scaled_dual, dual_floor}
@@ -156,7 +157,7 @@ welfare_of_floors = refl
 row_of_one : (asset : ℕ) (weight : ℤ) → IsLawfulWeight weight → IsWeightVector (entry asset weight ∷ [])
 row_of_one asset weight lawful = record {
   some = omega arith;
-  few = omega arith;
+  few = omega (arith, entries_are);
   ascending = λ k inside. absurd (omega (arith, inside));
   weights = All-from_recursion (λ (e : Entry). IsLawfulWeight e.weight) (entry asset weight ∷ []) (lawful, tt);
 }
@@ -287,7 +288,7 @@ wide_is_lawful =
         left = omega arith;
         row = record {
           some = omega arith;
-          few = omega arith;
+          few = omega (arith, entries_are);
           ascending = ascending;
           weights = All-from_recursion (λ (e : Entry). IsLawfulWeight e.weight) basket.row ((omega arith, omega arith), ((omega arith, omega arith), tt));
         };

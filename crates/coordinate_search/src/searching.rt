@@ -35,6 +35,7 @@ pub enum Found {
 /// The prices are within 2^60 grains of 0 at the start, and no price moves further than 2^61 grains from there. `trace`
 /// is empty and has room for `budget` bytes. Before each move, and at the end, each asset is tested at most once. It
 /// allocates nothing.
+#[tactic(auto, using(flow_orders::proofs::Limits::prices_fit))]
 pub fn search(work: &mut Workspace<'_>, parts: u16, budget: u32, trace: &mut Vec<u8>) -> Found
     requires some_parts { 1 ≤ parts }
     requires few_parts { parts ≤ 256 }
@@ -79,6 +80,7 @@ struct Unsettled {
 }
 
 // Returns the first asset from `next` on that isn't settled, with 0 after the last one, or `None` if all are settled.
+#[tactic(auto, using(flow_orders::proofs::Limits::prices_fit))]
 fn next_unsettled(work: &Workspace<'_>, next: u16) -> Option<Unsettled>
     requires next { next ≤ length work.now.prices }
     ensures first { option_map (λ u. u.asset) result

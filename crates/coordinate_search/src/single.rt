@@ -20,6 +20,7 @@ const REACH: i64 = 1 << 61;
 ///
 /// The prices are within 2^60 grains of 0, as all limits of orders are, and stay so. An asset that was settled keeps its
 /// price. Each asset costs a test whether it is settled, and one that isn't also a move. It allocates nothing.
+#[tactic(auto, using(flow_orders::proofs::Limits::prices_fit))]
 pub fn settle_single(work: &mut Workspace<'_>, parts: u16)
     requires some_parts { 1 ≤ parts }
     requires few_parts { parts ≤ 256 }

@@ -114,7 +114,7 @@ pub(crate) fn are_starts(prices: &[i64]) -> bool
 }
 
 // Returns the book of these orders and prices, or `None` if some order can't be priced.
-#[tactic(auto, using(flow_orders::proofs::Limits::orders_are))]
+#[tactic(auto, using(flow_orders::proofs::Limits::orders_are, flow_orders::proofs::Limits::prices_are))]
 pub(crate) fn book_of<'a>(orders: &'a [Order], prices: &'a [i64]) -> Option<Book<'a>> {
     if orders.len() > MOST_ORDERS as usize
         || prices.len() > 64

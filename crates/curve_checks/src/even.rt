@@ -21,6 +21,7 @@ fn put_direction(work: &Workspace<'_>, asset: u16, told: &mut Told)
 }
 
 // Prints which way the price of each asset moves.
+#[tactic(auto, using(flow_orders::proofs::Limits::prices_fit))]
 fn put_directions(work: &Workspace<'_>, told: &mut Told) {
     let count = work.prices().len() as u16;
     for asset in 0..count {

@@ -32,7 +32,7 @@ impl TestsEven for NeverEven {
 }
 
 // Returns the prices that are searched for in this way, or `None` if there is no such way.
-#[tactic(auto, using(flow_orders::proofs::Limits::orders_are))]
+#[tactic(auto, using(flow_orders::proofs::Limits::orders_are, flow_orders::proofs::Limits::prices_are))]
 fn found(alloc: Global, way: &str, book: &Book<'_>) -> Option<Result<Vec<i64>, Memory>> {
     let mut test = NeverEven {
         count: book.prices.len(),

@@ -218,7 +218,7 @@ impl Host {
     }
 
     // Hears a line, and takes or makes the entries of its commands.
-    #[tactic(auto, using(market_rules::proofs::VersionLimits::batches_within))]
+    #[tactic(auto, using(market_rules::proofs::VersionLimits::batches_within, market_rules::proofs::VersionLimits::batches_fit))]
     pub(crate) fn hear<D: Disk>(&mut self, line: &[u8], disk: &mut D) -> Result<(), HostFault>
         requires counted { CountsAccounts self.old.session }
         requires room { (used : ℕ) × IsWithin used self.old.session × (used + 33 ≤ 2 ^ 48) }

@@ -10,7 +10,7 @@ use Rattle.wire_records.specs.declared.reply.Refusal.{Refusal}
 use Rattle.flow_accounts.specs.Balances.{account_count}
 use Rattle.flow_orders.specs.Orders as book
 use Rattle.flow_orders.specs.Outcomes.{Clearing, Outcome, Cleared, Skipped, BatchRule}
-use Rattle.market_rules.proofs.VersionLimits.{batches_within}
+use Rattle.market_rules.proofs.VersionLimits.{batches_within, batches_fit}
 use Rattle.market_rules.specs.Market.{Market, IsConsistent}
 use Rattle.market_rules.specs.Step.{Accepts, ServesRead, NoOutcome}
 use Rattle.market_rules.proofs.ByFirst as first
@@ -39,7 +39,7 @@ use Rattle.desk_session.proofs.Telling.{served_few}
 pub room : (used : ℕ) (s : State) → IsConsistent s.market → CountsAccounts s → IsWithin used s → used ≤ 2 ^ 48
     → HasRoom s × (s.talk.desks.total.lines + 2 < 2 ^ 64) × (s.talk.desks.total.messages + 1 < 2 ^ 64)
 room used s consistent counted within few =
-    let messages : s.talk.desks.total.messages ≤ 4 * 2 ^ 48 + 2 ^ 24 * 2 ^ 32 = omega (arith, within.messages, few, consistent.few_batches, batches_within s.market.version) in (
+    let messages : s.talk.desks.total.messages ≤ 4 * 2 ^ 48 + 2 ^ 24 * 2 ^ 32 = omega (arith, within.messages, few, consistent.few_batches, batches_within s.market.version, batches_fit) in (
       record {
         orders = omega (arith, within.orders, few);
         entries = omega (arith, within.entries, few);

@@ -13,6 +13,7 @@ use Rattle.batch_outcome.specs.declared.outcome.Outcome.TheVariants as parts
 use Rattle.batch_outcome.specs.Published.{outcome_of, clearing_of}
 use Rattle.journal_records.specs.Replies.{EncodesAnswer}
 use Rattle.journal_records.proofs.Encoded.{answer_unique}
+use Rattle.ticker_table.proofs.Limits.{tickers_fit}
 use Rattle.market_rules.proofs.VersionLimits.{orders_within}
 use Rattle.market_rules.specs.Market.{Market, IsConsistent, start_prices, cut_price}
 use Rattle.market_rules.specs.Settling.{MaySettle}
@@ -64,4 +65,4 @@ batch_made m (Err why) number o n served = absurd (no_plain number o _ served.0)
 
 -- a consistent market has few prices
 pub prices_few : (m : Market) → IsConsistent m → length (start_prices m) < 2 ^ 16
-prices_few m consistent = omega (arith, length-map m.last_prices cut_price, consistent.one_each.prices, consistent.one_each.tickers, consistent.tickers.few)
+prices_few m consistent = omega (arith, length-map m.last_prices cut_price, consistent.one_each.prices, consistent.one_each.tickers, consistent.tickers.few, tickers_fit)

@@ -20,6 +20,7 @@ use std::alloc::Global;
 use wire_records::Memory;
 
 // Returns the exchange's units of each asset.
+#[tactic(auto, using(flow_accounts::proofs::Limits::assets_fit))]
 fn units_of(alloc: Global, exchange: &ResidualAccount) -> Result<Vec<i64>, Memory>
     ensures value { IfOk result (λ units. units.items ≡ exchange.now.units) }
     ensures few { OnOk result (length exchange.now.units < 2 ^ 16) }
@@ -43,6 +44,7 @@ fn put_holdings(market: &Market, text: &mut Text) -> Result<(), Memory>
 }
 
 // Appends the members that answer what the market is.
+#[tactic(auto, using(ticker_table::proofs::Limits::tickers_fit))]
 fn put_state(market: &Market, text: &mut Text) -> Result<(), Memory>
     ensures before { text.new.before ≡ text.old.before }
     ensures put { OnOk result (text.new.text ≡ text.old.text ++ market_members market.now.tickers market.now.version market.now.batches (start_prices market.now)) }

@@ -1,16 +1,16 @@
 -- Adding to the sum of each asset what the legs of a row, and then all orders, ask for of it.
-use Rattle.std.proofs.Common.{◌≡◌, ◌≢◌, ℕ, suc, ◌+◌, ◌^◌, ◌<◌, ◌≤◌, ℤ, pos, ◌+ℤ◌, eqb, cond, List, [], ◌∷◌, length, take, get_or, set, refl, sym, ap, ◌∙◌, subst, ⊎_elim, inl, inr, arith}
+use Rattle.std.proofs.Common.{◌≡◌, ◌≢◌, ℕ, suc, ◌+◌, ◌*◌, ◌^◌, ◌<◌, ◌≤◌, ℤ, pos, ◌+ℤ◌, eqb, cond, List, [], ◌∷◌, length, take, get_or, set, refl, sym, ap, ◌∙◌, subst, ⊎_elim, inl, inr, arith}
 use Rattle.std.specs.Prelude.{unsigned_abs, All}
 use Rattle.std.proofs.lemmas.Int.{ints}
 use Rattle.std.proofs.lemmas.Bool.{ne_eqb, cases_lt}
 use Rattle.std.proofs.lemmas.Bool.Decides.{eqb_tells}
 use Rattle.std.proofs.lemmas.List.{get_or-set_other, get_or-set_same, get_or_past, take_all, length-set, length-take}
-use Rattle.std.proofs.lemmas.List.Elements.{All-take}
 use Rattle.list_sums.specs.Sums.{int_sum_by}
 use Rattle.list_sums.proofs.Products.{unsigned_abs-add}
 use Rattle.list_sums.proofs.SumLemmas.{int_sum_by_more, int_sum_by-zeros, unsigned_abs-int_sum_by}
 use Rattle.weight_rows.specs.declared.entries.Entry.{Entry}
 use Rattle.weight_rows.specs.Rows.{most_weight, IsWeightVector, weight_in}
+use Rattle.weight_rows.proofs.GrossWeights.{sum_of_first}
 use Rattle.weight_rows.proofs.RowLawProofs.{weights_are_small}
 use Rattle.flow_orders.specs.Orders.{Order, IsOrder, most_orders}
 use Rattle.flow_orders.specs.Residuals.{residual_in, AreNear, HasEach}
@@ -20,10 +20,10 @@ use Rattle.even_prices.specs.Sides.{HasGrown}
 
 -- ---- the legs of one row
 
--- f of no weight is nothing, and f of a weight in range is small
+-- f of no weight is nothing, and f of a weight in range is small: at most so much for each unit of it
 pub record IsPart (f : ℤ → ℤ) : Type 0 where
   pub nothing : f (pos 0) ≡ pos 0
-  pub small : (w : ℤ) → unsigned_abs w ≤ most_weight → unsigned_abs (f w) ≤ 2 ^ 44
+  pub small : (w : ℤ) → unsigned_abs w ≤ most_weight → unsigned_abs (f w) ≤ unsigned_abs w * 2 ^ 32
 
 module _ (f : ℤ → ℤ) where
   -- what a leg adds to the sum of an asset
@@ -75,7 +75,7 @@ module _ (f : ℤ → ℤ) where
     each = λ a inside. before.each a inside ∙ ap (λ z. residual_in old a +ℤ z) (ap (int_sum_by (added_by a)) (take_all j row past) ∙ all_add part.nothing a row (lawful_apart row lawful));
   }
 
-  added_small : IsPart f → (asset : ℕ) (e : Entry) → unsigned_abs e.weight ≤ most_weight → unsigned_abs (added_by asset e) ≤ 2 ^ 44
+  added_small : IsPart f → (asset : ℕ) (e : Entry) → unsigned_abs e.weight ≤ most_weight → unsigned_abs (added_by asset e) ≤ unsigned_abs e.weight * 2 ^ 32
   unfolding added_by
   added_small part asset e light =
       ⊎_elim
@@ -87,9 +87,8 @@ module _ (f : ℤ → ℤ) where
   pub on_the_way : IsPart f → (row : List Entry) (old : List ℤ) (j : ℕ) (now : List ℤ) (asset : ℕ) → IsWeightVector row → j ≤ length row → AreNear (2 ^ 58) old → asset < length old
       → AreAdded row old j now → unsigned_abs (residual_in now asset) ≤ 2 ^ 59
   on_the_way part row old j now asset lawful within near inside before =
-      let light : All (λ e. unsigned_abs (added_by asset e) ≤ 2 ^ 44) (take j row) = All-take (λ e. unsigned_abs (added_by asset e) ≤ 2 ^ 44) j row (λ k d there. added_small part asset (get_or row k d) (lawful.weights k d there).1) in
-      let sum = unsigned_abs-int_sum_by (added_by asset) (2 ^ 44) (take j row) light in
-      rw (before.each asset inside) (omega (arith, unsigned_abs-add (residual_in old asset) (int_sum_by (added_by asset) (take j row)), near asset, sum, length-take j row, lawful.few, within))
+      let sum = sum_of_first (added_by asset) (2 ^ 32) row j lawful (λ k d there. added_small part asset (get_or row k d) (lawful.weights k d there).1) in
+      rw (before.each asset inside) (omega (arith, unsigned_abs-add (residual_in old asset) (int_sum_by (added_by asset) (take j row)), near asset, sum))
 
 -- ---- all orders
 
@@ -121,7 +120,10 @@ module _ (n : ℕ) (part : Order → ℤ → ℤ) where
   are_near orders i sums few within parts each before a =
       elim (cases_lt a n) [
         | inl inside ↦
-            let light : All (λ o. unsigned_abs (part o (weight_in o.row a)) ≤ 2 ^ 44) (take i orders) = λ k d there. (parts (get_or (take i orders) k d) (each k d there)).small (weight_in (get_or (take i orders) k d).row a) (weights_are_small (get_or (take i orders) k d).row a (each k d there).row) in
+            let light : All (λ o. unsigned_abs (part o (weight_in o.row a)) ≤ 2 ^ 44) (take i orders) = λ k d there.
+            let o = get_or (take i orders) k d in
+            let weight = weights_are_small o.row a (each k d there).row in
+            omega (arith, (parts o (each k d there)).small (weight_in o.row a) weight, weight) in
             let sum = unsigned_abs-int_sum_by (λ o. part o (weight_in o.row a)) (2 ^ 44) (take i orders) light in
             rw (before.each a inside) (omega (arith, sum, length-take i orders, few, within, orders_fit))
         | inr outside ↦ rw (get_or_past sums a (pos 0) (omega (arith, outside, before.count))) (omega arith)

@@ -5,7 +5,7 @@ use Rattle.std.proofs.Math.Nat.{mul-le-mul}
 use Rattle.std.proofs.lemmas.Int.{ints}
 use Rattle.std.proofs.lemmas.List.{take_all}
 use Rattle.list_sums.proofs.SumLemmas.{int_sum_by-same_all}
-use Rattle.weight_rows.specs.Rows.{most_weight, weight_in}
+use Rattle.weight_rows.specs.Rows.{weight_in}
 use Rattle.demand_curve.specs.Demand.{Terms, IsWithinLimits, floor_in, ceil_in}
 use Rattle.demand_curve.proofs.Parts.{parts_enclose_demand}
 use Rattle.flow_orders.specs.Orders.{Order, IsOrder, most_orders, terms_of}
@@ -19,38 +19,35 @@ use Rattle.even_prices.specs.Sides.{part_on, sum_on, HasGrown, AreSummed}
 use Rattle.even_prices.proofs.Counted.{price_risen, price_fallen}
 use Rattle.even_prices.proofs.Adding.{IsPart, one_asked, all_asked, are_near}
 
--- a weight times a demand in parts is small
-product_most : (n x room : ℕ) → n ≤ 4096 → x ≤ even_parts * room → room ≤ 2 ^ 24 → n * x ≤ 2 ^ 44
-product_most n x room light within slow =
-    let little : x ≤ 256 * 2 ^ 24 = omega (arith, within, slow) in
-    let most : n * x ≤ 4096 * (256 * 2 ^ 24) = mul-le-mul light little in
-    omega (arith, most)
+-- a weight times a demand in parts is small: at most so much for each unit of the weight
+product_most : (n x room : ℕ) → x ≤ even_parts * room → room ≤ 2 ^ 24 → n * x ≤ n * 2 ^ 32
+product_most n x room within slow = mul-le-mul (omega arith) (omega (arith, within, slow))
 
-low_small : (w : ℤ) (t : Terms) → IsWithinLimits t → (c : ℤ) → unsigned_abs w ≤ most_weight → unsigned_abs (low_part_in even_parts w t c) ≤ 2 ^ 44
-low_small (pos n) t h c light =
+low_small : (w : ℤ) (t : Terms) → IsWithinLimits t → (c : ℤ) → unsigned_abs (low_part_in even_parts w t c) ≤ unsigned_abs w * 2 ^ 32
+low_small (pos n) t h c =
     let demand = parts_enclose_demand even_parts t h c in
-    product_most n (floor_in even_parts t c) t.room light (omega (arith, demand.floor_first, demand.within_room)) (omega (arith, h.room_most, h.rate_most))
-low_small (negsuc n) t h c light =
+    product_most n (floor_in even_parts t c) t.room (omega (arith, demand.floor_first, demand.within_room)) (omega (arith, h.room_most, h.rate_most))
+low_small (negsuc n) t h c =
     let demand = parts_enclose_demand even_parts t h c in
-    omega (arith, ints, product_most (suc n) (ceil_in even_parts t c) t.room (omega (arith, light)) demand.within_room (omega (arith, h.room_most, h.rate_most)))
+    omega (arith, ints, product_most (suc n) (ceil_in even_parts t c) t.room demand.within_room (omega (arith, h.room_most, h.rate_most)))
 
-high_small : (w : ℤ) (t : Terms) → IsWithinLimits t → (c : ℤ) → unsigned_abs w ≤ most_weight → unsigned_abs (high_part_in even_parts w t c) ≤ 2 ^ 44
-high_small (pos n) t h c light =
+high_small : (w : ℤ) (t : Terms) → IsWithinLimits t → (c : ℤ) → unsigned_abs (high_part_in even_parts w t c) ≤ unsigned_abs w * 2 ^ 32
+high_small (pos n) t h c =
     let demand = parts_enclose_demand even_parts t h c in
-    product_most n (ceil_in even_parts t c) t.room light demand.within_room (omega (arith, h.room_most, h.rate_most))
-high_small (negsuc n) t h c light =
+    product_most n (ceil_in even_parts t c) t.room demand.within_room (omega (arith, h.room_most, h.rate_most))
+high_small (negsuc n) t h c =
     let demand = parts_enclose_demand even_parts t h c in
-    omega (arith, ints, product_most (suc n) (floor_in even_parts t c) t.room (omega (arith, light)) (omega (arith, demand.floor_first, demand.within_room)) (omega (arith, h.room_most, h.rate_most)))
+    omega (arith, ints, product_most (suc n) (floor_in even_parts t c) t.room (omega (arith, demand.floor_first, demand.within_room)) (omega (arith, h.room_most, h.rate_most)))
 
 none : (n : ℕ) → 0 * n ≡ 0
 none n = omega arith
 
 -- what an order adds on each side is nothing without a weight, and small
 pub part_is : (side : Side) (t : Terms) → IsWithinLimits t → (c : ℤ) → IsPart (part_on side t c)
-part_is Low t h c = record { nothing = ap pos (none (floor_in even_parts t c)); small = λ w light. low_small w t h c light }
-part_is High t h c = record { nothing = ap pos (none (ceil_in even_parts t c)); small = λ w light. high_small w t h c light }
-part_is Above t h c = record { nothing = ap pos (none (ceil_in even_parts t (c +ℤ pos 0))); small = λ w light. high_small w t h (c +ℤ w) light }
-part_is Below t h c = record { nothing = ap pos (none (floor_in even_parts t (c -ℤ pos 0))); small = λ w light. low_small w t h (c -ℤ w) light }
+part_is Low t h c = record { nothing = ap pos (none (floor_in even_parts t c)); small = λ w light. low_small w t h c }
+part_is High t h c = record { nothing = ap pos (none (ceil_in even_parts t c)); small = λ w light. high_small w t h c }
+part_is Above t h c = record { nothing = ap pos (none (ceil_in even_parts t (c +ℤ pos 0))); small = λ w light. high_small w t h (c +ℤ w) }
+part_is Below t h c = record { nothing = ap pos (none (floor_in even_parts t (c -ℤ pos 0))); small = λ w light. low_small w t h (c -ℤ w) }
 
 -- the sums on the sides are the excesses of the definition
 module _ (orders : List Order) (prices : List ℤ) (asset : ℕ) (each : All IsOrder orders) (within : asset < length prices) where

@@ -35,6 +35,7 @@ pub(crate) enum Side {
 /// It allocates nothing, and keeps four numbers for each of 64 assets. It goes four times over the legs of all orders, to
 /// price each order and to add up what it asks for, with at most one division for each leg. Where there is a
 /// [`Workspace`](excess_bounds::Workspace), [`first_uneven`](crate::first_uneven) costs less.
+#[tactic(auto, using(flow_orders::proofs::Limits::prices_are))]
 pub fn first_uneven_of(orders: &[Order], prices: &[i64]) -> Option<u16>
     requires few { length orders.now ≤ most_orders }
     requires assets { length prices.now ≤ most_prices }
@@ -70,7 +71,7 @@ fn is_balanced(low: &[i64], high: &[i64], above: &[i64], below: &[i64], asset: u
 }
 
 // Returns an excess of each asset, in parts, with 0 for each place without a price.
-#[tactic(auto, using(flow_orders::proofs::Limits::orders_fit))]
+#[tactic(auto, using(flow_orders::proofs::Limits::orders_fit, flow_orders::proofs::Limits::prices_are))]
 fn sums_of(side: Side, orders: &[Order], prices: &[i64]) -> [i64; PLACES]
     requires few { length orders.now ≤ most_orders }
     requires assets { length prices.now ≤ most_prices }

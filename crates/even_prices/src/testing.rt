@@ -52,6 +52,7 @@ pub fn direction(work: &Workspace<'_>, asset: u16) -> Option<Direction>
 ///
 /// It tests each asset up to that one, so it goes at most twice over the legs of all orders, and divides at most twice for
 /// each leg. It allocates nothing.
+#[tactic(auto, using(flow_orders::proofs::Limits::prices_fit))]
 pub fn first_uneven(work: &Workspace<'_>) -> Option<u16>
     ensures uneven { IfSome result (IsFirstUneven work.now.orders work.now.prices) }
     ensures even { IfNone result (AreEven work.now.orders work.now.prices) }

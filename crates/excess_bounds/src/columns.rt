@@ -138,7 +138,7 @@ fn no_cells(alloc: Global, count: usize) -> Result<Vec<Column>, AllocError>
 }
 
 // Appends an order at a place to the column of each asset that it names.
-#[tactic(auto, using(flow_orders::proofs::Limits::orders_fit))]
+#[tactic(auto, using(flow_orders::proofs::Limits::orders_fit, weight_rows::proofs::Limits::legs_fit))]
 fn list(columns: &mut [Column], order: &Order, place: u32) -> Result<(), AllocError>
     requires place { place < most_orders }
     requires there { All (λ e. e.asset < length columns.old) order.now.row }

@@ -20,7 +20,8 @@ use Rattle.journal_records.proofs.FieldForms.{reply_fits}
 use Rattle.journal_records.specs.Pairs.{IsPair}
 use Rattle.journal_records.proofs.Encoded.{plain_short, batch_short}
 use Rattle.journal_records.proofs.OutcomesFit.{admissible_outcomes_fit}
-use Rattle.market_rules.proofs.VersionLimits.{orders_within, batches_within}
+use Rattle.flow_accounts.proofs.Limits.{assets_fit}
+use Rattle.market_rules.proofs.VersionLimits.{orders_within, batches_within, tickers_are_assets, batches_fit}
 use Rattle.market_rules.specs.Market.{Market, IsConsistent, search_of, start_prices}
 use Rattle.market_rules.specs.Step.{FirstRefusal, Accepts, Serves, ServesRead, after_batch}
 use Rattle.market_rules.proofs.ByFirst.{Answers}
@@ -51,7 +52,7 @@ batch_fits : (m : Market) (budget : ℕ) (outcome : Outcome) → IsConsistent m 
 batch_fits m budget outcome consistent none next right =
     let fit = admissible_outcomes_fit (search_of m.version) (some_parts m.version) m.orders (start_prices m) budget (m.batches + 1) outcome (λ k d inside. (consistent.live k d inside).order) (omega (arith, consistent.few_orders, orders_within m.version))
     (λ k d inside. omega (arith, (consistent.live k d inside).numbered.1, next)) (few_start_prices m consistent) (λ k d inside. is_price (slice_index_or (start_prices m) k d) (start_within m k d inside))
-    (past_unless none).0.1 (omega (arith, consistent.few_batches, batches_within m.version)) right
+    (past_unless none).0.1 (omega (arith, consistent.few_batches, batches_within m.version, batches_fit)) right
     in
     record { widths = fit.0; short = batch_short (m.batches + 1) outcome fit.0 fit.1 }
 
@@ -66,7 +67,7 @@ accepted_rise m (RunBatch budget) a n accepts = omega (arith, ap (λ (x : Market
 accepted_rise m command a n accepts = omega (arith, ap (λ (x : Market). x.next_order) accepts.1)
 
 accepted_fits : (m : Market) (c : Command) (a : Answer Outcome) (n : Market) → IsConsistent m → FirstRefusal m c None → Accepts IsAdmissibleOutcome m c a n → n.next_order < 2 ^ 64 → Fits a
-accepted_fits m (AddAsset ticker) a n consistent none accepts next = rw accepts.0 (plain_fits (reply.Asset (length m.tickers)) (omega (arith, consistent.tickers.few)))
+accepted_fits m (AddAsset ticker) a n consistent none accepts next = rw accepts.0 (plain_fits (reply.Asset (length m.tickers)) (omega (arith, consistent.tickers.few, tickers_are_assets, assets_fit)))
 accepted_fits m OpenAccount a n consistent none accepts next = rw accepts.0 (plain_fits (reply.Account _) (omega (arith, consistent.few_accounts)))
 accepted_fits m (Place last r) a n consistent none accepts next = rw accepts.0 (plain_fits (reply.Order m.next_order) (omega (arith, ap (λ (x : Market). x.next_order) accepts.1, next)))
 accepted_fits m (RunBatch budget) a n consistent none accepts next =

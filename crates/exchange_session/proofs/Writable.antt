@@ -11,11 +11,12 @@ use Rattle.batch_outcome.specs.declared.outcome.Outcome.{Outcome}
 use Rattle.batch_outcome.specs.declared.outcome.Outcome.TheVariants as variants
 use Rattle.batch_outcome.specs.Published.{outcome_of, HasOneRateEach}
 use Rattle.market_rules.specs.Market.{Market, IsConsistent, start_prices, cut_price}
+use Rattle.market_rules.proofs.VersionLimits.{tickers_are_assets, prices_are_assets}
 use Rattle.exchange_session.specs.Private.{IsWritable}
 
--- a market has at most 64 start prices
+-- a market has no more start prices than its assets may be
 pub few_start_prices : (m : Market) → IsConsistent m → length (start_prices m) ≤ most_prices
-few_start_prices m consistent = omega (arith, length-map m.last_prices cut_price, consistent.one_each.prices, consistent.one_each.tickers, consistent.tickers.few)
+few_start_prices m consistent = omega (arith, length-map m.last_prices cut_price, consistent.one_each.prices, consistent.one_each.tickers, consistent.tickers.few, tickers_are_assets, prices_are_assets)
 
 -- the outcome of such a batch can be written
 pub writable_is : (search : Search) (orders : List Order) (start : List ℤ) (budget : ℕ) (o : Outcome) → length start ≤ most_prices → budget ≤ most_budget → HasOneRateEach orders o

@@ -24,6 +24,7 @@ use std::alloc::Global;
 use wire_records::{Memory, RecordView};
 
 // Returns the canonical outcome of a batch that is allowed.
+#[tactic(auto, using(market_rules::proofs::VersionLimits::tickers_are_assets, market_rules::proofs::VersionLimits::prices_are_assets))]
 fn outcome_for(alloc: Global, market: &mut Market, budget: u32) -> Result<Outcome, Memory>
     requires first { FirstRefusal market.old (RunBatch budget) None }
     ensures own { IfOk result (λ outcome. IsCanonicalOutcome (search_of market.old.version) market.old.orders
@@ -81,6 +82,7 @@ fn write_answer(
 }
 
 // Answers a batch that is allowed, right after the record that asks for it, and returns its outcome, which the market may settle.
+#[tactic(auto, using(market_rules::proofs::VersionLimits::batches_fit))]
 pub(crate) fn answer_batch(
     alloc: Global,
     market: &mut Market,
@@ -105,6 +107,7 @@ pub(crate) fn answer_batch(
 }
 
 // Holds a batch that is allowed: appends its entry, and then settles it.
+#[tactic(auto, using(market_rules::proofs::VersionLimits::batches_fit))]
 pub(crate) fn hold_batch(
     alloc: Global,
     market: &mut Market,

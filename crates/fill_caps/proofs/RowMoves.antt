@@ -4,15 +4,13 @@ use Rattle.std.specs.Prelude.{All, unsigned_abs}
 use Rattle.std.specs.Int.{w64, w128}
 use Rattle.std.proofs.Math.IntN.{*ℤ_comm, *ℤ-zero, zero-*ℤ}
 use Rattle.std.proofs.lemmas.Int.{ints, fits_signed_from_abs}
-use Rattle.std.proofs.lemmas.Bool.{cases_eq, cases_lt}
-use Rattle.std.proofs.lemmas.List.{at_drop_more, at_drop_all, get_or-drop, get_or_past, length-drop, get_or-set_same, get_or-set_other, length-set}
-use Rattle.std.proofs.lemmas.List.Elements.{All-drop}
+use Rattle.std.proofs.lemmas.Bool.{cases_eq}
+use Rattle.std.proofs.lemmas.List.{at_drop_more, at_drop_all, get_or-drop, length-drop, get_or-set_same, get_or-set_other, length-set}
 use Rattle.std.proofs.lemmas.List.Kept.{AllPairs-from_increasing}
 use Rattle.list_sums.proofs.Products.{*ℤ-add, *ℤ-assoc, unsigned_abs-mul_le}
-use Rattle.list_sums.proofs.SumLemmas.{unsigned_abs-int_sum_by}
 use Rattle.weight_rows.specs.declared.entries.Entry.{Entry}
-use Rattle.weight_rows.specs.Rows.{assets_of, IsWeightVector, IsLawfulWeight, IsPrice, weight_in, price_of, portfolio_price}
-use Rattle.weight_rows.proofs.RowLemmas.{weight_in-here, weight_in-later, weight_in-none, asset_at, length-assets_of, price_is_bounded}
+use Rattle.weight_rows.specs.Rows.{assets_of, IsWeightVector, IsPrice, weight_in, price_of, portfolio_price}
+use Rattle.weight_rows.proofs.RowLemmas.{weight_in-here, weight_in-later, weight_in-none, asset_at, length-assets_of, price_is_bounded, last_legs_cost}
 use Rattle.weight_rows.proofs.RowLawProofs.{weights_are_small}
 use Rattle.flow_accounts.specs.Balances.{Account, Credit, Balances, IsAccount, IsAsset, account_count, asset_count, money_of, units_of, units_in, no_credit, credit_in, unit_credit_of, move_balance}
 use Rattle.flow_accounts.specs.Lawful.{AreLawful}
@@ -37,22 +35,6 @@ price_left row prices i d inside = at_drop_more (λ r. portfolio_price r prices)
 price_none : (row : List Entry) (prices : List ℤ) (i : ℕ) → length row ≤ i → portfolio_price (drop i row) prices ≡ pos 0
 unfolding portfolio_price
 price_none row prices i past = at_drop_all (λ r. portfolio_price r prices) row i past
-
--- a price that isn't there counts as 0
-price_is_small : (prices : List ℤ) (asset : ℕ) → All IsPrice prices → unsigned_abs (price_of prices asset) ≤ 2 ^ 62
-price_is_small prices asset range =
-    ⊎_elim (λ inside. range asset (pos 0) inside) (λ past. rw (get_or_past prices asset (pos 0) past) (omega arith)) (cases_lt asset (length prices))
-
--- the rest of a weight vector costs little too
-price_left_small : (row : List Entry) (prices : List ℤ) (i : ℕ) → IsWeightVector row → All IsPrice prices → unsigned_abs (portfolio_price (drop i row) prices) ≤ 2 ^ 78
-unfolding portfolio_price
-price_left_small row prices i lawful range =
-    let weights = All-drop (λ (e : Entry). IsLawfulWeight e.weight) i row lawful.weights in
-    let each : All (λ (e : Entry). unsigned_abs (e.weight *ℤ price_of prices e.asset) ≤ 4096 * 2 ^ 62) (drop i row) = λ k d inside.
-    let e = get_or (drop i row) k d in
-    unsigned_abs-mul_le e.weight (price_of prices e.asset) 4096 (2 ^ 62) (weights k d inside).1 (price_is_small prices e.asset range) in
-    let sum = unsigned_abs-int_sum_by (λ (e : Entry). e.weight *ℤ price_of prices e.asset) (4096 * 2 ^ 62) (drop i row) each in
-    omega (arith, sum, length-drop i row, lawful.few)
 
 module _ (row : List Entry) (i : ℕ) (d : Entry) (lawful : IsWeightVector row) (inside : i < length row) where
   abbrev entry : Entry
@@ -159,7 +141,7 @@ module _ (prices : List ℤ) (account rate : ℕ) (row : List Entry) (old now : 
   pub exchange_money_fits : rate ≤ 2 ^ 24 → All IsPrice prices → unsigned_abs exchange_old.money ≤ 2 ^ 124 → FitsSigned w128 (exchange_now.money +ℤ cost)
   exchange_money_fits slow range near =
       let all = unsigned_abs-mul_le (pos rate) (portfolio_price row prices) (2 ^ 24) (2 ^ 78) slow (price_is_bounded row prices lawful range) in
-      let left = unsigned_abs-mul_le (pos rate) (portfolio_price (drop (i + 1) row) prices) (2 ^ 24) (2 ^ 78) slow (price_left_small row prices (i + 1) lawful range) in
+      let left = unsigned_abs-mul_le (pos rate) (portfolio_price (drop (i + 1) row) prices) (2 ^ 24) (2 ^ 78) slow (last_legs_cost row prices (i + 1) lawful range) in
       fits_signed_from_abs w128 _ (omega (arith, ints, exchange_money_then, all, left, near))
 
   -- the state after this leg is moved

@@ -4,7 +4,7 @@ use Rattle.std.proofs.lemmas.List.{take_more, map_push}
 use Rattle.flow_accounts.specs.declared.Accounts.TheInside.{Inside}
 use Rattle.flow_accounts.specs.Balances.{Balances, account_count, asset_count, empty_account, no_credit, with_asset, with_credit_place, add_asset, open_account}
 use Rattle.flow_accounts.specs.CreditLines.{Credits}
-use Rattle.flow_accounts.specs.Lawful.{AreLawful}
+use Rattle.flow_accounts.specs.Lawful.{AreLawful, most_accounts, most_assets}
 use Rattle.flow_accounts.specs.Lines.{Line, Table, with_place, new_line}
 use Rattle.flow_accounts.specs.NoCredit.{no_line}
 use Rattle.flow_accounts.specs.Places.{account_in, credit_line_in, balances_in, HasSpare, AreKept}
@@ -12,7 +12,7 @@ use Rattle.flow_accounts.proofs.Grown.{lawful-open_account, lawful-add_asset}
 use Rattle.flow_accounts.proofs.Standing.{StandsFor, asset_count-in}
 
 -- the next place is in use too
-places-more : (n : ℕ) (places : List ℤ) → HasSpare n places → n < 64 → take (n + 1) places ≡ take n places ++ pos 0 ∷ []
+places-more : (n : ℕ) (places : List ℤ) → HasSpare n places → n < most_assets → take (n + 1) places ≡ take n places ++ pos 0 ∷ []
 places-more n places spare few =
     let made = spare.places_made in
     take_more places n (pos 0) (omega arith) ∙ ap (λ z. take n places ++ z ∷ []) (spare.zero_beyond n (omega arith))
@@ -36,9 +36,9 @@ abbrev pub with_credits : Credits → Credits
 with_credits c = record c { assets = c.assets + 1; lines = map (with_place 0) c.lines }
 
 -- an asset is added
-asset_shown : (a : Inside) (room : ℕ) → AreKept a → asset_count (balances_in a) < 64 → StandsFor (record a { holdings = with_assets a.holdings room; credits = with_credits a.credits }) (add_asset (balances_in a))
+asset_shown : (a : Inside) (room : ℕ) → AreKept a → asset_count (balances_in a) < most_assets → StandsFor (record a { holdings = with_assets a.holdings room; credits = with_credits a.credits }) (add_asset (balances_in a))
 asset_shown a room kept few =
-    let spare : a.holdings.assets < 64 = subst (λ n. n < 64) (asset_count-in a kept) few in
+    let spare : a.holdings.assets < most_assets = subst (λ n. n < most_assets) (asset_count-in a kept) few in
     let shown : balances_in (record a { holdings = with_assets a.holdings room; credits = with_credits a.credits }) ≡ add_asset (balances_in a) =
     rw (kept.none, accounts-more a.holdings.lines, credits-more a.credits.lines, places-more a.holdings.assets a.total_units kept.totals spare) refl in
     record {
@@ -52,10 +52,10 @@ asset_shown a room kept few =
       shown = shown;
     }
 
-pub asset_added : (a : Inside) (b : Balances) (h : Table ℤ ℤ) (c : Credits) → AreKept a → balances_in a ≡ b → asset_count b < 64 → h ≡ with_assets a.holdings h.room → c ≡ with_credits a.credits
+pub asset_added : (a : Inside) (b : Balances) (h : Table ℤ ℤ) (c : Credits) → AreKept a → balances_in a ≡ b → asset_count b < most_assets → h ≡ with_assets a.holdings h.room → c ≡ with_credits a.credits
     → StandsFor (record a { holdings = h; credits = c }) (add_asset b)
 asset_added a b h c kept view_is few holdings credits =
-    let P : Balances → Type 0 = λ b. asset_count b < 64 → StandsFor (record a { holdings = with_assets a.holdings h.room; credits = with_credits a.credits }) (add_asset b) in
+    let P : Balances → Type 0 = λ b. asset_count b < most_assets → StandsFor (record a { holdings = with_assets a.holdings h.room; credits = with_credits a.credits }) (add_asset b) in
     let added = subst P view_is (λ few. asset_shown a h.room kept few) few in
     subst (λ (h : Table ℤ ℤ). StandsFor (record a { holdings = h; credits = c }) (add_asset b)) (sym holdings)
     (subst (λ (c : Credits). StandsFor (record a { holdings = with_assets a.holdings h.room; credits = c }) (add_asset b)) (sym credits) added)
@@ -68,7 +68,7 @@ abbrev pub with_credit_line : Credits → Credits
 with_credit_line c = record c { lines = c.lines ++ no_line c.assets ∷ [] }
 
 -- an account is opened
-account_shown : (a : Inside) (room : ℕ) → AreKept a → account_count (balances_in a) < 65536 → StandsFor (record a { holdings = with_line a.holdings room; credits = with_credit_line a.credits }) (open_account (balances_in a))
+account_shown : (a : Inside) (room : ℕ) → AreKept a → account_count (balances_in a) < most_accounts → StandsFor (record a { holdings = with_line a.holdings room; credits = with_credit_line a.credits }) (open_account (balances_in a))
 account_shown a room kept few =
     let fresh : account_in (new_line a.holdings.assets (pos 0) a.holdings.none) ≡ empty_account (asset_count (balances_in a)) = rw (asset_count-in a kept, kept.none) refl in
     let fresh_credit : credit_line_in (no_line a.credits.assets) ≡ no_credit (asset_count (balances_in a)) = rw (asset_count-in a kept, kept.credits) refl in
@@ -85,10 +85,10 @@ account_shown a room kept few =
       shown = shown;
     }
 
-pub account_opened : (a : Inside) (b : Balances) (h : Table ℤ ℤ) (c : Credits) → AreKept a → balances_in a ≡ b → account_count b < 65536 → h ≡ with_line a.holdings h.room → c ≡ with_credit_line a.credits
+pub account_opened : (a : Inside) (b : Balances) (h : Table ℤ ℤ) (c : Credits) → AreKept a → balances_in a ≡ b → account_count b < most_accounts → h ≡ with_line a.holdings h.room → c ≡ with_credit_line a.credits
     → StandsFor (record a { holdings = h; credits = c }) (open_account b)
 account_opened a b h c kept view_is few holdings credits =
-    let P : Balances → Type 0 = λ b. account_count b < 65536 → StandsFor (record a { holdings = with_line a.holdings h.room; credits = with_credit_line a.credits }) (open_account b) in
+    let P : Balances → Type 0 = λ b. account_count b < most_accounts → StandsFor (record a { holdings = with_line a.holdings h.room; credits = with_credit_line a.credits }) (open_account b) in
     let opened = subst P view_is (λ few. account_shown a h.room kept few) few in
     subst (λ (h : Table ℤ ℤ). StandsFor (record a { holdings = h; credits = c }) (open_account b)) (sym holdings)
     (subst (λ (c : Credits). StandsFor (record a { holdings = with_line a.holdings h.room; credits = c }) (open_account b)) (sym credits) opened)

@@ -5,7 +5,7 @@ use Rattle.std.proofs.lemmas.List.{length_push, length-map, length-replicate}
 use Rattle.std.proofs.lemmas.List.Elements.{All-push, All-map, All-weaker, All-nil, All-replicate}
 use Rattle.std.proofs.lemmas.Int.{ints}
 use Rattle.flow_accounts.specs.Balances.{Account, Credit, Balances, IsAccount, no_balances, account_count, asset_count, empty_account, no_credit, with_asset, with_credit_place, add_asset, open_account, money_with_credit, units_with_credit}
-use Rattle.flow_accounts.specs.Lawful.{AreLawful, IsLawfulAccount, IsLawfulCredit, IsUnitBalance, IsUnitTotal, most_credit}
+use Rattle.flow_accounts.specs.Lawful.{AreLawful, IsLawfulAccount, IsLawfulCredit, IsUnitBalance, IsUnitTotal, most_accounts, most_assets, most_credit}
 use Rattle.flow_accounts.proofs.Moves.{accounts_open_empty, assets_start_at_zero}
 
 pub lawful-no_balances : AreLawful no_balances
@@ -36,7 +36,7 @@ lawful-no_credit assets = record {
   units = All-replicate (λ (u : ℕ). u ≤ most_credit) assets 0 (omega arith);
 }
 
-pub lawful-open_account : (b : Balances) → AreLawful b → account_count b < 65536 → AreLawful (open_account b)
+pub lawful-open_account : (b : Balances) → AreLawful b → account_count b < most_accounts → AreLawful (open_account b)
 lawful-open_account b lawful few = record {
   few_accounts = omega (arith, length_push b.accounts (empty_account (asset_count b)));
   few_assets = lawful.few_assets;
@@ -77,7 +77,7 @@ lawful-with_credit_place assets c lawful = record {
   units = All-push (λ (u : ℕ). u ≤ most_credit) c.units 0 lawful.units (omega arith);
 }
 
-pub lawful-add_asset : (b : Balances) → AreLawful b → asset_count b < 64 → AreLawful (add_asset b)
+pub lawful-add_asset : (b : Balances) → AreLawful b → asset_count b < most_assets → AreLawful (add_asset b)
 lawful-add_asset b lawful few = record {
   few_accounts = rw length-map lawful.few_accounts;
   few_assets = omega (arith, length_push b.totals.units (pos 0));

@@ -1,15 +1,27 @@
 -- A table while its lines are written.
-use Rattle.std.proofs.Common.{◌≡◌, ℕ, ◌+◌, ◌-◌, ◌*◌, ◌^◌, ◌<◌, ◌≤◌, List, [], ◌∷◌, ◌++◌, length, map, take, vec_len, vec_capacity, replicate, get_or, set, refl, sym, ap, subst, ◌∙◌, arith}
+use Rattle.std.proofs.Common.{◌≡◌, ℕ, ◌+◌, ◌-◌, ◌*◌, ◌/◌, ◌^◌, ◌<◌, ◌≤◌, List, [], ◌∷◌, ◌++◌, length, map, take, vec_len, vec_capacity, replicate, get_or, set, refl, sym, ap, subst, ◌∙◌, arith}
 use Rattle.std.specs.Global.{Vec}
 use Rattle.std.proofs.lemmas.List.{take_all, length-map, length-replicate, length-set, length_push, replicate-append-replicate, map-set, map_push, get_or-map, get_or_default}
 use Rattle.std.proofs.lemmas.List.Elements.{All-set, All-push, All-map, All-weaker}
 use Rattle.std.proofs.Math.Seq.{map-set_same}
-use Rattle.std.proofs.Math.Nat.{mul-le-mul, add-mul, one-mul}
+use Rattle.std.proofs.Math.Nat.{mul-le-mul, add-mul, one-mul, div-mul-le_self, le-div_iff_mul-le}
 use Rattle.flow_accounts.specs.declared.lines.Lines.TheInside.{Inside}
 use Rattle.flow_accounts.specs.Lawful.{most_assets}
 use Rattle.flow_accounts.specs.Lines.{Line, Table, laid, HasWidth, with_place, new_line}
 use Rattle.flow_accounts.specs.Laid.{lines_in, table_in, AreLaid}
+use Rattle.flow_accounts.proofs.Limits.{some_assets}
 use Rattle.flow_accounts.proofs.LaidLines.{length-laid, cell, set_cell, laid-push, laid-more, lines_of-laid, money-lines_of}
+
+-- room for one line more, where a block has places for so many lines
+one_more_fits : (n m cap : ℕ) → n < cap / m → (n + 1) * m ≤ cap
+one_more_fits n m cap there =
+    let below : (n + 1) * m ≤ cap / m * m = mul-le-mul (omega arith) (omega arith) in
+    omega (arith, below, div-mul-le_self cap m)
+
+-- a block that has grown has places for as many lines
+more_lines : (m cap now : ℕ) → 1 ≤ m → cap ≤ now → cap / m ≤ now / m
+more_lines m cap now some grows =
+    (le-div_iff_mul-le some).1 (omega (arith, div-mul-le_self cap m))
 
 -- each row has one amount more
 widths-more : {U : Type 0} (none : U) (w : ℕ) (rows : List (List U)) → HasWidth w rows → HasWidth (w + 1) (map (λ (row : List U). row ++ none ∷ []) rows)
@@ -160,13 +172,14 @@ module _ {M U : Type 0} where
         let filled : replicate t.assets t.none ++ replicate (t.places - length new.units) t.none ≡ replicate t.places t.none =
         replicate-append-replicate t.assets (t.places - length new.units) t.none ∙ ap (λ n. replicate n t.none) (omega (arith, kept.enough, count)) in
         let lines_now : vec_len money ≡ vec_len t.money + 1 = money.ok.0 ∙ ap length more ∙ length_push t.money.items m ∙ ap (λ n. n + 1) (sym t.money.ok.0) in
-        let room : vec_len money * most_assets ≤ vec_capacity units = omega (arith, lines_now, unit_capacity, spare, line_count t) in
+        let room : vec_len money * most_assets ≤ vec_capacity units =
+        rw lines_now (omega (arith, unit_capacity, one_more_fits (vec_len t.money) most_assets (vec_capacity t.units) (omega (arith, spare, line_count t)))) in
         let is = holds (record t { money = money; units = units }) (ls ++ new ∷ []) kept.enough kept.few
         (subst (HasWidth t.assets) (sym rows) (All-push (λ (row : List U). length row ≡ t.assets) (rows_of ls) new.units kept.widths count))
         (more ∙ ap (λ ms. ms ++ m ∷ []) (sym (money_stored t)) ∙ sym (map_push (λ (l : Line M U). l.money) ls new))
         (wider ∙ ap (λ us. us ++ replicate t.places t.none) kept.laid ∙ ap (λ us. laid t.none t.places (rows_of ls) ++ us) (sym filled)
         ∙ sym (laid-push t.none t.assets t.places kept.enough (rows_of ls) new.units) ∙ ap (λ rs. laid t.none t.places rs) (sym rows)) room in
-        record { kept = is.kept; shown = rw is.shown refl; grows = rw capacity (omega (arith, unit_capacity)) }
+        record { kept = is.kept; shown = rw is.shown refl; grows = rw capacity (omega (arith, more_lines most_assets (vec_capacity t.units) (vec_capacity units) some_assets unit_capacity)) }
 
   -- The same lines, with a place for one more asset.
   pub record IsWide (t wide : Inside M U) : Type 0 where
@@ -191,7 +204,7 @@ module _ {M U : Type 0} where
       moved rows (row_count t ∙ line_count t ∙ sym lines_are) (subst (λ n. HasWidth n rows) (full ∙ sym from_is) kept.widths) (kept.laid ∙ ap (λ n. laid t.none n rows) (sym from_is))
       ∙ ap (λ n. laid t.none n rows) to_is in
       let is = holds (record t { units = units; places = places }) (lines_in t) (omega arith) few kept.widths (sym (money_stored t)) items (omega (arith, capacity, kept.room)) in
-      record { kept = is.kept; lines = is.shown; assets = refl; none = refl; spare = omega arith; grows = omega (arith, capacity) }
+      record { kept = is.kept; lines = is.shown; assets = refl; none = refl; spare = omega arith; grows = omega (arith, more_lines most_assets (vec_capacity t.units) (vec_capacity units) some_assets capacity) }
 
   abbrev the_table : ℕ → List (Line M U) → U → ℕ → Table M U
   the_table a ls n r = record { assets = a; lines = ls; none = n; room = r }
@@ -278,7 +291,7 @@ module _ {M U : Type 0} (t : Inside M U) (table : Table M U) (kept : AreLaid t) 
       let lines = line_count t in
       let most : (vec_len t.money + 1) * t.places ≤ (vec_len t.money + 1) * most_assets = mul-le-mul (omega arith) kept.few in
       let next : (vec_len t.money + 1) * t.places ≡ vec_len t.money * t.places + t.places = add-mul (vec_len t.money) 1 t.places ∙ ap (λ n. vec_len t.money * t.places + n) (one-mul t.places) in
-      record { money = omega (arith, free, lines); units = omega (arith, free, lines, most, next, place_count t kept) }
+      record { money = omega (arith, free, lines); units = omega (arith, one_more_fits (vec_len t.money) most_assets (vec_capacity t.units) (omega (arith, free, lines)), most, next, place_count t kept) }
 
   pub added_asset : (wide : Inside M U) → IsWide t wide → IsGrown (record wide { assets = wide.assets + 1 }) (record table { assets = table.assets + 1; lines = map (with_place table.none) table.lines })
   added_asset wide is_wide =

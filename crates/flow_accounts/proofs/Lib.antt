@@ -16,3 +16,4 @@ pub mod Totals
 pub mod Added
 pub mod Filling
 pub mod Restoring
+pub mod Limits

@@ -6,7 +6,7 @@ use Rattle.std.proofs.lemmas.List.{get_or-set_other, get_or-set_same, length-set
 use Rattle.flow_accounts.specs.declared.Accounts.TheInside.{Inside}
 use Rattle.flow_accounts.specs.Balances.{Balances, IsAccount, account_count, asset_count, account_of, credit_of, empty_account, no_credit, money_of, money_credit_of}
 use Rattle.flow_accounts.specs.CreditLines.{Credits}
-use Rattle.flow_accounts.specs.Lawful.{AreLawful}
+use Rattle.flow_accounts.specs.Lawful.{AreLawful, most_assets}
 use Rattle.flow_accounts.specs.Lines.{Line, Table, new_line}
 use Rattle.flow_accounts.specs.NoCredit.{no_holding, no_line}
 use Rattle.flow_accounts.specs.Places.{account_in, credit_line_in, balances_in}
@@ -18,7 +18,7 @@ pub read_value : {T : Type 0} (o : Option T) (P : Type 0) (v x : T) → SomeIff 
 read_value o P v x is some = (subst (λ s. SomeIff s P v) some is).1
 
 -- the next place holds the next number
-pub place_filled : (k : ℕ) (units places : List ℤ) (v : ℤ) → k < length units → length units ≤ 64 → v ≡ get_or units k (pos 0) → ArePlacesOf k units places → ArePlacesOf (k + 1) units (set places k v)
+pub place_filled : (k : ℕ) (units places : List ℤ) (v : ℤ) → k < length units → length units ≤ most_assets → v ≡ get_or units k (pos 0) → ArePlacesOf k units places → ArePlacesOf (k + 1) units (set places k v)
 place_filled k units places v there few is done =
     let made = done.spare.places_made in
     let inside : k < length places = omega arith in

@@ -7,8 +7,8 @@ use Rattle.flow_accounts.specs.Balances.{Account, Credit, Balances, IsAccount, I
 abbrev pub most_accounts : ℕ
 most_accounts = 65536
 
--- how many assets there may be
-abbrev pub most_assets : ℕ
+-- how many assets there may be; proofs cite its bounds, and never its value
+unfoldable pub most_assets : ℕ
 most_assets = 64
 
 -- the limit of the total of a kind, which no deposit passes: 2^100 grains of money, 2^60 units of an asset

@@ -3,7 +3,7 @@ ghost use Rattle.std.specs.Prelude.{◌≡◌, ◌+◌, ◌*◌, ◌<◌, ◌≤
 ghost use Rattle.flow_accounts.specs.Lawful.{most_assets, most_accounts};
 ghost use Rattle.flow_accounts.specs.Lines.{Line, laid, HasWidth, with_place, new_line};
 
-use crate::PLACES;
+use crate::{MOST_ASSETS, PLACES};
 use std::alloc::{AllocError, Global};
 use std::marker::Model;
 
@@ -35,6 +35,7 @@ impl<M, U> Model for Lines<M, U> {
 }
 
 // Returns how many places a line has for the units of so many assets.
+#[tactic(auto, using(crate::proofs::Limits::assets_are))]
 fn places_for(assets: u16) -> u16
     requires { assets ≤ most_assets }
     ensures enough { assets ≤ result }
@@ -51,7 +52,7 @@ fn places_for(assets: u16) -> u16
     } else if assets <= 32 {
         32
     } else {
-        64
+        MOST_ASSETS
     }
 }
 
@@ -177,6 +178,7 @@ impl<M: Copy, U: Copy> Lines<M, U> {
     }
 
     // Adds an asset, of which each line has `none`. Where that takes more places, it goes over all lines.
+    #[tactic(auto, using(crate::proofs::Limits::assets_fit))]
     pub(crate) fn add_asset(&mut self)
         requires { self.old.assets < most_assets }
         ensures added { self.new ≡ record self.old {

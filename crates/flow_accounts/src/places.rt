@@ -58,6 +58,7 @@ impl Accounts {
         self.holdings.units(account as usize - 1, asset)
     }
 
+    #[tactic(auto, using(crate::proofs::Limits::assets_are))]
     pub(crate) fn units_total(&self, asset: u16) -> i64
         requires { IsAsset self.now asset }
         ensures value { result ≡ total_units_of self.now asset }

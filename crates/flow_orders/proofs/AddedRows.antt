@@ -1,18 +1,18 @@
 -- Adding an order's trade to the imbalances, leg by leg.
-use Rattle.std.proofs.Common.{◌≡◌, ◌≢◌, ℕ, suc, ◌+◌, ◌^◌, ◌<◌, ◌≤◌, ℤ, pos, ◌+ℤ◌, ◌*ℤ◌, eqb, cond, List, [], ◌∷◌, length, take, get_or, set, refl, sym, ap, ◌∙◌, subst, ⊎_elim, arith}
-use Rattle.std.specs.Prelude.{unsigned_abs, All}
+use Rattle.std.proofs.Common.{◌≡◌, ◌≢◌, ℕ, suc, ◌+◌, ◌*◌, ◌^◌, ◌<◌, ◌≤◌, ℤ, pos, ◌+ℤ◌, ◌*ℤ◌, eqb, cond, List, [], ◌∷◌, length, take, get_or, set, refl, sym, ap, ◌∙◌, subst, ⊎_elim, arith}
+use Rattle.std.specs.Prelude.{unsigned_abs}
 use Rattle.std.proofs.Math.IntN.{zero-*ℤ}
 use Rattle.std.proofs.lemmas.Int.{ints}
 use Rattle.std.proofs.lemmas.Bool.{ne_eqb}
 use Rattle.std.proofs.lemmas.Bool.Decides.{eqb_tells}
-use Rattle.std.proofs.lemmas.List.{get_or-set_other, get_or-set_same, take_all, length-set, length-take}
-use Rattle.std.proofs.lemmas.List.Elements.{All-take}
+use Rattle.std.proofs.lemmas.List.{get_or-set_other, get_or-set_same, take_all, length-set}
 use Rattle.std.proofs.lemmas.List.Kept.{AllPairs-from_increasing}
 use Rattle.list_sums.specs.Sums.{int_sum_by}
 use Rattle.list_sums.proofs.Products.{unsigned_abs-add, unsigned_abs-mul_le}
-use Rattle.list_sums.proofs.SumLemmas.{int_sum_by_more, int_sum_by-zeros, unsigned_abs-int_sum_by}
+use Rattle.list_sums.proofs.SumLemmas.{int_sum_by_more, int_sum_by-zeros}
 use Rattle.weight_rows.specs.declared.entries.Entry.{Entry}
-use Rattle.weight_rows.specs.Rows.{most_weight, assets_of, IsWeightVector, weight_in, price_of}
+use Rattle.weight_rows.specs.Rows.{assets_of, IsWeightVector, weight_in, price_of}
+use Rattle.weight_rows.proofs.GrossWeights.{sum_of_first}
 use Rattle.weight_rows.proofs.RowLemmas.{asset_at, length-assets_of}
 use Rattle.demand_curve.specs.Demand.{most_rate}
 use Rattle.flow_orders.specs.Residuals.{AreNear, HasEach, IsTradeAdded}
@@ -76,11 +76,12 @@ all_added row rate old j new lawful past before = record {
   each = λ a inside. before.each a inside ∙ ap (λ z. price_of old a +ℤ z) (ap (int_sum_by (brought rate a)) (take_all j row past) ∙ all_bring rate a row (lawful_apart row lawful));
 }
 
-brought_small : (rate asset : ℕ) (e : Entry) → rate ≤ most_rate → unsigned_abs e.weight ≤ most_weight → unsigned_abs (brought rate asset e) ≤ 2 ^ 36
+-- a leg brings at most so much for each unit of its weight
+brought_small : (rate asset : ℕ) (e : Entry) → rate ≤ most_rate → unsigned_abs (brought rate asset e) ≤ unsigned_abs e.weight * 2 ^ 24
 unfolding brought
-brought_small rate asset e slow light =
+brought_small rate asset e slow =
     ⊎_elim
-    (λ here. rw here.0 (omega (arith, unsigned_abs-mul_le e.weight (pos rate) 4096 (2 ^ 24) light slow)))
+    (λ here. rw here.0 (unsigned_abs-mul_le e.weight (pos rate) (unsigned_abs e.weight) (2 ^ 24) (omega arith) slow))
     (λ other. rw other.0 (omega arith))
     (eqb_tells e.asset asset)
 
@@ -88,6 +89,5 @@ brought_small rate asset e slow light =
 pub on_the_way : (row : List Entry) (rate : ℕ) (old : List ℤ) (j : ℕ) (now : List ℤ) (asset : ℕ) → IsWeightVector row → rate ≤ most_rate → j ≤ length row → AreNear (2 ^ 60) old → asset < length old
     → AreAdded row rate old j now → unsigned_abs (price_of now asset) ≤ 2 ^ 61
 on_the_way row rate old j now asset lawful slow within near inside before =
-    let light : All (λ e. unsigned_abs (brought rate asset e) ≤ 2 ^ 36) (take j row) = All-take (λ e. unsigned_abs (brought rate asset e) ≤ 2 ^ 36) j row (λ k d there. brought_small rate asset (get_or row k d) slow (lawful.weights k d there).1) in
-    let sum = unsigned_abs-int_sum_by (brought rate asset) (2 ^ 36) (take j row) light in
-    rw (before.each asset inside) (omega (arith, unsigned_abs-add (price_of old asset) (int_sum_by (brought rate asset) (take j row)), near asset, sum, length-take j row, lawful.few, within))
+    let sum = sum_of_first (brought rate asset) (2 ^ 24) row j lawful (λ k d there. brought_small rate asset (get_or row k d) slow) in
+    rw (before.each asset inside) (omega (arith, unsigned_abs-add (price_of old asset) (int_sum_by (brought rate asset) (take j row)), near asset, sum))

@@ -1,6 +1,8 @@
--- The limit of live orders: its bounds, which proofs cite in place of its value.
+-- The limits of live orders and of assets that have a price: their bounds, which proofs cite in place of their values.
 use Rattle.std.proofs.Common.{◌≡◌, ◌≤◌, ◌^◌, refl, lit≤}
 use Rattle.flow_orders.specs.Orders.{most_orders}
+use Rattle.flow_orders.specs.Residuals.{most_prices}
+use Rattle.flow_orders.specs.declared.left_over.TheConstants.{MOST_PRICES}
 use Rattle.flow_orders.specs.declared.order.TheConstants.{MOST_ORDERS}
 
 -- a test of the number in code is one of the limit
@@ -18,3 +20,13 @@ orders_fit = lit≤ tt
 pub some_orders : 4 ≤ most_orders
 unfolding most_orders
 some_orders = lit≤ tt
+
+-- an array by assets has a place for each that may have a price
+pub prices_are : most_prices ≡ MOST_PRICES
+unfolding most_prices
+prices_are = refl
+
+-- what is summed over all assets has a width for so many: 2^99 grains of the exchange's money in a batch. A move names its asset in one byte
+pub prices_fit : most_prices ≤ 2 ^ 6
+unfolding most_prices
+prices_fit = lit≤ tt

@@ -8,7 +8,7 @@ use Rattle.std.proofs.lemmas.Bool.{cases_lt}
 use Rattle.std.proofs.lemmas.List.{get_or_past, length-map}
 use Rattle.std.proofs.lemmas.List.Elements.{All-map}
 use Rattle.flow_orders.specs.Orders.{Order, most_orders}
-use Rattle.flow_orders.proofs.Limits.{orders_fit}
+use Rattle.flow_orders.proofs.Limits.{orders_fit, prices_fit}
 use Rattle.flow_orders.proofs.TradeFacts.{before_fills}
 use Rattle.std.proofs.lemmas.List.FromFn.{length-range_with_len, get_or-range_with_len}
 use Rattle.std.proofs.lemmas.List.Sums.{sum_by-le}
@@ -71,4 +71,4 @@ module _ (prices : List ℤ) (ts : List Trade) (few : length ts ≤ most_orders)
       unsigned_abs-mul_le (price_of prices asset) (residual ts asset) (2 ^ 62) (2 ^ 26 + 2 ^ 30) (price_is_bounded prices bounded asset)
       (omega (arith, within asset at, bound_is_small (before_fills ts) (few_before ts few) (lawful_before ts lawful) asset)) in
       let all = unsigned_abs-int_sum_by (λ asset. price_of prices asset *ℤ residual ts asset) (2 ^ 62 * (2 ^ 26 + 2 ^ 30)) (range_with_len 0 (length prices)) each in
-      omega (arith, all, count, assets)
+      omega (arith, all, count, assets, prices_fit)

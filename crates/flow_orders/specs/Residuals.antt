@@ -3,8 +3,8 @@ use Rattle.std.specs.Prelude.{◌≡◌, ℕ, ◌<◌, ◌≤◌, ℤ, pos, ◌+
 use Rattle.weight_rows.specs.declared.entries.Entry.{Entry}
 use Rattle.weight_rows.specs.Rows.{weight_in}
 
--- how many assets may have a price
-abbrev pub most_prices : ℕ
+-- how many assets may have a price; proofs cite its bounds, and never its value
+unfoldable pub most_prices : ℕ
 most_prices = 64
 
 -- the imbalance of an asset, in a list with one for each

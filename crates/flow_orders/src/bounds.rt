@@ -1,7 +1,7 @@
 //! The bounds of an asset's imbalance in a book of orders.
 ghost use Rattle.std.specs.Prelude.{◌≡◌, ◌*◌, ◌^◌, ◌≤◌, ◌≤ℤ◌, pos, unsigned_abs, length};
 ghost use Rattle.std.specs.List.{sum_by};
-ghost use Rattle.weight_rows.specs.Rows.{weight_in};
+ghost use Rattle.weight_rows.specs.Rows.{most_weight, weight_in};
 ghost use Rattle.flow_orders.specs.Orders.{most_orders};
 ghost use Rattle.flow_orders.specs.Excess.{spread, steepness};
 
@@ -58,7 +58,7 @@ fn square_sum(orders: &[Order], asset: u16) -> u64
 // Returns the absolute weight of an asset in an order's weight vector.
 fn absolute_weight(order: &Order, asset: u16) -> u64
     ensures value { result ≡ unsigned_abs (weight_in order.now.row asset) }
-    ensures most { result ≤ 4096 }
+    ensures most { result ≤ most_weight }
 {
     order.row().weight_of(asset).unsigned_abs()
 }

@@ -1,5 +1,6 @@
 //! What an order reserves of money and of an asset.
 ghost use Rattle.std.specs.Prelude.{◌≡◌, ◌*◌, ◌≤◌, pos, unsigned_abs};
+ghost use Rattle.weight_rows.specs.Rows.{most_weight};
 ghost use Rattle.demand_curve.specs.Demand.{IsWithin};
 ghost use Rattle.demand_curve.specs.Numbers.{or_zero};
 ghost use Rattle.flow_orders.specs.Orders.{most_ticks, most_cap, price_of_ticks, sold};
@@ -19,7 +20,7 @@ pub fn money_need(high: i64, left: u64) -> i128
 /// Returns the units of an asset that an order reserves with this weight of it and a remaining quantity of `left` units:
 /// what it may still give away, or 0 if the weight isn't negative.
 pub fn unit_need(weight: i32, left: u64) -> i64
-    requires weight { unsigned_abs weight ≤ 4096 }
+    requires weight { unsigned_abs weight ≤ most_weight }
     requires left { left ≤ most_cap }
     ensures { result ≡ pos (sold weight * left) }
 {

@@ -1,18 +1,18 @@
 -- Adding a weight vector, times a factor, to sums, leg by leg.
-use Rattle.std.proofs.Common.{◌≡◌, ◌≢◌, ℕ, suc, ◌+◌, ◌^◌, ◌<◌, ◌≤◌, ℤ, pos, negsuc, ◌+ℤ◌, ◌*ℤ◌, eqb, cond, List, [], ◌∷◌, length, take, get_or, set, refl, sym, ap, ◌∙◌, subst, ⊎_elim, arith}
-use Rattle.std.specs.Prelude.{unsigned_abs, All}
+use Rattle.std.proofs.Common.{◌≡◌, ◌≢◌, ℕ, suc, ◌+◌, ◌*◌, ◌^◌, ◌<◌, ◌≤◌, ℤ, pos, negsuc, ◌+ℤ◌, ◌*ℤ◌, eqb, cond, List, [], ◌∷◌, length, take, get_or, set, refl, sym, ap, ◌∙◌, subst, ⊎_elim, arith}
+use Rattle.std.specs.Prelude.{unsigned_abs}
 use Rattle.std.proofs.Math.IntN.{zero-*ℤ}
 use Rattle.std.proofs.lemmas.Int.{ints}
 use Rattle.std.proofs.lemmas.Bool.{ne_eqb}
 use Rattle.std.proofs.lemmas.Bool.Decides.{eqb_tells}
-use Rattle.std.proofs.lemmas.List.{get_or_default, get_or-set_other, get_or-set_same, take_all, length-set, length-take}
-use Rattle.std.proofs.lemmas.List.Elements.{All-take}
+use Rattle.std.proofs.lemmas.List.{get_or_default, get_or-set_other, get_or-set_same, take_all, length-set}
 use Rattle.std.proofs.lemmas.List.Kept.{AllPairs-from_increasing}
 use Rattle.list_sums.specs.Sums.{int_sum_by}
 use Rattle.list_sums.proofs.Products.{unsigned_abs-add, unsigned_abs-mul_le}
-use Rattle.list_sums.proofs.SumLemmas.{int_sum_by_more, int_sum_by-zeros, unsigned_abs-int_sum_by}
+use Rattle.list_sums.proofs.SumLemmas.{int_sum_by_more, int_sum_by-zeros}
 use Rattle.weight_rows.specs.declared.entries.Entry.{Entry}
 use Rattle.weight_rows.specs.Rows.{most_weight, assets_of, IsWeightVector, weight_in, price_of}
+use Rattle.weight_rows.proofs.GrossWeights.{sum_of_first}
 use Rattle.weight_rows.proofs.RowLemmas.{asset_at, length-assets_of}
 use Rattle.weight_rows.proofs.RowLawProofs.{weights_are_small}
 use Rattle.flow_orders.specs.Residuals.{HasEach}
@@ -77,11 +77,12 @@ all_added row z old j new lawful past before = record {
   each = λ a inside. before.each a inside ∙ ap (λ z. price_of old a +ℤ z) (ap (int_sum_by (brought z a)) (take_all j row past) ∙ all_bring z a row (lawful_apart row lawful));
 }
 
-brought_small : (z : ℤ) (asset : ℕ) (e : Entry) → unsigned_abs z ≤ 2 ^ 86 → unsigned_abs e.weight ≤ most_weight → unsigned_abs (brought z asset e) ≤ 2 ^ 98
+-- a leg adds at most so much for each unit of its weight
+brought_small : (z : ℤ) (asset : ℕ) (e : Entry) → unsigned_abs z ≤ 2 ^ 86 → unsigned_abs (brought z asset e) ≤ unsigned_abs e.weight * 2 ^ 86
 unfolding brought
-brought_small z asset e slow light =
+brought_small z asset e slow =
     ⊎_elim
-    (λ here. rw here.0 (omega (arith, unsigned_abs-mul_le e.weight (z) 4096 (2 ^ 86) light slow)))
+    (λ here. rw here.0 (unsigned_abs-mul_le e.weight z (unsigned_abs e.weight) (2 ^ 86) (omega arith) slow))
     (λ other. rw other.0 (omega arith))
     (eqb_tells e.asset asset)
 
@@ -89,9 +90,8 @@ brought_small z asset e slow light =
 pub on_the_way : (row : List Entry) (z : ℤ) (old : List ℤ) (j : ℕ) (now : List ℤ) (asset : ℕ) → IsWeightVector row → unsigned_abs z ≤ 2 ^ 86 → j ≤ length row → AreSmall (2 ^ 120) old → asset < length old
     → AreAdded row z old j now → unsigned_abs (price_of now asset) ≤ 2 ^ 121
 on_the_way row z old j now asset lawful slow within near inside before =
-    let light : All (λ e. unsigned_abs (brought z asset e) ≤ 2 ^ 98) (take j row) = All-take (λ e. unsigned_abs (brought z asset e) ≤ 2 ^ 98) j row (λ k d there. brought_small z asset (get_or row k d) slow (lawful.weights k d there).1) in
-    let sum = unsigned_abs-int_sum_by (brought z asset) (2 ^ 98) (take j row) light in
-    rw (before.each asset inside) (omega (arith, unsigned_abs-add (price_of old asset) (int_sum_by (brought z asset) (take j row)), near asset inside, sum, length-take j row, lawful.few, within))
+    let sum = sum_of_first (brought z asset) (2 ^ 86) row j lawful (λ k d there. brought_small z asset (get_or row k d) slow) in
+    rw (before.each asset inside) (omega (arith, unsigned_abs-add (price_of old asset) (int_sum_by (brought z asset) (take j row)), near asset inside, sum))
 
 -- ---- the same of every two assets
 
@@ -169,11 +169,13 @@ all_squared row z old j new lawful past before = record {
       before.each a b ina inb ∙ ap (λ x. price_of (sums_of old a) b +ℤ x) (ap (int_sum_by (brings (pair row z b) a)) (take_all j row past) ∙ all_brings (pair row z b) a row none (lawful_apart row lawful));
 }
 
-brings_small : (row : List Entry) (z : ℤ) (b asset : ℕ) (e : Entry) → unsigned_abs z ≤ 2 ^ 74 → unsigned_abs (weight_in row b) ≤ most_weight → unsigned_abs e.weight ≤ most_weight → unsigned_abs (brings (pair row z b) asset e) ≤ 2 ^ 98
+brings_small : (row : List Entry) (z : ℤ) (b asset : ℕ) (e : Entry) → unsigned_abs z ≤ 2 ^ 74 → unsigned_abs (weight_in row b) ≤ most_weight → unsigned_abs (brings (pair row z b) asset e) ≤ unsigned_abs e.weight * 2 ^ 86
 unfolding brings pair
-brings_small row z b asset e small heavy light =
+brings_small row z b asset e small heavy =
     ⊎_elim
-    (λ here. rw here.0 (omega (arith, unsigned_abs-mul_le (weight_in row b) (e.weight *ℤ z) 4096 (2 ^ 86) heavy (omega (arith, unsigned_abs-mul_le e.weight z 4096 (2 ^ 74) light small)))))
+    (λ here. rw here.0 (
+    let leg = unsigned_abs-mul_le e.weight z (unsigned_abs e.weight) (2 ^ 74) (omega arith) small in
+    omega (arith, unsigned_abs-mul_le (weight_in row b) (e.weight *ℤ z) 4096 (unsigned_abs e.weight * 2 ^ 74) heavy leg)))
     (λ other. rw other.0 (omega arith))
     (eqb_tells e.asset asset)
 
@@ -182,6 +184,5 @@ pub square_on_the_way : (row : List Entry) (z : ℤ) (n : ℕ) (old : List (List
     → AreSquared row z n old j now → unsigned_abs (price_of (sums_of now a) b) ≤ 2 ^ 120
 square_on_the_way row z n old j now a b lawful small within near count ina inb before =
     let heavy = weights_are_small row b lawful in
-    let light : All (λ e. unsigned_abs (brings (pair row z b) a e) ≤ 2 ^ 98) (take j row) = All-take (λ e. unsigned_abs (brings (pair row z b) a e) ≤ 2 ^ 98) j row (λ k d there. brings_small row z b a (get_or row k d) small heavy (lawful.weights k d there).1) in
-    let sum = unsigned_abs-int_sum_by (brings (pair row z b) a) (2 ^ 98) (take j row) light in
-    rw (before.each a b ina inb) (omega (arith, unsigned_abs-add (price_of (sums_of old a) b) (int_sum_by (brings (pair row z b) a) (take j row)), near a b (omega (arith, ina, count)) (omega (arith, inb, count)), sum, length-take j row, lawful.few, within))
+    let sum = sum_of_first (brings (pair row z b) a) (2 ^ 86) row j lawful (λ k d there. brings_small row z b a (get_or row k d) small heavy) in
+    rw (before.each a b ina inb) (omega (arith, unsigned_abs-add (price_of (sums_of old a) b) (int_sum_by (brings (pair row z b) a) (take j row)), near a b (omega (arith, ina, count)) (omega (arith, inb, count)), sum))

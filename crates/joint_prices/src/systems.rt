@@ -52,6 +52,7 @@ impl Model for System {
 
 impl System {
     // The memory for so many assets, which is all that steps need.
+    #[tactic(auto, using(flow_orders::proofs::Limits::prices_fit))]
     pub(crate) fn new(alloc: Global, count: usize) -> Result<System, AllocError>
         requires { count ≤ most_prices }
         ensures { IfOk result (λ s. length s ≡ count) }
@@ -152,6 +153,7 @@ fn grid_of(alloc: Global, count: usize) -> Result<Vec<Sums>, AllocError>
 }
 
 // An upper triangle of zeros for so many assets, with its right sides.
+#[tactic(auto, using(flow_orders::proofs::Limits::prices_fit))]
 fn rows_of(alloc: Global, count: usize) -> Result<Vec<Row>, AllocError>
     requires { count ≤ most_prices }
     ensures { IfOk result (λ rows. IsTriangle rows.items × (length rows.items ≡ count)) }

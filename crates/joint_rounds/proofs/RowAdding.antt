@@ -6,13 +6,13 @@ use Rattle.std.proofs.Math.Nat.{div-le_of_le-mul}
 use Rattle.std.proofs.lemmas.Int.{ints, unsigned_abs-mul}
 use Rattle.std.proofs.lemmas.Bool.{ne_eqb}
 use Rattle.std.proofs.lemmas.Bool.Decides.{eqb_tells}
-use Rattle.std.proofs.lemmas.List.{get_or-set_other, get_or-set_same, take_all, length-set, length-take}
-use Rattle.std.proofs.lemmas.List.Elements.{All-take}
+use Rattle.std.proofs.lemmas.List.{get_or-set_other, get_or-set_same, take_all, length-set}
 use Rattle.list_sums.specs.Sums.{int_sum_by}
 use Rattle.list_sums.proofs.Products.{unsigned_abs-add, unsigned_abs-mul_le, *ℤ-assoc}
-use Rattle.list_sums.proofs.SumLemmas.{int_sum_by_more, int_sum_by-zeros, unsigned_abs-int_sum_by}
+use Rattle.list_sums.proofs.SumLemmas.{int_sum_by_more, int_sum_by-zeros}
 use Rattle.weight_rows.specs.declared.entries.Entry.{Entry}
 use Rattle.weight_rows.specs.Rows.{most_weight, IsWeightVector, IsPrice, weight_in, price_of, portfolio_price}
+use Rattle.weight_rows.proofs.GrossWeights.{sum_of_first}
 use Rattle.weight_rows.proofs.RowLemmas.{price_is_bounded}
 use Rattle.joint_prices.proofs.RowSums.{AreApart, lawful_apart}
 use Rattle.joint_prices.specs.Numbers.{scaled}
@@ -76,10 +76,11 @@ all_added row f old j new none lawful past before = record {
 abbrev pub IsLightBy : ℕ → (ℤ → ℤ) → Type 0
 IsLightBy bound f = (w : ℤ) → unsigned_abs w ≤ most_weight → unsigned_abs (f w) ≤ bound
 
+-- what f makes of each weight of a vector is at most so much for each unit of it
 abbrev pub IsLight : (ℤ → ℤ) → Type 0
-IsLight f = IsLightBy (2 ^ 108) f
+IsLight f = (w : ℤ) → unsigned_abs w ≤ most_weight → unsigned_abs (f w) ≤ unsigned_abs w * 2 ^ 96
 
-brings_small : (f : ℤ → ℤ) (asset : ℕ) (e : Entry) → IsLight f → unsigned_abs e.weight ≤ most_weight → unsigned_abs (brings f asset e) ≤ 2 ^ 108
+brings_small : (f : ℤ → ℤ) (asset : ℕ) (e : Entry) → IsLight f → unsigned_abs e.weight ≤ most_weight → unsigned_abs (brings f asset e) ≤ unsigned_abs e.weight * 2 ^ 96
 unfolding brings
 brings_small f asset e light weight =
     ⊎_elim
@@ -92,9 +93,8 @@ pub on_the_way : (row : List Entry) (f : ℤ → ℤ) (old : List ℤ) (j : ℕ)
     → AreAdded row f old j now → unsigned_abs (price_of now asset) ≤ 2 ^ 126 + 2 ^ 118
 unfolding AreAdded
 on_the_way row f old j now asset lawful light within near inside before =
-    let each : All (λ e. unsigned_abs (brings f asset e) ≤ 2 ^ 108) (take j row) = All-take (λ e. unsigned_abs (brings f asset e) ≤ 2 ^ 108) j row (λ k d there. brings_small f asset (get_or row k d) light (lawful.weights k d there).1) in
-    let sum = unsigned_abs-int_sum_by (brings f asset) (2 ^ 108) (take j row) each in
-    rw (before.each asset inside) (omega (arith, unsigned_abs-add (price_of old asset) (int_sum_by (brings f asset) (take j row)), near asset inside, sum, length-take j row, lawful.few, within))
+    let sum = sum_of_first (brings f asset) (2 ^ 96) row j lawful (λ k d there. brings_small f asset (get_or row k d) light (lawful.weights k d there).1) in
+    rw (before.each asset inside) (omega (arith, unsigned_abs-add (price_of old asset) (int_sum_by (brings f asset) (take j row)), near asset inside, sum))
 
 -- a weight times a factor, and its square
 pub row_by : ℤ → ℤ → ℤ
@@ -111,7 +111,7 @@ pub square_is : (z w : ℤ) → w *ℤ (w *ℤ z) ≡ square_by z w
 unfolding square_by
 square_is z w = refl
 
-pub light_row : (z : ℤ) → unsigned_abs z ≤ 2 ^ 96 → IsLight (λ w. w *ℤ z)
+pub light_row : (z : ℤ) → unsigned_abs z ≤ 2 ^ 96 → IsLightBy (2 ^ 108) (λ w. w *ℤ z)
 light_row z small w weight = omega (arith, unsigned_abs-mul_le w z 4096 (2 ^ 96) weight small)
 
 -- what is bought
@@ -125,11 +125,13 @@ light_square z small w weight =
 
 pub light_row_by : (z : ℤ) → unsigned_abs z ≤ 2 ^ 96 → IsLight (row_by z)
 unfolding row_by
-light_row_by z small = light_row z small
+light_row_by z small w weight = unsigned_abs-mul_le w z (unsigned_abs w) (2 ^ 96) (omega arith) small
 
 pub light_square_by : (z : ℤ) → unsigned_abs z ≤ 2 ^ 62 → IsLight (square_by z)
 unfolding square_by
-light_square_by z small w weight = omega (arith, light_square z small w weight)
+light_square_by z small w weight =
+    let first : unsigned_abs (w *ℤ z) ≤ 2 ^ 74 = omega (arith, unsigned_abs-mul_le w z 4096 (2 ^ 62) weight small) in
+    omega (arith, unsigned_abs-mul_le w (w *ℤ z) (unsigned_abs w) (2 ^ 74) (omega arith) first)
 
 pub row_added : (row : List Entry) (z : ℤ) (old : List ℤ) (j : ℕ) (new : List ℤ) → IsWeightVector row → length row ≤ j → AreAdded row (row_by z) old j new → IsAdded (λ w. w *ℤ z) row old new
 unfolding row_by

@@ -7,16 +7,20 @@ use Rattle.std.proofs.lemmas.Grind.{flat_map-append}
 use Rattle.std.proofs.lemmas.List.Elements.{All-head, All-tail}
 use Rattle.std.proofs.lemmas.Slice.Zip.{length-zip}
 use Rattle.weight_rows.specs.declared.entries.Entry.{Entry}
+use Rattle.weight_rows.specs.Rows.{most_entries}
+use Rattle.weight_rows.proofs.Limits.{legs_fit}
 use Rattle.wire_fields.specs.Numbers.{unsigned, signed}
 use Rattle.wire_fields.proofs.Encoding.{length-unsigned, length-signed}
 use Rattle.wire_records.specs.CommandRecords.{entry_fields}
 use Rattle.wire_records.specs.Fields.{Field, Unsigned, Signed, Bytes, field_bytes}
 use Rattle.wire_records.specs.Versions.{number_of}
+use Rattle.ticker_table.proofs.Limits.{tickers_fit}
 use Rattle.flow_accounts.specs.Balances.{Account, Credit, account_count}
 use Rattle.flow_accounts.specs.Lawful.{most_assets}
+use Rattle.flow_accounts.proofs.Limits.{assets_fit}
 use Rattle.flow_orders.specs.Orders.{Order}
 use Rattle.flow_orders.proofs.Limits.{orders_fit}
-use Rattle.market_rules.proofs.VersionLimits.{orders_within}
+use Rattle.market_rules.proofs.VersionLimits.{orders_within, tickers_are_assets}
 use Rattle.market_rules.specs.Market.{Market, IsConsistent}
 use Rattle.market_history.specs.Histories.{Empty, Kept}
 use Rattle.market_snapshot.specs.Checkpoints.{checkpoint_magic, ticks_of, account_fields, order_fields, checkpoint_bytes}
@@ -67,6 +71,7 @@ account_size a few =
     omega (
       arith,
       few,
+      assets_fit,
       more_signed 16 a.0.money (Unsigned 8 a.1.ticks ∷ fields),
       more_unsigned 8 a.1.ticks fields,
       each_most (λ (u : ℤ × ℕ). Signed 8 u.0 ∷ Unsigned 8 u.1 ∷ []) 16 units (λ i d inside. unit_size _),
@@ -84,7 +89,7 @@ accounts_size (a ∷ accounts) (c ∷ credits) each =
       accounts_size accounts credits (All-tail (λ (b : Account). length b.units ≤ most_assets) a accounts each),
     )
 
-order_size : (o : Order) → length o.row ≤ 16 → size (order_fields o) ≤ 149
+order_size : (o : Order) → length o.row ≤ most_entries → size (order_fields o) ≤ 149
 order_size o few =
     let row = flat_map entry_fields o.row in
     let from_count : List Field = Unsigned 1 (length o.row) ∷ row in
@@ -98,6 +103,7 @@ order_size o few =
     omega (
       arith,
       few,
+      legs_fit,
       more_unsigned 8 o.number from_account,
       more_unsigned 4 o.account from_low,
       more_signed 8 (ticks_of o.low) from_high,
@@ -131,6 +137,7 @@ checkpoint_short m is =
       orders_within m.version,
       orders_fit,
       is.tickers.few,
+      tickers_fit,
       is.one_each.tickers,
       is.one_each.prices,
       is.one_each.exchange,
@@ -144,7 +151,7 @@ checkpoint_short m is =
       more_unsigned 2 (length m.tickers) tickers,
       tickers_size m.tickers (λ i d inside. (is.tickers.valid i d inside).whole),
       more_unsigned 4 (account_count m.balances) lines,
-      accounts_size m.balances.accounts m.balances.credits (λ i d inside. omega (arith, is.one_each.accounts i d inside, is.one_each.tickers, is.tickers.few)),
+      accounts_size m.balances.accounts m.balances.credits (λ i d inside. omega (arith, is.one_each.accounts i d inside, is.one_each.tickers, is.tickers.few, tickers_are_assets)),
       more_signed 16 m.balances.totals.money (map (Signed 8) m.balances.totals.units),
       signs_size m.balances.totals.units,
       more_signed 16 m.exchange.money (map (Signed 8) m.exchange.units),

@@ -12,7 +12,7 @@ use Rattle.wire_records.proofs.Bodies.{number_unique}
 use Rattle.wire_records.proofs.Codes.{code_of-unique, code_of-byte}
 use Rattle.wire_records.proofs.Encoded.{length-encoding, encoding_unique, head_and_body}
 use Rattle.flow_orders.specs.Outcomes.{Clearing, Skipping, Outcome, Cleared, Skipped}
-use Rattle.flow_orders.proofs.Limits.{orders_fit}
+use Rattle.flow_orders.proofs.Limits.{orders_fit, prices_fit}
 use Rattle.journal_records.specs.Replies.{fields_of, answer_body, answer_record, IsAnswer, IsWithinLimits, most_reply_body}
 use Rattle.journal_records.specs.Bodies.{reply_tag, reply_body, fill_encoding, clearing_encoding, skipping_encoding, IsReply}
 use Rattle.journal_records.specs.Pairs.{IsPair, pair_encoding, plain_room, cleared_room, skipped_room}
@@ -150,5 +150,5 @@ plain_short reply = record { tag = omega (arith, tag_of_reply reply, reply_tag-m
 
 -- the record of a batch within the limits is within the limit
 pub batch_short : (number : ℕ) (outcome : Outcome) → IsAnswer (Batch number outcome) → IsWithinLimits outcome → IsRecord most_reply_body (answer_record (Batch number outcome))
-batch_short number (Cleared c) h few = record { tag = omega arith; body = omega (arith, ap length (body_of_clearing number c), clearing_size number c, h.1, few.0, few.1, orders_fit) }
+batch_short number (Cleared c) h few = record { tag = omega arith; body = omega (arith, ap length (body_of_clearing number c), clearing_size number c, h.1, few.0, few.1, orders_fit, prices_fit) }
 batch_short number (Skipped s) h few = record { tag = omega arith; body = omega (arith, ap length (body_of_skip number s), skipping_size number s, few) }

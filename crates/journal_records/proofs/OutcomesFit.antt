@@ -26,7 +26,7 @@ use Rattle.flow_orders.specs.Residuals.{most_prices}
 use Rattle.flow_orders.proofs.Book.{IsConsistent}
 use Rattle.flow_orders.proofs.Ranges.{sum_by-most, spread-most, steepness-most}
 use Rattle.flow_orders.proofs.WalkLaws.{admissible_skips_lower_the_dual}
-use Rattle.flow_orders.proofs.Limits.{orders_fit}
+use Rattle.flow_orders.proofs.Limits.{orders_fit, prices_fit}
 use Rattle.journal_records.specs.Bodies.{IsFill, IsClearing, IsSkipping}
 use Rattle.journal_records.proofs.FieldForms.{clearing_fits, skipping_fits}
 use Rattle.journal_records.specs.Laws.{AdmissibleOutcomesFit}
@@ -95,7 +95,7 @@ module _ (orders : List Order) (start : List ℤ) (each : All IsOrder orders) (f
       let asset = slice_index_or (range_with_len 0 n) k d in
       let within : asset < n = omega (arith, get_or-range_with_len 0 n k d (omega (arith, inside, length-range_with_len 0 n)), inside, length-range_with_len 0 n) in
       unsigned_abs-mul_le (price_of c.prices asset) (residual ts asset) (2 ^ 62) (2 ^ 31) (right.small asset (pos 0) within) (residual_most c right asset (omega (arith, within, right.one_price_each)))) in
-      omega (arith, all, length-range_with_len 0 n, right.one_price_each, assets)
+      omega (arith, all, length-range_with_len 0 n, right.one_price_each, assets, prices_fit)
 
   fill_count : (c : Clearing) → IsAdmissibleClearing orders start c → length c.fills ≡ length orders
   fill_count c right = sym (length-map c.fills (λ (f : Fill). f.order)) ∙ ap length right.numbers ∙ length-map orders (λ (o : Order). o.number)
@@ -107,7 +107,7 @@ module _ (orders : List Order) (start : List ℤ) (each : All IsOrder orders) (f
       let lost : Trade → ℕ = λ t. loss (terms_of t.order) t.traded (price_for c.prices t.order) in
       let residuals : length c.residuals ≡ length start = ap length right.residual_each ∙ length-map-range_with_len (residual ts) 0 (length start) in
       record {
-        count = omega (arith, right.one_price_each, assets);
+        count = omega (arith, right.one_price_each, assets, prices_fit);
         prices = λ k d inside. fits_in_8 (slice_index_or c.prices k d) (right.small k d inside);
         fill_count = omega (arith, fills, few, orders_fit);
         fills = fills_fit c.prices orders c.fills each numbered right.numbers right.roundings;
@@ -125,7 +125,7 @@ module _ (orders : List Order) (start : List ℤ) (each : All IsOrder orders) (f
 -- the assets of a valid walk are below their number
 walk_within : {P : Type 0} (n : ℕ) (unsettled : P → ℕ → Bool) (move : P → ℕ → P) (p : P) (walk : List ℕ) → n ≤ most_prices → IsLegal n unsettled move p walk → AreBytes walk
 walk_within n unsettled move p [] few legal = All-nil (λ b. b < 256)
-walk_within n unsettled move p (a ∷ walk) few legal = All-cons (λ b. b < 256) a walk (omega (arith, few, legal.0)) (walk_within n unsettled move (move p a) walk few legal.2)
+walk_within n unsettled move p (a ∷ walk) few legal = All-cons (λ b. b < 256) a walk (omega (arith, few, legal.0, prices_fit)) (walk_within n unsettled move (move p a) walk few legal.2)
 
 -- a price of a portfolio in range
 within_78 : (z : ℤ) → unsigned_abs z ≤ 2 ^ 78 → IsWithin (2 ^ 78) z

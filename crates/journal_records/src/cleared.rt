@@ -25,7 +25,7 @@ const HEAD: usize = 5;
 const NUMBERS: usize = 26;
 
 // Returns the length of the body, in bytes.
-#[tactic(auto, using(flow_orders::proofs::Limits::orders_fit))]
+#[tactic(auto, using(flow_orders::proofs::Limits::orders_fit, flow_orders::proofs::Limits::prices_fit))]
 fn body_len(assets: usize, orders: usize) -> usize
     requires assets { assets ≤ most_prices }
     requires orders { orders ≤ most_orders }
@@ -64,7 +64,7 @@ fn put_fills(out: &mut Vec<u8>, orders: &[Order], rates: &[u32])
 }
 
 // Appends the record of the reply.
-#[tactic(auto, using(flow_orders::proofs::Limits::orders_fit))]
+#[tactic(auto, using(flow_orders::proofs::Limits::orders_fit, flow_orders::proofs::Limits::prices_fit))]
 fn put_cleared(batch: u32, orders: &[Order], cleared: &Cleared, out: &mut Vec<u8>)
     requires one_rate_each { length cleared.now.rates ≡ length orders.now }
     requires one_residual_each { length cleared.now.residuals ≡ length cleared.now.prices }
@@ -96,7 +96,7 @@ fn put_cleared(batch: u32, orders: &[Order], cleared: &Cleared, out: &mut Vec<u8
 /// at most 197,658. The space for the complete entry is reserved first, and nothing fails after that. Fails with `Memory`
 /// only if `out` lacked the capacity, and then `out` is as before. The cost is that of the bytes, each of which is written
 /// once, and of a move of `out` if it has to grow.
-#[tactic(auto, using(flow_orders::proofs::Limits::orders_fit))]
+#[tactic(auto, using(flow_orders::proofs::Limits::orders_fit, flow_orders::proofs::Limits::prices_fit))]
 pub fn write_cleared(
     asked: &RecordView<'_>,
     batch: u32,
@@ -133,7 +133,7 @@ pub fn write_cleared(
 /// bytes end with that, this completes the entry. The space is reserved first, and nothing fails after that. Fails with
 /// `Memory` only if `out` lacked the capacity, and then `out` is as before. The cost is that of the bytes, and of a move of
 /// `out` if it has to grow.
-#[tactic(auto, using(flow_orders::proofs::Limits::orders_fit))]
+#[tactic(auto, using(flow_orders::proofs::Limits::orders_fit, flow_orders::proofs::Limits::prices_fit))]
 pub fn write_cleared_reply(
     batch: u32,
     orders: &[Order],

@@ -7,6 +7,7 @@ use Rattle.wire_records.specs.Versions.{IsOfVersion}
 use Rattle.wire_records.specs.declared.version.Version.{Version}
 use Rattle.wire_records.proofs.VersionLimits.{version_assets}
 use Rattle.ticker_table.specs.Tickers.{IsTicker, AreTickers}
+use Rattle.ticker_table.proofs.Limits.{some_tickers}
 use Rattle.ticker_table.proofs.Places.{AreTickers-push}
 use Rattle.order_text.specs.Lines.{commands_of, Leaves, Leave}
 use Rattle.order_text.proofs.ShortRows.{rows_are_short}
@@ -16,7 +17,7 @@ use Rattle.line_records.specs.Laws.{CommandsFit}
 
 -- the tickers that a command leaves are tickers
 still_tickers : (version : Version) (tickers : List (List ℕ)) (command : Command) (after : List (List ℕ)) → AreTickers tickers → Leaves version tickers command after → AreTickers after
-still_tickers version tickers command after are (inl added) = rw added.2 (AreTickers-push _ tickers added.0 (version_assets version) are added.1.1)
+still_tickers version tickers command after are (inl added) = rw added.2 (AreTickers-push _ tickers added.0 (omega (arith, version_assets version, some_tickers)) are added.1.1)
 still_tickers version tickers command after are (inr not) = rw not.1 are
 
 -- the tickers that several commands leave are tickers

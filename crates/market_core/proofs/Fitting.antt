@@ -15,7 +15,7 @@ use Rattle.wire_records.specs.CommandRecords.{tag_of}
 use Rattle.wire_records.specs.Versions.{IsOfVersion}
 use Rattle.wire_records.specs.declared.version.Version.{Version}
 use Rattle.flow_orders.specs.Outcomes.{Outcome, IsAdmissibleOutcome}
-use Rattle.market_rules.proofs.VersionLimits.{batches_within}
+use Rattle.market_rules.proofs.VersionLimits.{batches_within, batches_fit}
 use Rattle.market_rules.specs.Market.{Market, IsConsistent}
 use Rattle.market_rules.specs.Step.{ServesPlain}
 use Rattle.market_rules.proofs.Lawful.{consistent_is_lawful}
@@ -34,12 +34,12 @@ none_held m consistent asset past =
 pub consistent_is_near : (m : Market) → IsConsistent m → SumsAreNearTotals m.balances
 consistent_is_near m consistent = record {
   money =
-      let exchange : unsigned_abs m.exchange.money ≤ 2 ^ 123 = omega (arith, consistent.widths.exchange_money, consistent.few_batches, batches_within m.version) in
+      let exchange : unsigned_abs m.exchange.money ≤ 2 ^ 123 = omega (arith, consistent.widths.exchange_money, consistent.few_batches, batches_within m.version, batches_fit) in
       omega (arith, ints, consistent.totals None tt, exchange);
   units = λ asset. ⊎_elim
       (λ there.
       let most = consistent.widths.exchange_units asset (pos 0) (omega (arith, there, consistent.one_each.exchange)) in
-      let small : unsigned_abs (units_in m.exchange asset) ≤ 2 ^ 55 = omega (arith, most, consistent.few_batches, batches_within m.version) in
+      let small : unsigned_abs (units_in m.exchange asset) ≤ 2 ^ 55 = omega (arith, most, consistent.few_batches, batches_within m.version, batches_fit) in
       omega (arith, ints, consistent.totals (Some asset) there, small))
       (λ past. none_held m consistent asset past)
       (cases_lt asset (asset_count m.balances));

@@ -50,7 +50,7 @@ impl Market {
     }
 
     /// Returns how many batches were held, cleared or skipped: at most as many as the market's version allows.
-    #[tactic(auto, using(market_rules::proofs::VersionLimits::batches_within))]
+    #[tactic(auto, using(market_rules::proofs::VersionLimits::batches_within, market_rules::proofs::VersionLimits::batches_fit))]
     pub fn batches(&self) -> u32
         ensures value { result ≡ self.now.batches }
         ensures few { self.now.batches ≤ most_batches }
@@ -90,7 +90,7 @@ impl Market {
     /// The outcome is admissible for the live orders and the start prices, and fewer batches were held than the market's
     /// version allows. The call takes no memory and can't fail. It costs two passes over the legs of the live orders, however many accounts
     /// there are, and one over the orders and the legs of those that leave.
-    #[tactic(auto, using(market_rules::proofs::VersionLimits::batches_within))]
+    #[tactic(auto, using(market_rules::proofs::VersionLimits::batches_within, market_rules::proofs::VersionLimits::batches_fit))]
     pub fn settle(&mut self, outcome: &Outcome)
         requires right { MaySettle self.old outcome.now }
         requires more { self.old.batches < (limits_of self.old.version).batches }
@@ -105,7 +105,7 @@ impl Market {
         }
     }
 
-    #[tactic(auto, using(market_rules::proofs::VersionLimits::batches_within))]
+    #[tactic(auto, using(market_rules::proofs::VersionLimits::batches_within, market_rules::proofs::VersionLimits::batches_fit))]
     fn settle_cleared(&mut self, cleared: &Cleared)
         requires right { MaySettleAt self.old cleared.now }
         requires more { self.old.batches < (limits_of self.old.version).batches }

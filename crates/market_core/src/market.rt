@@ -301,6 +301,7 @@ impl Market {
     }
 
     #[inline(always)]
+    #[tactic(auto, using(market_rules::proofs::VersionLimits::tickers_are_assets))]
     fn add_asset(&mut self, ticker: &[u8]) -> Result<Reply, Memory>
         requires { length ticker.now ≡ 8 }
         ensures served { IfOk result (λ reply. ServesPlain self.old (AddAsset ticker.now) (Plain reply) self.new) }

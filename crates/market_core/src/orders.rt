@@ -173,6 +173,7 @@ impl Market {
     }
 
     // Returns whether there is an asset for each leg.
+    #[tactic(auto, using(weight_rows::proofs::Limits::legs_fit))]
     fn has_assets(&self, row: &RowView<'_>) -> bool
         requires { IsWeightVector row.now }
         ensures { IsTrue result ↔ All (λ e. IsAsset self.now.balances e.asset) row.now }
@@ -212,6 +213,7 @@ impl Market {
     }
 
     // Returns whether the account has free the units that an order of this weight vector and cap may sell.
+    #[tactic(auto, using(weight_rows::proofs::Limits::legs_fit))]
     fn are_units_free(&self, account: u32, row: &RowView<'_>, cap: u64) -> bool
         requires account { IsAccount self.now.balances account }
         requires cap { cap ≤ most_cap }

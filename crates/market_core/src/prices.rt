@@ -54,6 +54,7 @@ impl LastPrices {
     }
 
     // Returns the prices, by the assets' numbers.
+    #[tactic(auto, using(flow_accounts::proofs::Limits::assets_are))]
     pub(crate) fn as_slice(&self) -> &[i64]
         ensures value { result.now ≡ self.now }
         ensures few { length self.now ≤ most_assets }
@@ -62,6 +63,7 @@ impl LastPrices {
     }
 
     // Appends the price 0, of a new asset, which was never priced.
+    #[tactic(auto, using(flow_accounts::proofs::Limits::assets_fit))]
     pub(crate) fn add_asset(&mut self)
         requires { length self.old < most_assets }
         ensures { self.new ≡ self.old ++ pos 0 ∷ [] }
@@ -70,6 +72,7 @@ impl LastPrices {
     }
 
     // Replaces the prices by others, of as many assets.
+    #[tactic(auto, using(flow_accounts::proofs::Limits::assets_are))]
     pub(crate) fn set(&mut self, prices: &[i64])
         requires { length prices.now ≡ length self.old }
         ensures { self.new ≡ prices.now }
@@ -79,6 +82,7 @@ impl LastPrices {
 }
 
 // Reads the last cleared prices of a market's parts into their places.
+#[tactic(auto, using(flow_accounts::proofs::Limits::assets_are))]
 fn prices_of<P: MarketParts>(parts: &P) -> [i64; PLACES]
     requires shape { IsInShape (P.balances parts.now) (P.parts parts.now) }
     requires few { asset_count (P.balances parts.now) ≤ most_assets }

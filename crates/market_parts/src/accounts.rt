@@ -25,6 +25,7 @@ pub(crate) fn most_credit_of(version: Version) -> u64
 }
 
 // Returns whether all counts, totals, balances and credits are within their limits.
+#[tactic(auto, using(flow_accounts::proofs::Limits::assets_are))]
 pub(crate) fn are_consistent_balances<P: AccountParts>(parts: &P, most: u64) -> bool
     requires { most ≤ most_credit }
     ensures { IsTrue result ↔ AreConsistentBalances most (P.balances parts.now) }

@@ -32,6 +32,7 @@ pub(crate) fn are_consistent_assets<P: MarketParts>(parts: &P) -> bool
     true
 }
 
+#[tactic(auto, using(market_rules::proofs::VersionLimits::batches_fit))]
 fn is_consistent_asset<P: MarketParts>(parts: &P, asset: u16) -> bool
     requires shape { IsInShape (P.balances parts.now) (P.parts parts.now) }
     requires lawful { AreLawful (P.balances parts.now) }
@@ -56,6 +57,7 @@ fn is_price(price: i64) -> bool
 }
 
 // Returns whether the exchange can hold these units of an asset after this number of batches.
+#[tactic(auto, using(market_rules::proofs::VersionLimits::batches_fit))]
 fn is_within_batches(units: i64, batches: u32) -> bool
     requires { batches ≤ most_batches }
     ensures { IsTrue result ↔ (unsigned_abs units ≤ batches * 2 ^ 31) }

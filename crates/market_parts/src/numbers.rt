@@ -60,6 +60,7 @@ fn has_consistent_sums<P: MarketParts>(parts: &P) -> bool
 }
 
 // Returns whether the exchange can hold this money, in grains, after this number of batches.
+#[tactic(auto, using(market_rules::proofs::VersionLimits::batches_fit))]
 fn is_within_batches(money: i128, batches: u32) -> bool
     requires { batches ≤ most_batches }
     ensures { IsTrue result ↔ (unsigned_abs money ≤ batches * 2 ^ 99) }

@@ -26,7 +26,7 @@ use Rattle.fill_caps.proofs.Settled.{staying_are_live, numbers_ascend}
 use Rattle.fill_caps.proofs.SettledBalances.{settles, settled_units_count, exchange_units_count}
 use Rattle.market_rules.proofs.ByKind.{holds_totals, within_limits}
 use Rattle.wire_records.specs.Limits.{limits_of}
-use Rattle.market_rules.proofs.VersionLimits.{orders_within}
+use Rattle.market_rules.proofs.VersionLimits.{orders_within, tickers_are_assets, prices_are_assets}
 use Rattle.market_rules.proofs.ConsistentBalances.{live_still}
 use Rattle.market_rules.proofs.ConsistentOrders.{filter_few}
 use Rattle.market_rules.proofs.OwnNeeds.{needs-filter}
@@ -119,10 +119,10 @@ module _ (m : Market) (c : Clearing) (ts : List Trade) (is : trades_of m.orders 
       rw orders_before (subst (λ us. unsigned_abs (residual us asset) ≤ residual_bound m.orders asset) is bound)
 
   few_assets : asset_count m.balances ≤ most_assets
-  few_assets = omega (arith, consistent.tickers.few, consistent.one_each.tickers)
+  few_assets = omega (arith, consistent.tickers.few, consistent.one_each.tickers, tickers_are_assets)
 
   money_moves : unsigned_abs (residual_cost c.prices ts) < 2 ^ 99
-  money_moves = exchange_money_moves c.prices ts few lawful (omega (arith, prices_count, few_assets)) right.small (λ asset within. bounded asset (omega (arith, within, prices_count)))
+  money_moves = exchange_money_moves c.prices ts few lawful (omega (arith, prices_count, few_assets, prices_are_assets)) right.small (λ asset within. bounded asset (omega (arith, within, prices_count)))
 
   units_move : (asset : ℕ) → asset < asset_count m.balances → unsigned_abs (residual ts asset) < 2 ^ 31
   units_move asset is_asset = exchange_units_move c.prices ts few lawful asset (bounded asset is_asset)

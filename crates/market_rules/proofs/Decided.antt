@@ -9,7 +9,7 @@ use Rattle.std.proofs.lemmas.List.Elements.{All-cons, All-nil}
 use Rattle.std.proofs.Math.Seq.{drop-append_seam}
 use Rattle.std.proofs.lemmas.Slice.Eq.{bytes_eq-Decides}
 use Rattle.weight_rows.specs.declared.entries.Entry.{Entry}
-use Rattle.weight_rows.specs.Rows.{IsWeightVector, IsLawfulWeight, assets_of}
+use Rattle.weight_rows.specs.Rows.{most_entries, IsWeightVector, IsLawfulWeight, assets_of}
 use Rattle.ticker_table.specs.Tickers.{IsTicker, IsNameCharacter}
 use Rattle.ticker_table.proofs.Names.{IsTicker-from_parts}
 use Rattle.demand_curve.specs.Demand.{IsWithin}
@@ -132,7 +132,7 @@ either_row row =
     either_same
     (λ p. record { some = p.0.0; few = p.0.1; ascending = λ k inside. p.1.0 k (omega (arith, inside)) inside; weights = p.1.1 })
     (λ lawful. ((lawful.some, lawful.few), ((λ k below inside. lawful.ascending k inside), lawful.weights)))
-    (either_both (either_both (either_le 1 (length row)) (either_le (length row) 16))
+    (either_both (either_both (either_le 1 (length row)) (either_le (length row) most_entries))
     (either_both
     (either_below (length (assets_of row)) (λ k. k + 1 < length (assets_of row) → slice_index (assets_of row) k < slice_index (assets_of row) (k + 1)) (λ k.
     elim (either_le (k + 1 + 1) (length (assets_of row))) [

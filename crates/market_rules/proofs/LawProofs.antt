@@ -23,7 +23,7 @@ use Rattle.market_rules.specs.Market.{Market, IsConsistent, IsInTime, IsNoCredit
 use Rattle.wire_records.specs.declared.command.BodyFault.{BodyFault}
 use Rattle.market_rules.specs.Step.{NoOutcome, ServesPlain, FirstRefusal, Accepts, Serves, ServesRead, after_batch}
 use Rattle.market_rules.proofs.ByFirst.{Answers}
-use Rattle.market_rules.proofs.VersionLimits.{assets_within, legs_within, orders_within, batches_within}
+use Rattle.market_rules.proofs.VersionLimits.{assets_within, legs_within, orders_within, batches_within, tickers_are_assets, prices_are_assets}
 use Rattle.market_rules.specs.Laws.{MarketIsDetermined, JournalsDetermineTheMarket, OneRefusal, PlainCommandsHaveOneAnswer, PlainCommandsHoldNoBatch, StepsKeepConsistency, HeldIsDeposited, BatchesKeepTotals, SkipsOnlyEndOrders, OrdersEndInTime, VersionOneIsAsBefore, BatchesOfVersionOne, OrdersMayLeave, SkipsLowerTheDual, LargeBudgetsClear, ClearedBatchesAreOptimal, FillsKeepCaps, SequencesCompose, LimitsAgree, JournalsStayConsistent, JournalsHoldDeposits, LegalStepsNumberOne}
 use Rattle.std.proofs.lemmas.Int.{ints}
 use Rattle.std.proofs.lemmas.List.{length-map, get_or_past}
@@ -328,7 +328,7 @@ large_budgets_clear old budget number (Skipped s) new consistent large serves =
     absurd (omega (arith, large, lowers.1, bounded, right.whole, same_budget budget batch.budget batch.command_is))
 
 pub limits_agree : LimitsAgree
-limits_agree = record { assets = refl; prices = refl; ticks = refl; versions = λ version. record { assets = assets_within version; legs = legs_within version; orders = orders_within version; batches = batches_within version } }
+limits_agree = record { assets = tickers_are_assets; prices = prices_are_assets; ticks = refl; versions = λ version. record { assets = omega (arith, assets_within version, tickers_are_assets); legs = legs_within version; orders = orders_within version; batches = batches_within version } }
 
 module _ (Rule : BatchRule) where
   accepted_numbers_one : (m : Market) (c : Command) (a : Answer Outcome) (n : Market) → Accepts Rule m c a n → n.next_order ≤ m.next_order + 1

@@ -8,7 +8,7 @@ use Rattle.flow_accounts.specs.Lawful.{AreLawful, IsLawfulAccount, IsLawfulCredi
 use Rattle.flow_accounts.specs.Sums.{money_of_all, units_of_all}
 use Rattle.flow_orders.specs.Orders.{money_need, unit_need}
 use Rattle.market_rules.specs.Market.{Market, IsConsistent}
-use Rattle.market_rules.proofs.VersionLimits.{batches_within}
+use Rattle.market_rules.proofs.VersionLimits.{batches_within, tickers_are_assets, batches_fit}
 use Rattle.fill_caps.proofs.Joined.{OweLittle, owe_little, range_least, money_fits, units_fit}
 use Rattle.fill_caps.proofs.Needs.{own_not_negative}
 use Rattle.fill_caps.proofs.Totals.{money_by_account, units_by_account}
@@ -21,12 +21,12 @@ account_at b k d inside =
 
 module _ (m : Market) (consistent : IsConsistent m) where
   exchange_money : unsigned_abs m.exchange.money ≤ 2 ^ 123
-  exchange_money = omega (arith, consistent.widths.exchange_money, consistent.few_batches, batches_within m.version)
+  exchange_money = omega (arith, consistent.widths.exchange_money, consistent.few_batches, batches_within m.version, batches_fit)
 
   exchange_units : (asset : ℕ) → IsAsset m.balances asset → unsigned_abs (units_in m.exchange asset) ≤ 2 ^ 55
   exchange_units asset is_asset =
       let most = consistent.widths.exchange_units asset (pos 0) (omega (arith, is_asset, consistent.one_each.exchange)) in
-      omega (arith, most, consistent.few_batches, batches_within m.version)
+      omega (arith, most, consistent.few_batches, batches_within m.version, batches_fit)
 
   -- the credit line of an account is within its limits
   pub credit_line : (account : ℕ) → IsAccount m.balances account → IsLawfulCredit (asset_count m.balances) (credit_of m.balances account)
@@ -62,7 +62,7 @@ module _ (m : Market) (consistent : IsConsistent m) where
   pub consistent_is_lawful : AreLawful m.balances
   consistent_is_lawful = record {
     few_accounts = consistent.few_accounts;
-    few_assets = omega (arith, consistent.tickers.few, consistent.one_each.tickers);
+    few_assets = omega (arith, consistent.tickers.few, consistent.one_each.tickers, tickers_are_assets);
     accounts = λ k d inside.
         let there : IsAccount m.balances (k + 1) = (omega arith, omega (arith, inside)) in
         subst (IsLawfulAccount (asset_count m.balances)) (sym (account_at m.balances k d inside)) (record {

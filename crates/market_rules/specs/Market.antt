@@ -15,7 +15,7 @@ use Rattle.flow_orders.specs.declared.search.Search.{Search}
 use Rattle.fill_caps.specs.Covers.{CoversNeeds}
 
 -- the most batches that a market of any version holds, for which all widths are made
-abbrev pub most_batches : ℕ
+unfoldable pub most_batches : ℕ
 most_batches = 2 ^ 24
 
 -- the version; tickers in the order of the assets' numbers; balances, credits and totals; the exchange's account; the live orders, by

@@ -16,7 +16,10 @@ use Rattle.wire_records.specs.declared.version.Version.TheVariants.{One}
 use Rattle.flow_accounts.specs.Balances.{Account, Credit, asset_count}
 use Rattle.flow_accounts.specs.Lawful.{AreLawful, IsLawfulAccount, IsLawfulCredit, IsMoneyBalance, IsUnitBalance, IsMoneyTotal, IsUnitTotal}
 use Rattle.flow_orders.specs.Orders.{Order}
-use Rattle.market_rules.proofs.VersionLimits.{orders_within, batches_within}
+use Rattle.weight_rows.proofs.Limits.{legs_fit}
+use Rattle.ticker_table.proofs.Limits.{tickers_fit}
+use Rattle.flow_accounts.proofs.Limits.{assets_fit}
+use Rattle.market_rules.proofs.VersionLimits.{orders_within, batches_within, batches_fit}
 use Rattle.market_rules.specs.Market.{Market, IsConsistent, IsLiveOrder}
 use Rattle.market_rules.proofs.Lawful.{consistent_is_lawful}
 use Rattle.wire_records.specs.Versions.{number_of}
@@ -91,14 +94,14 @@ module _ (m : Market) (consistent : IsConsistent m) (next : m.next_order < 2 ^ 6
     cap = omega (arith, live.order.cap);
     filled = omega (arith, live.order.cap, live.order.left);
     last = last_fits;
-    count = omega (arith, live.order.row.few);
-    row = λ i d inside. entry_fits (get_or o.row i d) (omega (arith, live.assets i d inside, lawful.few_assets)) (live.order.row.weights i d inside);
+    count = omega (arith, live.order.row.few, legs_fit);
+    row = λ i d inside. entry_fits (get_or o.row i d) (omega (arith, live.assets i d inside, lawful.few_assets, assets_fit)) (live.order.row.weights i d inside);
   }
 
   pub consistent_fits : FitWidths (parts_of_market m)
   consistent_fits = record {
     version = number_fits m.version;
-    assets = omega (arith, consistent.tickers.few);
+    assets = omega (arith, consistent.tickers.few, tickers_fit);
     tickers = λ i d inside. (consistent.tickers.valid i d inside).whole;
     balances = record {
       count = omega (arith, consistent.few_accounts);
@@ -111,12 +114,12 @@ module _ (m : Market) (consistent : IsConsistent m) (next : m.next_order < 2 ^ 6
       total_units = λ i d inside. total_units_fit (get_or m.balances.totals.units i d) (lawful.total_units i d inside);
     };
     exchange = record {
-      money = near_16 m.exchange.money (omega (arith, consistent.widths.exchange_money, consistent.few_batches, batches_within m.version));
+      money = near_16 m.exchange.money (omega (arith, consistent.widths.exchange_money, consistent.few_batches, batches_within m.version, batches_fit));
       balances = consistent.one_each.exchange ∙ sym consistent.one_each.tickers;
-      units = λ i d inside. near_8 (get_or m.exchange.units i d) (omega (arith, consistent.widths.exchange_units i d inside, consistent.few_batches, batches_within m.version));
+      units = λ i d inside. near_8 (get_or m.exchange.units i d) (omega (arith, consistent.widths.exchange_units i d inside, consistent.few_batches, batches_within m.version, batches_fit));
     };
     next = omega (arith, next);
-    batches = omega (arith, consistent.few_batches, batches_within m.version);
+    batches = omega (arith, consistent.few_batches, batches_within m.version, batches_fit);
     price_each = consistent.one_each.prices ∙ sym consistent.one_each.tickers;
     prices = λ i d inside. near_8 (get_or m.last_prices i d) (consistent.prices i d inside);
     few = omega (arith, length-map m.orders read_order, consistent.few_orders, orders_within m.version);

@@ -38,6 +38,7 @@ fn put_entries(out: &mut Vec<u8>, entries: &[Entry])
 }
 
 // Appends an order.
+#[tactic(auto, using(weight_rows::proofs::Limits::legs_fit))]
 fn put_order(out: &mut Vec<u8>, order: &Order)
     requires { vec_len out.old + (53 + 6 * length order.now.row) ≤ vec_capacity out.old }
     ensures written { out.new.items ≡ out.old.items ++ order_encoding (read_order order.now) }

@@ -49,7 +49,8 @@ fn put_batches(out: &mut Vec<u8>, market: &Market)
 
 // Returns how many bytes precede the count of the orders.
 fn fields_size(market: &Market) -> usize
-    ensures { result ≡ 59 + 32 * length market.now.tickers + account_size (length market.now.tickers) * account_count market.now.balances }
+    ensures exact { result ≡ 59 + 32 * length market.now.tickers + account_size (length market.now.tickers) * account_count market.now.balances }
+    ensures most { result < 2 ^ 53 }
 {
     let assets = market.tickers().len();
     59 + 32 * usize::from(assets) + account_size(assets) * market.accounts().count() as usize

@@ -61,6 +61,7 @@ impl NeedSums {
     }
 
     /// Raises the sums by what an order reserves to trade so many units of its portfolio.
+    #[tactic(auto, using(weight_rows::proofs::Limits::legs_fit))]
     pub(crate) fn raise_for(&mut self, order: &Order, units: u64)
         requires room { places_per_order ≤ spare self.old.table }
         requires within { units ≤ remaining_quantity order.now }

@@ -17,6 +17,7 @@ use Rattle.wire_records.specs.CommandRecords.{IsCommand}
 use Rattle.wire_records.specs.Bodies.{IsRequest, IsEntry, FitsCommand}
 use Rattle.wire_records.proofs.FieldForms.{command_fits}
 use Rattle.ticker_table.specs.Tickers.{AreTickers}
+use Rattle.ticker_table.proofs.Limits.{tickers_fit}
 use Rattle.wire_records.specs.Versions.{IsOfVersion}
 use Rattle.wire_records.specs.declared.version.Version.{Version}
 use Rattle.order_text.specs.Lines.{whole_of, signed_of, padded, asset_named, IsEntryOf, AreWeights, Asset, Small, Number, Signed, HasAt, order_members, AsksLadder, Asked, Alone, OfLadder, commands_of, LineAsks, ObjectAsks}
@@ -101,12 +102,12 @@ signed_within d z h e = by (as_number d) refl e
 
 -- an asset that is named is one of the tickers
 asset_fits : (tickers : List (List ℕ)) (text : List ℕ) (asset : ℕ) → AreTickers tickers → asset_named tickers text ≡ Some asset → IsUnsigned 2 asset
-asset_fits tickers text asset are is = omega (arith, are.few, named_below tickers text asset is)
+asset_fits tickers text asset are is = omega (arith, are.few, tickers_fit, named_below tickers text asset is)
 
 -- a leg that a member is
 entry_fits : (tickers : List (List ℕ)) (members : Members) (e : Entry) → AreTickers tickers → IsEntryOf tickers members e → IsEntry e
 entry_fits tickers no_members e are is = absurd is
-entry_fits tickers (member key value others) e are (inl is) = (omega (arith, are.few, named_below tickers key e.asset is.0), is.2)
+entry_fits tickers (member key value others) e are (inl is) = (omega (arith, are.few, tickers_fit, named_below tickers key e.asset is.0), is.2)
 entry_fits tickers (member key value members) e are (inr is) = entry_fits tickers members e are is
 
 row_fits : (tickers : List (List ℕ)) (members : Members) (row : List Entry) → AreTickers tickers → AreWeights tickers members row → All IsEntry row

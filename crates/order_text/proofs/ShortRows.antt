@@ -6,6 +6,7 @@ use Rattle.std.proofs.lemmas.List.Quantifiers.{position-Some}
 use Rattle.weight_rows.specs.declared.entries.Entry.{Entry}
 use Rattle.serde_json.specs.Data.{Data, Members, no_members, member}
 use Rattle.ticker_table.specs.Tickers.{AreTickers}
+use Rattle.ticker_table.proofs.Limits.{tickers_fit}
 use Rattle.wire_records.specs.Commands.{Command, Place}
 use Rattle.wire_records.specs.CommandRecords.{HasShortRow}
 use Rattle.wire_records.specs.declared.version.Version.{Version}
@@ -45,10 +46,10 @@ few_entries tickers members row are =
 pub row_is_short : (version : Version) (tickers : List (List ℕ)) (d : Data) (command : Command) → AreTickers tickers → ObjectAsks version tickers d (Alone command) → HasShortRow command
 row_is_short version tickers d (Place None request) are asks =
     let weights = (weights_of tickers d request (fits_asked version tickers d (Place None request) asks).0).2 in
-    omega (arith, are.few, few_entries tickers weights.0 request.row weights.2)
+    omega (arith, are.few, tickers_fit, few_entries tickers weights.0 request.row weights.2)
 row_is_short version tickers d (Place (Some last) request) are asks =
     let weights = (weights_of tickers d request (rest_of tickers d (codes "last", Small last) (order_members request) (fits_asked version tickers d (Place (Some last) request) asks).0)).2 in
-    omega (arith, are.few, few_entries tickers weights.0 request.row weights.2)
+    omega (arith, are.few, tickers_fit, few_entries tickers weights.0 request.row weights.2)
 row_is_short version tickers d command are asks = tt
 
 -- the weight vectors of a ladder's commands fit their records
@@ -63,7 +64,7 @@ ladder_row tickers d commands asks = (has_ladder tickers d commands asks).1.1.1.
 pub ladder_row_is_short : (tickers : List (List ℕ)) (d : Data) (commands : List Command) → AreTickers tickers → (asks : AsksLadder tickers d commands) → length asks.row ≤ 165
 ladder_row_is_short tickers d commands are asks =
     let weights = (ladder_row tickers d commands asks).2 in
-    omega (arith, are.few, few_entries tickers weights.0 asks.row weights.2)
+    omega (arith, are.few, tickers_fit, few_entries tickers weights.0 asks.row weights.2)
 
 -- the weight vectors of all commands that a line asks for fit their records
 pub rows_are_short : (version : Version) (tickers : List (List ℕ)) (line : List ℕ) (asked : Asked) → AreTickers tickers → LineAsks version tickers line asked → All HasShortRow (commands_of asked)

@@ -160,6 +160,7 @@ pub(crate) fn row_at(
 }
 
 // Reads an order without a last batch.
+#[tactic(auto, using(ticker_table::proofs::Limits::tickers_fit))]
 fn place_order(alloc: Global, tickers: &TickerTable, value: &Value) -> Result<Command, LineFault>
     ensures { AnswersOrder tickers.now (view value.now) result }
 {
@@ -181,6 +182,7 @@ fn place_order(alloc: Global, tickers: &TickerTable, value: &Value) -> Result<Co
 }
 
 // Reads an order with a last batch.
+#[tactic(auto, using(ticker_table::proofs::Limits::tickers_fit))]
 fn place_until(alloc: Global, tickers: &TickerTable, value: &Value) -> Result<Command, LineFault>
     ensures { IsUntil tickers.now (view value.now) result }
 {

@@ -68,6 +68,7 @@ fn points_at(alloc: Global, value: &Value) -> Result<PointList, LineFault>
 }
 
 /// Returns the commands of the ladder that an object asks for.
+#[tactic(auto, using(ticker_table::proofs::Limits::tickers_fit))]
 pub(crate) fn ladder(
     alloc: Global,
     tickers: &TickerTable,

@@ -150,6 +150,7 @@ fn is_raised(order: &Order, demand: Roundings, residuals: &[i64]) -> bool
 }
 
 // Returns whether one unit more of a portfolio makes the sum of absolute imbalances smaller.
+#[tactic(auto, using(weight_rows::proofs::Limits::legs_fit))]
 fn lessens(row: &WeightRow, residuals: &[i64]) -> bool
     requires places { IsPricedBy row.now residuals.now }
     requires near { AreNear (2 ^ 52) residuals.now }

@@ -82,7 +82,7 @@ fn cleared_of(alloc: Global, gap: i128, list: &str, rates: Vec<u32>) -> Option<C
     })
 }
 
-#[tactic(auto, using(flow_orders::proofs::Limits::orders_are))]
+#[tactic(auto, using(flow_orders::proofs::Limits::orders_are, flow_orders::proofs::Limits::prices_are))]
 fn write_batch(
     asked: &RecordView<'_>,
     batch: u32,

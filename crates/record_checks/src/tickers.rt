@@ -15,6 +15,7 @@ fn put_added(added: Result<u16, TickerFault>, told: &mut Told) {
 }
 
 // Adds a ticker to the table, or to one of at most so many.
+#[tactic(auto, using(ticker_table::proofs::Limits::tickers_are))]
 fn add(table: &mut TickerTable, ticker: [u8; 8], most: Option<u16>) -> Result<u16, TickerFault> {
     match most {
         Some(most) => table.add_within(ticker, most.min(MOST_TICKERS)),

@@ -5,7 +5,10 @@ use Rattle.std.proofs.Math.Seq.{take-set-lt}
 use Rattle.std.proofs.lemmas.Bool.{cases_lt}
 use Rattle.std.proofs.lemmas.List.{take_more, length-take-le, get_or-take, get_or-set_other, get_or-replicate, get_or_past, length-replicate, length-set}
 use Rattle.flow_accounts.specs.Balances.{Account, units_in, with_asset}
+use Rattle.flow_accounts.specs.Lawful.{most_assets}
 use Rattle.flow_accounts.specs.Places.{HasSpare}
+use Rattle.flow_accounts.specs.declared.TheConstants.{MOST_ASSETS}
+use Rattle.flow_accounts.proofs.Limits.{assets_are}
 use Rattle.residual_account.specs.declared.ResidualAccount.TheInside.{Inside}
 use Rattle.residual_account.specs.Places.{account_in, IsKept}
 
@@ -31,13 +34,13 @@ units_read a b asset kept view_is there =
 zero_at : (n k : ℕ) → get_or (replicate n (pos 0)) k (pos 0) ≡ pos 0
 zero_at n k = ⊎_elim (λ below. get_or-replicate n k (pos 0) (pos 0) below) (λ past. get_or_past (replicate n (pos 0)) k (pos 0) (rw length-replicate past)) (cases_lt k n)
 
-pub none_used : HasSpare 0 (replicate 64 (pos 0))
-none_used = record { places_made = refl; zero_beyond = λ k beyond. zero_at 64 k }
+pub none_used : HasSpare 0 (replicate MOST_ASSETS (pos 0))
+none_used = record { places_made = sym assets_are; zero_beyond = λ k beyond. zero_at MOST_ASSETS k }
 
 -- an asset is added
-asset_shown : (a : Inside) → IsKept a → length (account_in a).units < 64 → StandsFor (record a { assets = a.assets + 1 }) (with_asset (account_in a))
+asset_shown : (a : Inside) → IsKept a → length (account_in a).units < most_assets → StandsFor (record a { assets = a.assets + 1 }) (with_asset (account_in a))
 asset_shown a kept few =
-    let room : a.assets < 64 = subst (λ n. n < 64) (assets_in a kept) few in
+    let room : a.assets < most_assets = subst (λ n. n < most_assets) (assets_in a kept) few in
     let made = kept.places.places_made in
     let more : take (a.assets + 1) a.units ≡ take a.assets a.units ++ pos 0 ∷ [] =
     take_more a.units a.assets (pos 0) (omega arith) ∙ ap (λ z. take a.assets a.units ++ z ∷ []) (kept.places.zero_beyond a.assets (omega arith)) in
@@ -46,9 +49,9 @@ asset_shown a kept few =
       shown = ap (λ units. record { money = a.money; units = units }) more;
     }
 
-pub asset_added : (a : Inside) (b : Account) → IsKept a → account_in a ≡ b → length b.units < 64 → StandsFor (record a { assets = a.assets + 1 }) (with_asset b)
+pub asset_added : (a : Inside) (b : Account) → IsKept a → account_in a ≡ b → length b.units < most_assets → StandsFor (record a { assets = a.assets + 1 }) (with_asset b)
 asset_added a b kept view_is few =
-    let P : Account → Type 0 = λ b. length b.units < 64 → StandsFor (record a { assets = a.assets + 1 }) (with_asset b) in
+    let P : Account → Type 0 = λ b. length b.units < most_assets → StandsFor (record a { assets = a.assets + 1 }) (with_asset b) in
     subst P view_is (λ few. asset_shown a kept few) few
 
 -- the account after new money and new units of an asset

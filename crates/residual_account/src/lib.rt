@@ -77,6 +77,7 @@ impl ResidualAccount {
     }
 
     /// Adds an asset, of which the exchange holds no unit. Its number is the count of assets before.
+    #[tactic(auto, using(flow_accounts::proofs::Limits::assets_fit))]
     pub fn add_asset(&mut self)
         requires { length self.old.units < most_assets }
         ensures { self.new ≡ with_asset self.old }
@@ -100,6 +101,7 @@ impl ResidualAccount {
     }
 
     /// Returns the units of an asset that the exchange holds. They may be negative.
+    #[tactic(auto, using(flow_accounts::proofs::Limits::assets_are))]
     pub fn units(&self, asset: u16) -> i64
         requires { asset < length self.now.units }
         ensures { result ≡ units_in self.now asset }
@@ -108,6 +110,7 @@ impl ResidualAccount {
     }
 
     /// Adds units of one asset, and money in grains. Either may be negative; nothing else changes.
+    #[tactic(auto, using(flow_accounts::proofs::Limits::assets_are))]
     pub fn add(&mut self, asset: u16, units: i64, money: i128)
         requires asset { asset < length self.old.units }
         requires units_fit { FitsSigned w64 (units_in self.old asset +ℤ units) }

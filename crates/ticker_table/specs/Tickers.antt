@@ -19,11 +19,11 @@ pub record IsTicker (bytes : List ℕ) : Type 0 where
 abbrev pub HasNumber : List (List ℕ) → ℕ → List ℕ → Type 0
 HasNumber tickers number ticker = slice_get tickers number ≡ Some ticker
 
--- the most tickers of a table
-abbrev pub ticker_limit : ℕ
+-- the most tickers of a table; proofs cite its bounds, and never its value
+unfoldable pub ticker_limit : ℕ
 ticker_limit = 64
 
--- what a table may hold: valid tickers, each once, and at most 64
+-- what a table may hold: valid tickers, each once, and no more than the limit
 pub record AreTickers (tickers : List (List ℕ)) : Type 0 where
   pub valid : All IsTicker tickers
   pub distinct : AllPairs ◌≢◌ tickers

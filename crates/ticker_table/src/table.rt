@@ -57,6 +57,7 @@ impl TickerTable {
     }
 
     /// Returns how many tickers there are, at most [`MOST_TICKERS`].
+    #[tactic(auto, using(crate::proofs::Limits::tickers_fit))]
     pub fn len(&self) -> u16
         ensures count { result ≡ length self.now }
         ensures tickers { AreTickers self.now }
@@ -73,6 +74,7 @@ impl TickerTable {
     }
 
     /// Returns the number of this ticker, or `None` if it isn't in the table.
+    #[tactic(auto, using(crate::proofs::Limits::tickers_fit))]
     pub fn find(&self, ticker: &[u8; 8]) -> Option<u16>
         ensures found { IfSome result (λ number. HasNumber self.now number ticker.now) }
         ensures exact { (number : ℕ) → HasNumber self.now number ticker.now → result ≡ Some number }
@@ -85,6 +87,7 @@ impl TickerTable {
     /// Adds a ticker and returns its number: how many tickers there were before. An `Err` leaves the table as it was.
     ///
     /// A ticker that isn't valid is refused first, then one that is in the table already, and then any if the table is full.
+    #[tactic(auto, using(crate::proofs::Limits::tickers_are))]
     pub fn add(&mut self, ticker: [u8; 8]) -> Result<u16, TickerFault>
         ensures added { IfOk result (λ number. (number ≡ length self.old) × (self.new ≡ self.old ++ ticker ∷ [])) }
         ensures addable { OnOk result (IsAddable ticker_limit self.old ticker) }

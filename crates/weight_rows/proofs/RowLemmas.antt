@@ -6,10 +6,11 @@ use Rattle.std.proofs.lemmas.Int.{to_z-of_z, fits_signed_from_abs}
 use Rattle.std.proofs.lemmas.Bool.{eq-eqb, cases_lt}
 use Rattle.std.proofs.lemmas.List.{get_or-map, get_or_past, length-map, at_drop_more, at_drop_all}
 use Rattle.weight_rows.specs.declared.entries.Entry.{Entry}
-use Rattle.weight_rows.specs.Rows.{most_weight, assets_of, IsWeightVector, weight_in, IsPrice, price_of, portfolio_price}
+use Rattle.weight_rows.specs.Rows.{assets_of, IsWeightVector, weight_in, IsPrice, price_of, portfolio_price}
 use Rattle.weight_rows.specs.RowLaws.{PriceIsBounded}
-use Rattle.list_sums.proofs.Products.{unsigned_abs-add, unsigned_abs-mul_le}
-use Rattle.list_sums.proofs.SumLemmas.{int_sum_by_more, unsigned_abs-int_sum_by}
+use Rattle.list_sums.proofs.Products.{unsigned_abs-mul_le}
+use Rattle.list_sums.proofs.SumLemmas.{int_sum_by_more}
+use Rattle.weight_rows.proofs.GrossWeights.{IsWeighed, sum_of_first, sum_of_last, sum_of_all}
 
 -- ---- the leg at a place
 -- what a read past the end of a list gives
@@ -28,21 +29,32 @@ price_small prices asset range =
     ⊎_elim (λ inside. range asset (pos 0) inside) (λ past. rw (get_or_past prices asset (pos 0) past) (omega arith)) (cases_lt asset (length prices))
 
 -- ---- the price
--- the sum of the first i legs' prices
-pub record IsPriceBefore (row : List Entry) (prices : List ℤ) (i : ℕ) (total : ℤ) : Type 0 where
-  pub value : total ≡ portfolio_price (take i row) prices
-  pub bound : unsigned_abs total ≤ i * 2 ^ 74
+entry_price_small : (prices : List ℤ) (e : Entry) → All IsPrice prices → unsigned_abs (e.weight *ℤ price_of prices e.asset) ≤ unsigned_abs e.weight * 2 ^ 62
+entry_price_small prices e range =
+    unsigned_abs-mul_le e.weight (price_of prices e.asset) (unsigned_abs e.weight) (2 ^ 62) (omega arith) (price_small prices e.asset range)
 
-entry_price_small : (prices : List ℤ) (e : Entry) → All IsPrice prices → unsigned_abs e.weight ≤ most_weight → unsigned_abs (e.weight *ℤ price_of prices e.asset) ≤ 2 ^ 74
-entry_price_small prices e range weight =
-    unsigned_abs-mul_le e.weight (price_of prices e.asset) most_weight (2 ^ 62) weight (price_small prices e.asset range)
+-- what each leg costs is at most 2^62 for each unit of its weight
+costs_weighed : (row : List Entry) (prices : List ℤ) → All IsPrice prices → IsWeighed (λ e. e.weight *ℤ price_of prices e.asset) (2 ^ 62) row
+costs_weighed row prices range k d within = entry_price_small prices (get_or row k d) range
 
 -- a price is at most 2^78 in absolute value
 pub price_is_bounded : PriceIsBounded
 unfolding portfolio_price
-price_is_bounded row prices lawful range =
-    let sum = unsigned_abs-int_sum_by (λ (e : Entry). e.weight *ℤ price_of prices e.asset) (2 ^ 74) row (λ k d within. entry_price_small prices (get_or row k d) range (lawful.weights k d within).1) in
-    omega (arith, sum, lawful.few)
+price_is_bounded row prices lawful range = sum_of_all (λ e. e.weight *ℤ price_of prices e.asset) (2 ^ 62) row lawful (costs_weighed row prices range)
+
+-- and so is what the first legs cost, or the last ones
+first_legs_cost : (row : List Entry) (prices : List ℤ) (i : ℕ) → IsWeightVector row → All IsPrice prices → unsigned_abs (portfolio_price (take i row) prices) ≤ 2 ^ 78
+unfolding portfolio_price
+first_legs_cost row prices i lawful range = sum_of_first (λ e. e.weight *ℤ price_of prices e.asset) (2 ^ 62) row i lawful (costs_weighed row prices range)
+
+pub last_legs_cost : (row : List Entry) (prices : List ℤ) (i : ℕ) → IsWeightVector row → All IsPrice prices → unsigned_abs (portfolio_price (drop i row) prices) ≤ 2 ^ 78
+unfolding portfolio_price
+last_legs_cost row prices i lawful range = sum_of_last (λ e. e.weight *ℤ price_of prices e.asset) (2 ^ 62) row i lawful (costs_weighed row prices range)
+
+-- the sum of the first i legs' prices
+pub record IsPriceBefore (row : List Entry) (prices : List ℤ) (i : ℕ) (total : ℤ) : Type 0 where
+  pub value : total ≡ portfolio_price (take i row) prices
+  pub bound : unsigned_abs total ≤ 2 ^ 78
 
 pub IsPriceBefore-none : (row : List Entry) (prices : List ℤ) → IsPriceBefore row prices 0 (pos 0)
 unfolding portfolio_price
@@ -56,11 +68,9 @@ pub record HasGrown (row : List Entry) (prices : List ℤ) (i : ℕ) (total part
 pub price_grows : (row : List Entry) (prices : List ℤ) (i : ℕ) (total part : ℤ) (d : Entry) → IsWeightVector row → All IsPrice prices → i < length row → FitsSigned w128 part → IsPriceBefore row prices i total → part ≡ (get_or row i d).weight *ℤ price_of prices (get_or row i d).asset → HasGrown row prices i total part
 unfolding portfolio_price
 price_grows row prices i total part d lawful range within part_fits before is =
-    let e = get_or row i d in
-    let small = entry_price_small prices e range (lawful.weights i d within).1 in
-    let bound : unsigned_abs (total +ℤ part) ≤ (i + 1) * 2 ^ 74 = rw is (omega (arith, unsigned_abs-add total (e.weight *ℤ price_of prices e.asset), small, before.bound)) in
-    let fits : FitsSigned w128 (total +ℤ part) = fits_signed_from_abs w128 _ (omega (arith, bound, lawful.few, within)) in
     let value : total +ℤ part ≡ portfolio_price (take (i + 1) row) prices = rw (is, before.value) (sym (int_sum_by_more (λ (e : Entry). e.weight *ℤ price_of prices e.asset) row i d within)) in
+    let bound : unsigned_abs (total +ℤ part) ≤ 2 ^ 78 = rw value (first_legs_cost row prices (i + 1) lawful range) in
+    let fits : FitsSigned w128 (total +ℤ part) = fits_signed_from_abs w128 _ (omega (arith, bound)) in
     let same : to_z w128 (of_z w128 part) ≡ part = to_z-of_z w128 part part_fits in
     let sum : to_z w128 (of_z w128 (total +ℤ part)) ≡ total +ℤ part = to_z-of_z w128 (total +ℤ part) fits in
     record { fits = rw same fits; next = rw (same, sum) (record { value = value; bound = bound }) }

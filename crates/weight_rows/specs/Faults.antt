@@ -23,14 +23,14 @@ IsConsistentAt row place = IsAscendingAt row place × HasLawfulWeightAt row plac
 abbrev pub IsConsistentBefore : List Entry → ℕ → Type 0
 IsConsistentBefore row place = (k : ℕ) → k < place → IsConsistentAt row k
 
--- in a list of at most 16 legs this is the first place that isn't consistent, and its asset doesn't ascend
+-- in a list of no more than the most legs this is the first place that isn't consistent, and its asset doesn't ascend
 pub record IsUnorderedFirstAt (row : List Entry) (place : ℕ) : Type 0 where
   pub few : length row ≤ most_entries
   pub within : place < length row
   pub before : IsConsistentBefore row place
   pub unordered : ¬ IsAscendingAt row place
 
--- in a list of at most 16 legs this is the first place that isn't consistent; its asset ascends, but its weight isn't in range
+-- in a list of no more than the most legs this is the first place that isn't consistent; its asset ascends, but its weight isn't in range
 pub record IsBadWeightFirstAt (row : List Entry) (place : ℕ) : Type 0 where
   pub few : length row ≤ most_entries
   pub within : place < length row

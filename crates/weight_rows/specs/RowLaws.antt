@@ -4,7 +4,7 @@ use Rattle.std.specs.List.{range_with_len}
 use Rattle.weight_rows.specs.declared.entries.Entry.{Entry}
 use Rattle.weight_rows.specs.declared.faults.RowFault.{RowFault}
 use Rattle.list_sums.specs.Sums.{int_sum_by}
-use Rattle.weight_rows.specs.Rows.{most_entries, most_weight, assets_of, IsWeightVector, weight_in, IsPrice, price_of, IsPricedBy, portfolio_price}
+use Rattle.weight_rows.specs.Rows.{most_entries, most_weight, gross_weight, most_gross_weight, assets_of, IsWeightVector, weight_in, IsPrice, price_of, IsPricedBy, portfolio_price}
 use Rattle.weight_rows.specs.Faults.{IsConsistentBefore, IsFaultOf, IsFaultAt, HasNoFaultBefore}
 
 -- at prices of at most 2^62 grains the price of a weight vector is at most 2^78 grains, in absolute value
@@ -37,16 +37,20 @@ NamedAssetsWeigh =
 abbrev pub WeightsAreSmall : Type 0
 WeightsAreSmall = (row : List Entry) (asset : ℕ) → IsWeightVector row → unsigned_abs (weight_in row asset) ≤ most_weight
 
+-- no weight vector's absolute weights sum to more than 65,536
+abbrev pub GrossWeightIsBounded : Type 0
+GrossWeightIsBounded = (row : List Entry) → IsWeightVector row → gross_weight row ≤ most_gross_weight
+
 -- a list of legs has at most one first fault
 abbrev pub FirstFaultIsOne : Type 0
 FirstFaultIsOne = (row : List Entry) (one other : Option RowFault) → IsFaultOf row one → IsFaultOf row other → one ≡ other
 
--- a list of 1 to 16 legs that is consistent at each of its places is a weight vector
+-- a list of 1 to the most legs that is consistent at each of its places is a weight vector
 abbrev pub ConsistentEntriesAreLawful : Type 0
 ConsistentEntriesAreLawful =
     (row : List Entry) → 1 ≤ length row → length row ≤ most_entries → IsConsistentBefore row (length row) → IsWeightVector row
 
--- in a list of 1 to 16 legs the fault of the first place that has one is the list's; if no place has one, the list has none
+-- in a list of 1 to the most legs the fault of the first place that has one is the list's; if no place has one, the list has none
 pub record FirstPlaceFaultIsRowFault : Type 0 where
   pub some : (row : List Entry) (place : ℕ) (fault : RowFault) → length row ≤ most_entries → place < length row
       → HasNoFaultBefore row place → IsFaultAt row place (Some fault) → IsFaultOf row (Some fault)

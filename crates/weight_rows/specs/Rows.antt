@@ -1,5 +1,6 @@
 -- Weight vectors, and what one unit of a portfolio costs.
 use Rattle.std.specs.Prelude.{ℕ, ◌<◌, ◌≤◌, ◌^◌, ◌==◌, if◌then◌else◌, ℤ, pos, ◌*ℤ◌, unsigned_abs, List, [], ◌∷◌, map, length, slice_index_or, All}
+use Rattle.std.specs.List.{sum_by}
 use Rattle.std.specs.List.Sorted.{IsStrictlyIncreasing}
 use Rattle.weight_rows.specs.declared.entries.Entry.{Entry}
 use Rattle.list_sums.specs.Sums.{int_sum_by}
@@ -8,19 +9,27 @@ use Rattle.list_sums.specs.Sums.{int_sum_by}
 abbrev pub assets_of : List Entry → List ℕ
 assets_of row = map (λ e. e.asset) row
 
--- the most legs of a weight vector
-abbrev pub most_entries : ℕ
+-- the most legs of a weight vector; proofs cite its bounds, and never its value
+unfoldable pub most_entries : ℕ
 most_entries = 16
 
 -- the greatest absolute weight
 abbrev pub most_weight : ℕ
 most_weight = 4096
 
+-- the gross weight of a list of legs: the sum of their absolute weights
+unfoldable pub gross_weight : List Entry → ℕ
+gross_weight row = sum_by (λ e. unsigned_abs e.weight) row
+
+-- the greatest gross weight of a weight vector, which its limits of legs and of weights imply; proofs cite its bounds, and never its value
+unfoldable pub most_gross_weight : ℕ
+most_gross_weight = 65536
+
 -- a weight in range: 1 to the greatest in absolute value
 abbrev pub IsLawfulWeight : ℤ → Type 0
 IsLawfulWeight weight = (1 ≤ unsigned_abs weight) × (unsigned_abs weight ≤ most_weight)
 
--- a weight vector: 1 to 16 legs with strictly ascending assets, each with a weight in range
+-- a weight vector: 1 to the most legs with strictly ascending assets, each with a weight in range
 pub record IsWeightVector (row : List Entry) : Type 0 where
   pub some : 1 ≤ length row
   pub few : length row ≤ most_entries

@@ -28,6 +28,7 @@ pub enum RowFault {
 /// first place that has one, and there the order before the weight. `None` exactly for a weight vector.
 ///
 /// It costs one pass over the legs, and none if there are more than 16.
+#[tactic(auto, using(crate::proofs::Limits::entries_are))]
 pub fn row_fault(entries: &[Entry]) -> Option<RowFault>
     ensures exact { (fault : Option RowFault) → (result ≡ fault) ↔ IsFaultOf entries.now fault }
     ensures lawful { IsNone result ↔ IsWeightVector entries.now }
@@ -61,6 +62,7 @@ pub fn place_fault(place: u32, before: Option<u16>, entry: Entry) -> Option<RowF
     None
 }
 
+#[tactic(auto, using(crate::proofs::Limits::legs_fit))]
 fn first_fault(entries: &[Entry]) -> Option<RowFault>
     requires some { 1 ≤ length entries.now }
     requires few { length entries.now ≤ most_entries }

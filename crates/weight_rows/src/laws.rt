@@ -1,6 +1,6 @@
 //! Laws of weight vectors for the proofs of callers. A call does nothing when it runs.
 
-ghost use Rattle.weight_rows.specs.RowLaws.{PriceIsBounded, PriceFollowsOnePrice, PriceSumsOverAssets, EntriesGiveWeights, NamedAssetsWeigh, WeightsAreSmall, FirstFaultIsOne, ConsistentEntriesAreLawful, FirstPlaceFaultIsRowFault};
+ghost use Rattle.weight_rows.specs.RowLaws.{PriceIsBounded, PriceFollowsOnePrice, PriceSumsOverAssets, EntriesGiveWeights, NamedAssetsWeigh, WeightsAreSmall, GrossWeightIsBounded, FirstFaultIsOne, ConsistentEntriesAreLawful, FirstPlaceFaultIsRowFault};
 
 /// At prices of at most 2^62 grains a weight vector's price is at most 2^78 grains, in absolute value.
 pub fn price_is_bounded()
@@ -30,6 +30,12 @@ pub fn named_assets_weigh()
 /// No weight of a weight vector is above 4,096 in absolute value.
 pub fn weights_are_small()
     ensures { WeightsAreSmall }
+{}
+
+/// The gross weight of a weight vector, the sum of its absolute weights, is at most 65,536. So no price of it is above 2^16
+/// times the highest price of its assets.
+pub fn gross_weight_is_bounded()
+    ensures { GrossWeightIsBounded }
 {}
 
 /// A list of legs has at most one first fault.

@@ -85,6 +85,7 @@ impl<'a> RowView<'a> {
 
     /// Returns why the legs are no weight vector, as [`row_fault`](weight_rows::row_fault) does for the list of them; `None`
     /// exactly for a weight vector. It costs one pass over the legs, and none if there are more than 16.
+    #[tactic(auto, using(weight_rows::proofs::Limits::entries_are))]
     pub fn fault(&self) -> Option<RowFault>
         ensures exact { (fault : Option RowFault) → (result ≡ fault) ↔ IsFaultOf self.now fault }
         ensures lawful { IsNone result ↔ IsWeightVector self.now }
@@ -99,6 +100,7 @@ impl<'a> RowView<'a> {
         self.first_fault()
     }
 
+    #[tactic(auto, using(weight_rows::proofs::Limits::legs_fit))]
     fn first_fault(&self) -> Option<RowFault>
         requires some { 1 ≤ length self.now }
         requires few { length self.now ≤ most_entries }

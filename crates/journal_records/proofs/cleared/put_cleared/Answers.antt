@@ -6,7 +6,7 @@ use Rattle.wire_fields.specs.Numbers.{IsSigned}
 use Rattle.wire_fields.proofs.Encoding.{IsSigned-from_fits}
 use Rattle.flow_orders.specs.Outcomes.{Clearing, fill_of}
 use Rattle.flow_orders.specs.Trades.{trades}
-use Rattle.flow_orders.proofs.Limits.{orders_fit}
+use Rattle.flow_orders.proofs.Limits.{orders_fit, prices_fit}
 use Rattle.batch_outcome.specs.Published.{clearing_of}
 use Rattle.journal_records.specs.Bodies.{IsFill}
 use Rattle.journal_records.proofs.FieldForms.{clearing_fits}
@@ -30,7 +30,7 @@ returns-clause-fits c =
     let gap : FitsSigned w128 c.args.cleared.now.gap = search rules in
     clearing_fits c.args.batch clearing (omega (arith, c.ranges.batch))
     (record {
-      count = omega (arith, c.requires.few_assets);
+      count = omega (arith, c.requires.few_assets, prices_fit);
       prices = subst (All (IsSigned 8)) c.as_slice-prices.ensures c.put_numbers.ensures.fit;
       fill_count = omega (arith, count, c.requires.few_orders, orders_fit);
       fills = subst (λ (rates : List ℕ). All IsFill (map fill_of (trades c.args.orders.now rates))) c.as_slice.ensures c.put_fills.ensures.fit;

@@ -1,11 +1,12 @@
 use Rattle.std.proofs.Common.{◌∙◌, arith}
 use Rattle.std.proofs.lemmas.Int.{to_z-of_z}
 use Rattle.std.specs.Int.{w128}
+use Rattle.market_rules.proofs.VersionLimits.{batches_fit}
 use Rattle.market_parts.proofs.Below.{refuted}
 use Rattle.market_parts.proofs.numbers.has_consistent_sums.Goals as goal
 
 pub is_money_held-requires-clause-exchange : goal.is_money_held-requires-clause-exchange
-is_money_held-requires-clause-exchange g c = omega (arith, c.is_within_batches.ensures.0 c.if-not-is_within_batches.false, c.batches.ensures, c.requires.few_batches)
+is_money_held-requires-clause-exchange g c = omega (arith, c.is_within_batches.ensures.0 c.if-not-is_within_batches.false, c.batches.ensures, c.requires.few_batches, batches_fit)
 
 pub returns-then-not-is_within_batches : goal.returns-then-not-is_within_batches
 returns-then-not-is_within_batches g c =

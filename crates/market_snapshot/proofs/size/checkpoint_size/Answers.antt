@@ -1,4 +1,5 @@
 use Rattle.std.proofs.Common.{◌≡◌, ◌+◌, ◌*◌, ◌≤◌, ◌∙◌, length, sym, ap, subst, arith}
+use Rattle.ticker_table.proofs.Limits.{tickers_are}
 use Rattle.flow_orders.proofs.Limits.{orders_are}
 use Rattle.byte_places.specs.Places.{unsigned_at}
 use Rattle.market_snapshot.specs.Layout.{account_size}
@@ -15,7 +16,7 @@ returns-then-bytes-lt-FIRST-clause-size c = λ m k more rest is e. (
 pub returns-then-assets-gt-MOST_ASSETS-clause-none : goal.returns-then-assets-gt-MOST_ASSETS-clause-none
 returns-then-assets-gt-MOST_ASSETS-clause-none c = λ more m k rest is e.
     let assets = assets_are c.args.bytes.now m k more rest is e c.u16_at-assets.result (omega (arith, c.if-bytes-lt-FIRST.false)) c.u16_at-assets.ensures in
-    absurd (omega (arith, assets, few_assets c.args.bytes.now m k more rest is e, c.if-assets-gt-MOST_ASSETS.true))
+    absurd (omega (arith, assets, few_assets c.args.bytes.now m k more rest is e, tickers_are, c.if-assets-gt-MOST_ASSETS.true))
 
 pub returns-then-bytes-count-clause-size : goal.returns-then-bytes-count-clause-size
 returns-then-bytes-count-clause-size c = λ m k more rest is e.

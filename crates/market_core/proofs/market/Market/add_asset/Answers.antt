@@ -2,7 +2,7 @@ use Rattle.std.proofs.Common.{[], ◌∷◌, ◌++◌, length, Err, ap, arith}
 use Rattle.wire_records.specs.Commands.{AddAsset, Plain}
 use Rattle.wire_records.specs.declared.reply.Reply.TheVariants.{Asset}
 use Rattle.wire_records.specs.declared.limits.Limits.{Limits}
-use Rattle.market_rules.proofs.VersionLimits.{assets_within}
+use Rattle.market_rules.proofs.VersionLimits.{assets_within, tickers_are_assets}
 use Rattle.market_rules.specs.Market.{Market}
 use Rattle.market_rules.specs.Step.{ServesPlain, NoOutcome}
 use Rattle.market_core.specs.Kept.{market_in}
@@ -26,6 +26,11 @@ served c =
 
 pub add_within-requires : goal.add_within-requires
 add_within-requires c = record { most = omega (arith, ap (λ (l : Limits). l.assets) c.limits.ensures, assets_within c.self.inside.version) }
+
+pub add_asset-requires : goal.add_asset-requires
+add_asset-requires c =
+    let addable = rw c.limits.ensures at c.in-Ok.ensures.addable in
+    omega (arith, addable.place, assets_within c.self.inside.version, tickers_are_assets, c.self.invariant.one_each.tickers)
 
 pub invariant_of-self : goal.invariant_of-self
 invariant_of-self c =

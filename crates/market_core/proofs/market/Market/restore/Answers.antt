@@ -1,9 +1,10 @@
 use Rattle.std.proofs.Common.{arith}
+use Rattle.market_rules.proofs.VersionLimits.{tickers_are_assets}
 use Rattle.market_core.proofs.Restored.{made_has, made_consistent, parts_consistent}
 use Rattle.market_core.proofs.market.Market.restore.Goals as goal
 
 pub read-last_prices-requires-clause-few : goal.read-last_prices-requires-clause-few
-read-last_prices-requires-clause-few g c = omega (arith, c.in_ok-made.ensures.made.consistent.tickers.few, c.in_ok-made.ensures.shape.tickers)
+read-last_prices-requires-clause-few g c = omega (arith, c.in_ok-made.ensures.made.consistent.tickers.few, c.in_ok-made.ensures.shape.tickers, tickers_are_assets)
 
 pub invariant_of-result : goal.invariant_of-result
 invariant_of-result g c =
