@@ -9,7 +9,8 @@ use Rattle.market_snapshot.specs.Checkpoints.{checkpoint_magic}
 use Rattle.encode_word.specs.declared.stop.EncodeStop.{EncodeStop}
 use Rattle.encode_word.specs.declared.stop.EncodeStop.TheVariants.{NoCheckpoint}
 use Rattle.encode_word.specs.Starts.{known_after, IsCut}
-use Rattle.encode_word.specs.Encoding.{LinesTo, EncodesLines, EncodesInput, EncodesInto, EncodesShort}
+use Rattle.encode_word.specs.Encoding.{LinesTo, EncodesLines, EncodesInput, EncodesShort}
+use Rattle.encode_word.specs.Private.{EncodesInto}
 use Rattle.encode_word.proofs.Starting.{magic_uncut, one_start, start_unkept, start_uncut, cut_alike, before_alike}
 use Rattle.encode_word.proofs.LinesTo.{lines_one, lines_some, to_alike, into_alike, short_alike}
 

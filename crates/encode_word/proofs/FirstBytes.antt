@@ -12,14 +12,16 @@ use Rattle.market_rules.specs.Market.{Market}
 use Rattle.market_snapshot.specs.Checkpoints.{checkpoint_magic, checkpoint_bytes, HasCheckpointMagic}
 use Rattle.order_text.specs.Lines.{SaysNothing}
 use Rattle.line_records.specs.Lines.{HasNoFeed, ended_by_feeds, AreLines, AreFirst, Say, encode_commands}
-use Rattle.line_records.proofs.Pieces.{ended_lines, line_or_piece, empty_piece}
+use Rattle.line_records.proofs.Pieces.{ended_lines, line_or_piece, empty_piece, lines_after}
+use Rattle.input_lines.proofs.Endings.{less_or_not}
 use Rattle.line_records.proofs.OneReadings.{before_next}
 use Rattle.encode_word.specs.declared.stop.EncodeStop.{EncodeStop}
 use Rattle.encode_word.specs.declared.stop.EncodeStop.TheVariants.{NoCommand}
 use Rattle.encode_word.specs.Starts.{known_after, IsCut, BeginsKept, PrecedesLines}
-use Rattle.encode_word.specs.Encoding.{LinesTo, EncodesInput, EncodesInto, EncodesShort}
+use Rattle.encode_word.specs.Encoding.{LinesTo, EncodesInput, AreBeforeLong, EncodesShort}
+use Rattle.encode_word.specs.Private.{EncodesInto}
 use Rattle.encode_word.proofs.LinesTo.{EncodeEnds}
-use Rattle.encode_word.proofs.Encoding.{begins_or_not}
+use Rattle.encode_word.proofs.Encoding.{begins_or_not, encodes_alike}
 use Rattle.encode_word.proofs.NoLine.{no_line}
 
 -- the magic of a checkpoint has no line feed
@@ -317,6 +319,29 @@ module _ (version : Version) where
   pub into_gets : (More : Type 0) (bytes text : List ℕ) → EncodesInto version More bytes text → GetsFirst More bytes text
   into_gets More bytes text so = subst (λ (x : List ℕ). GetsFirst More bytes x) (sym so.into.writes) (gets_by More bytes so.start so.lines so.begins so.into.commands so.into.first)
 
-  pub short_gets : (More : Type 0) (bytes text : List ℕ) → EncodesShort version More bytes text → GetsFirst More bytes text
-  short_gets More bytes text so =
-      subst (λ (x : List ℕ). GetsFirst More bytes x) (sym so.short.writes) (gets_by More bytes so.start so.lines so.begins so.short.commands (before_next version (known_after so.start) More so.lines so.short.commands so.short.first))
+  -- the lines before a piece that is too long are first lines
+  before_long : (known : List (List ℕ)) (More : Type 0) → More ⊎ (¬ More) → (bytes : List ℕ) (commands : List Command) → AreBeforeLong version known bytes commands → AreFirst version known More bytes commands
+  before_long known More more bytes commands at =
+      let all = lines_after More more bytes (at.piece ++ at.rest) at.read at.whole at.pieces in
+      record { lines = at.read ++ all.0; read = at.read; more = all.0; tickers = at.tickers; split = all.1; prefix = refl; say = at.say }
+
+  pub short_gets : (limit : ℕ) (bytes text : List ℕ) → EncodesShort version (limit < length bytes) (take limit bytes) text → GetsFirst (limit < length bytes) (take limit bytes) text
+  short_gets limit bytes text so =
+      let More = limit < length bytes in
+      let first : AreFirst version (known_after so.start) More so.lines so.short.commands = elim so.short.first [
+        | inl next ↦ before_next version (known_after so.start) More so.lines so.short.commands next
+        | inr long ↦ before_long (known_after so.start) More (less_or_not limit (length bytes)) so.lines so.short.commands long
+      ] in
+      subst (λ (x : List ℕ). GetsFirst More (take limit bytes) x) (sym so.short.writes) (gets_by More (take limit bytes) so.start so.lines so.begins so.short.commands first)
+
+  -- what first bytes result in if more follow, as a call says it that took them
+  pub begun_more : (first : List ℕ) (ended : Ended EncodeStop) (text : List ℕ) → EncodesInput version (Unit {0}) first ended text → ComeIfMore first text
+  begun_more first ended text comes = if_more first text (λ Longer longer. (ended, encodes_alike version (Unit {0}) Longer ((λ _. longer), (λ _. tt)) first ended text comes))
+
+  -- and the other way round
+  pub more_begun : (first text : List ℕ) → ComeIfMore first text → (ended : Ended EncodeStop) × EncodesInput version (Unit {0}) first ended text
+  more_begun first text come =
+      let some = come 0 [] in
+      let Longer = length first < length (first ++ 0 ∷ []) in
+      let longer : Longer = omega (arith, length-append first (0 ∷ [])) in
+      (some.0, encodes_alike version Longer (Unit {0}) ((λ _. tt), (λ _. longer)) first some.0 text (subst (λ (xs : List ℕ). EncodesInput version Longer xs some.0 text) (taken (first ++ 0 ∷ []) first (0 ∷ []) refl) some.1))

@@ -6,11 +6,12 @@ use Rattle.wire_records.specs.Commands.{Command}
 use Rattle.wire_records.specs.declared.version.Version.{Version}
 use Rattle.word_driver.specs.declared.fault.Fault.TheVariants.{TooLong, Stopped}
 use Rattle.word_driver.specs.Ended.{Ended}
-use Rattle.line_records.specs.Lines.{AreLines, encode_commands}
+use Rattle.line_records.specs.Lines.{AreLines, HaveNext, encode_commands}
 use Rattle.line_records.proofs.OneReadings.{one_reading, none_is_unread}
 use Rattle.encode_word.specs.declared.stop.EncodeStop.{EncodeStop}
 use Rattle.encode_word.specs.declared.stop.EncodeStop.TheVariants.{NoCommand}
-use Rattle.encode_word.specs.Encoding.{LinesTo, LinesInto, LinesShort}
+use Rattle.encode_word.specs.Encoding.{LinesTo, LinesShort}
+use Rattle.encode_word.specs.Private.{LinesInto}
 
 -- how it ends, by the number of the first line that is no command: the field `ends` of `LinesTo`
 abbrev pub EncodeEnds : Type 0 → Option ℕ → Ended EncodeStop → Type 0
@@ -96,19 +97,22 @@ module _ (version : Version) (known : List (List ℕ)) where
       writes = into.writes;
     }
 
+    next_alike : (bytes : List ℕ) (commands : List Command) → HaveNext version known P bytes commands → HaveNext version known Q bytes commands
+    next_alike bytes commands at = record {
+      lines = at.lines;
+      read = at.read;
+      next = at.next;
+      more = at.more;
+      tickers = at.tickers;
+      split = lines_alike bytes at.lines at.split;
+      prefix = at.prefix;
+      say = at.say;
+      written = at.written;
+    }
+
     pub short_alike : (bytes text : List ℕ) → LinesShort version known P bytes text → LinesShort version known Q bytes text
     short_alike bytes text short = record {
       commands = short.commands;
-      first = record {
-        lines = short.first.lines;
-        read = short.first.read;
-        next = short.first.next;
-        more = short.first.more;
-        tickers = short.first.tickers;
-        split = lines_alike bytes short.first.lines short.first.split;
-        prefix = short.first.prefix;
-        say = short.first.say;
-        written = short.first.written;
-      };
+      first = elim short.first [ inl at ↦ inl (next_alike bytes short.commands at) | inr long ↦ inr long ];
       writes = short.writes;
     }

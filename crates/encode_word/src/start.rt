@@ -1,19 +1,35 @@
 //! What is before the lines of an input: nothing, or a checkpoint.
-ghost use Rattle.std.specs.Prelude.{◌≡◌, ◌≤◌, ◌↔◌, IfOk, IfErr, IsTrue, drop, length};
+ghost use Rattle.std.specs.Prelude.{◌≡◌, ◌≤◌, ◌+◌, ◌↔◌, ℕ, List, Option, None, Err, length, IfOk, IfErr, OnErr, IsErr, IsTrue};
+ghost use Rattle.flow_io.specs.Faults.{Blames};
+ghost use Rattle.flow_io.specs.Streams.{Takes};
+ghost use Rattle.flow_io.specs.Windows.{empty_window};
 ghost use Rattle.market_snapshot.specs.Checkpoints.{HasCheckpointMagic};
-ghost use Rattle.market_snapshot.specs.Answers.{WhereNotSound};
-ghost use Rattle.encode_word.specs.Starts.{IsCut, BeginsUnkept};
-ghost use Rattle.encode_word.specs.Private.{FindsCheckpoint, FindsAfter, FindsLines, IsStartFault};
+ghost use Rattle.input_lines.specs.Long.{most_line};
+ghost use Rattle.encode_word.specs.Private.{BeginsAs, ShowsPart, FindsLines, NoLines};
 
+use flow_io::{Filled, ReadFailed, Source, Window};
 use market_core::Market;
-use market_snapshot::{CHECKPOINT_MAGIC, SnapshotFault, read_market};
+use market_history::kept_market;
+use market_snapshot::CHECKPOINT_MAGIC;
 use std::alloc::Global;
 use ticker_table::TickerTable;
 use wire_records::{Memory, Version};
 
-// Why no lines begin.
+// How an input begins.
 #[derive(Clone, Copy)]
+pub(crate) enum Beginning {
+    // With the magic of a checkpoint.
+    Checkpoint,
+    // With lines.
+    Lines,
+    // It isn't seen yet whether a checkpoint begins: the input goes on past the limit.
+    Cut,
+}
+
+// Why no lines begin.
+#[derive(Clone, Copy, PartialEq, Eq)]
 pub(crate) enum StartFault {
+    Read,
     // It isn't seen yet whether a checkpoint begins: the input goes on past the limit.
     Cut,
     // A checkpoint begins, and none of a consistent market of the version.
@@ -21,39 +37,11 @@ pub(crate) enum StartFault {
     Memory,
 }
 
-// Where the lines begin, and the tickers that are known before the first of them.
-#[derive(Drop)]
-pub(crate) struct Start {
-    pub(crate) tickers: TickerTable,
-    pub(crate) place: usize,
-}
-
 // Whether a market is one of the version.
 fn is_of(market: &Market, version: Version) -> bool
     ensures { IsTrue result ↔ (market.now.version ≡ version) }
 {
     market.version().number() == version.number()
-}
-
-// The market of the version whose checkpoint the bytes begin with, and how many bytes that takes.
-fn kept_market(
-    alloc: Global,
-    version: Version,
-    bytes: &[u8],
-) -> Result<(Market, usize), SnapshotFault>
-    requires begins { HasCheckpointMagic bytes.now }
-    ensures kept { IfOk result (λ found. FindsCheckpoint version bytes.now found.0 found.1) }
-    ensures inside { IfOk result (λ found. found.1 ≤ length bytes.now) }
-    ensures fault { IfErr result (λ fault. WhereNotSound fault (BeginsUnkept version bytes.now)) }
-{
-    let (market, place) = match read_market(alloc, bytes) {
-        Ok(found) => found,
-        Err(fault) => return Err(fault),
-    };
-    if is_of(&market, version) {
-        return Ok((market, place));
-    }
-    Err(SnapshotFault::NotSound)
 }
 
 // A table with the tickers of another.
@@ -70,59 +58,79 @@ fn copy_of(alloc: Global, known: &TickerTable) -> Result<TickerTable, Memory>
     Ok(tickers)
 }
 
-// Where the lines begin after a checkpoint.
-fn start_after(alloc: Global, version: Version, bytes: &[u8]) -> Result<Start, SnapshotFault>
-    requires begins { HasCheckpointMagic bytes.now }
-    ensures found { IfOk result (λ start. FindsAfter version bytes.now start.tickers start.place) }
-    ensures inside { IfOk result (λ start. start.place ≤ length bytes.now) }
-    ensures fault { IfErr result (λ fault. WhereNotSound fault (BeginsUnkept version bytes.now)) }
+// Reads until it is seen how an input begins.
+fn beginning<S: Source>(window: &mut Window, source: &mut S) -> Result<Beginning, ReadFailed>
+    requires new { window.old ≡ empty_window (most_line + 1) window.old.limit }
+    ensures begins { IfOk result (BeginsAs window.old.limit window.new (S.rest source.old) (S.rest source.new)) }
+    ensures part { OnErr result (ShowsPart window.old.limit (S.rest source.old) (S.rest source.new)) }
+    ensures cause { Blames (IsErr result) (S.faults source.old) (S.faults source.new) }
 {
-    let (market, place) = match kept_market(alloc, version, bytes) {
-        Ok(found) => found,
-        Err(fault) => return Err(fault),
-    };
-    match copy_of(alloc, market.tickers()) {
-        Ok(tickers) => Ok(Start { tickers, place }),
-        Err(Memory) => Err(SnapshotFault::Memory),
+    'reads: loop {
+        let held = window.held();
+        let count = held.len();
+        if held.starts_with(&CHECKPOINT_MAGIC) {
+            return Ok(Beginning::Checkpoint);
+        }
+        if !CHECKPOINT_MAGIC.starts_with(held) {
+            return Ok(Beginning::Lines);
+        }
+        match window.fill(source, count + 1) {
+            Ok(Filled::Enough) => {}
+            Ok(Filled::Limited) => return Ok(Beginning::Cut),
+            Ok(Filled::Ended) => return Ok(Beginning::Lines),
+            Err(failed) => return Err(failed),
+        }
     }
 }
 
-// Whether the bytes are a part of the magic of a checkpoint, and the input has more.
-fn is_cut(bytes: &[u8], more: bool) -> bool
-    ensures { IsTrue result ↔ IsCut (IsTrue more) bytes.now }
-{
-    if !more {
-        return false;
-    }
-    if bytes.len() >= CHECKPOINT_MAGIC.len() {
-        return false;
-    }
-    CHECKPOINT_MAGIC.starts_with(bytes)
-}
-
-// Where the lines of an input begin.
-pub(crate) fn start_of(
+// The tickers of the market of the version whose checkpoint begins, which is taken.
+fn tickers_after<S: Source>(
     alloc: Global,
     version: Version,
-    bytes: &[u8],
-    more: bool,
-) -> Result<Start, StartFault>
-    ensures found { IfOk result (λ start. FindsLines version (IsTrue more) bytes.now start.tickers start.place) }
-    ensures inside { IfOk result (λ start. start.place ≤ length bytes.now) }
-    ensures fault { IfErr result (IsStartFault version (IsTrue more) bytes.now) }
+    window: &mut Window,
+    source: &mut S,
+) -> Result<TickerTable, StartFault>
+    requires magic { HasCheckpointMagic window.old.held }
+    requires within { window.old.place + length window.old.held ≤ window.old.limit }
+    requires open { window.old.over ≡ None }
+    requires first { window.old.place ≡ 0 }
+    requires room { window.old.room ≡ most_line + 1 }
+    ensures found { (before : Option (List ℕ)) → Takes before (S.rest source.old) window.old.held → IfOk result (FindsLines version window.old.limit window.new before (S.rest source.new)) }
+    ensures none { (before : Option (List ℕ)) → Takes before (S.rest source.old) window.old.held → IfErr result (NoLines version window.old.limit before (S.rest source.new)) }
+    ensures cause { Blames (result ≡ Err StartFault.Read) (S.faults source.old) (S.faults source.new) }
 {
-    if is_cut(bytes, more) {
-        return Err(StartFault::Cut);
+    let market = match kept_market(alloc, window, source) {
+        Ok(market) => market,
+        Err(market_history::StartFault::Read) => return Err(StartFault::Read),
+        Err(market_history::StartFault::Memory) => return Err(StartFault::Memory),
+        Err(market_history::StartFault::NotFlow) => return Err(StartFault::NoCheckpoint),
+        Err(market_history::StartFault::NoCheckpoint) => return Err(StartFault::NoCheckpoint),
+    };
+    if !is_of(&market, version) {
+        return Err(StartFault::NoCheckpoint);
     }
-    if bytes.starts_with(&CHECKPOINT_MAGIC) {
-        return match start_after(alloc, version, bytes) {
-            Ok(start) => Ok(start),
-            Err(SnapshotFault::NotSound) => Err(StartFault::NoCheckpoint),
-            Err(SnapshotFault::Memory) => Err(StartFault::Memory),
-        };
+    match copy_of(alloc, market.tickers()) {
+        Ok(tickers) => Ok(tickers),
+        Err(Memory) => Err(StartFault::Memory),
     }
-    Ok(Start {
-        tickers: TickerTable::new(alloc),
-        place: 0,
-    })
+}
+
+// Reads what is before the lines of an input, and returns the tickers that are known before the first of them.
+pub(crate) fn tickers_before<S: Source>(
+    alloc: Global,
+    version: Version,
+    window: &mut Window,
+    source: &mut S,
+) -> Result<TickerTable, StartFault>
+    requires new { window.old ≡ empty_window (most_line + 1) window.old.limit }
+    ensures found { IfOk result (FindsLines version window.old.limit window.new (S.rest source.old) (S.rest source.new)) }
+    ensures none { IfErr result (NoLines version window.old.limit (S.rest source.old) (S.rest source.new)) }
+    ensures cause { Blames (result ≡ Err StartFault.Read) (S.faults source.old) (S.faults source.new) }
+{
+    match beginning(window, source) {
+        Ok(Beginning::Checkpoint) => tickers_after(alloc, version, window, source),
+        Ok(Beginning::Lines) => Ok(TickerTable::new(alloc)),
+        Ok(Beginning::Cut) => Err(StartFault::Cut),
+        Err(_) => Err(StartFault::Read),
+    }
 }

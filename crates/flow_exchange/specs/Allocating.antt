@@ -2,6 +2,7 @@
 use Rattle.std.specs.Prelude.{◌≡◌, ◌⊎◌, ◌<◌, ℕ, List, [], length, take, Option, IfSome}
 use Rattle.flow_io.specs.Streams.{Grows}
 use Rattle.flow_io.specs.Changes.{Change}
+use Rattle.market_snapshot.specs.Checkpoints.{HasCheckpointMagic}
 use Rattle.word_driver.specs.Does.{IsTaken}
 use Rattle.encode_word.specs.Encoding.{EncodesShort}
 use Rattle.session_resume.specs.Resuming.{ResumesShort}
@@ -21,7 +22,7 @@ LacksAt Run limit bytes text = RunsShort limit bytes text
 LacksAt Audit limit bytes text = AuditsShort limit bytes text
 LacksAt Explain limit bytes text = AuditsShort limit bytes text
 LacksAt Report limit bytes text = ReportsShort limit bytes text
-LacksAt (Encode version) limit bytes text = (text ≡ []) ⊎ EncodesShort version (limit < length bytes) (take limit bytes) text
+LacksAt (Encode version) limit bytes text = (HasCheckpointMagic (take limit bytes) × (text ≡ [])) ⊎ EncodesShort version (limit < length bytes) (take limit bytes) text
 LacksAt (Sample number orders) limit bytes text = ⊥
 LacksAt (Statement number) limit bytes text = StatesShort number limit bytes text
 LacksAt Checkpoint limit bytes text = CheckpointsShort limit bytes text

@@ -12,7 +12,8 @@ use std::alloc::Global;
 use wire_records::Version;
 
 /// Reads the source to its end or the limit, and writes the command file of its lines, of a version: one write for the magic, and one
-/// for the records of each line. Holds the whole input, and one buffer for the records of a line at a time.
+/// for the records of each line, before the source is asked for more. Holds a window of the input, a line that is longer than it, and one buffer for
+/// the records of a line at a time.
 pub(crate) fn encode<S: Source, K: Sink>(
     alloc: Global,
     version: Version,

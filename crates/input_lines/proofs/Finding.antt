@@ -9,12 +9,13 @@ use Rattle.flow_io.specs.Windows.{WindowState, IsPast, IsWithin, Fills}
 use Rattle.flow_io.specs.declared.window.InputEnd.{InputEnd}
 use Rattle.flow_io.specs.declared.window.InputEnd.TheVariants.{Source, Limit}
 use Rattle.flow_io.specs.declared.source.ReadFailed.{ReadFailed}
+use Rattle.flow_io.specs.declared.whole.ReadAllFault.{ReadAllFault}
 use Rattle.flow_io.proofs.Reading.{Takes-more}
 use Rattle.file_units.proofs.Gone.{within_limit}
 use Rattle.line_records.specs.Lines.{HasNoFeed}
 use Rattle.line_records.proofs.Pieces.{empty_piece, line_found, no_line_found}
-use Rattle.input_lines.specs.Finding.{IsOpenFor, Found, FindsNextWithin, FindsNoFeed}
-use Rattle.input_lines.specs.Private.{IsPassing, IsSearching}
+use Rattle.input_lines.specs.Finding.{IsOpenFor, Found, FindsNextWithin, FindsNoFeed, FoundWhole, FindsWholeWithin, FindsLongWithin}
+use Rattle.input_lines.specs.Private.{IsPassing, IsSearching, IsInWindow}
 use Rattle.input_lines.specs.declared.lines.Next.{Next}
 use Rattle.input_lines.specs.declared.lines.Next.TheVariants as next
 
@@ -90,6 +91,7 @@ search_none w x is_open = record {
   limit = refl;
   held = sym (append-nil w.held);
   place = refl;
+  same = refl;
   inside = omega arith;
   piece = empty_piece;
   is_open = is_open;
@@ -180,6 +182,46 @@ module _ {most : ℕ} (old w : WindowState) (first x : Option (List ℕ)) (seen 
   passed_none_by after (Ok found) none = tt
   passed_none_by after (Err failed) none = passed_none after none
 
+  -- what was found by taking a long line
+  pub kept : (new : WindowState) (long : List ℕ) (after : Option (List ℕ)) (found : Next) → FindsWholeWithin most w new long x after found → FindsWholeWithin most old new long first after found
+  kept new long after found finds =
+      let bytes : old.held ++ (is.joined ++ finds.joined) ≡ w.held ++ finds.joined = sym (append_assoc old.held is.joined finds.joined) ∙ ap (λ (l : List ℕ). l ++ finds.joined) all_held in
+      record {
+        joined = is.joined ++ finds.joined;
+        past = finds.past;
+        takes = subst (Takes first after) (sym (append_assoc is.joined finds.joined finds.past)) (Takes-more first x after is.joined (finds.joined ++ finds.past) is.takes finds.takes);
+        limit = finds.limit ∙ is.limit;
+        within = omega (arith, finds.within, is.place, is.limit, ap length bytes);
+        stays = λ not. finds.stays (λ e. not (sym is.same ∙ e)) ∙ is.same;
+        is = subst (λ (l : List ℕ). FoundWhole most old new after finds.past l long found) (sym bytes) (whole_by finds.past (w.held ++ finds.joined) found finds.is);
+      }
+    where
+      whole_by : (past all : List ℕ) (found : Next) → FoundWhole most w new after past all long found → FoundWhole most old new after past all long found
+      whole_by past all (next.Line size) f = (f.0, f.1 ∙ is.place, f.2, f.3, f.4, f.5, f.6, f.7)
+      whole_by past all next.Long f = (f.0, f.1, f.2, f.3 ∙ ap (λ (n : ℕ). n + (length long + 1)) is.place, f.4, f.5)
+      whole_by past all next.Last f = (f.0, f.1 ∙ is.place, f.2, f.3, f.4, f.5, f.6, f.7)
+      whole_by past all next.LongLast f = f
+      whole_by past all next.End f = f
+      whole_by past all next.Limit f = (f.0, f.1, omega (arith, f.2, is.place, is.limit))
+
+  pub kept_by : (new : WindowState) (long : List ℕ) (after : Option (List ℕ)) (result : Result Next ReadAllFault) → IfOk result (FindsWholeWithin (w.room - 1) w new long x after) → IfOk result (FindsWholeWithin most old new long first after)
+  kept_by new long after (Ok found) finds = kept new long after found (subst (λ (n : ℕ). FindsWholeWithin n w new long x after found) (sym room_is) finds)
+  kept_by new long after (Err fault) finds = tt
+
+  pub kept_lacks : (after : Option (List ℕ)) → FindsLongWithin (w.room - 1) w x after → FindsLongWithin most old first after
+  kept_lacks after lacks =
+      let bytes : old.held ++ (is.joined ++ lacks.joined) ≡ w.held ++ lacks.joined = sym (append_assoc old.held is.joined lacks.joined) ∙ ap (λ (l : List ℕ). l ++ lacks.joined) all_held in
+      record {
+        joined = is.joined ++ lacks.joined;
+        takes = Takes-more first x after is.joined lacks.joined is.takes lacks.takes;
+        within = omega (arith, lacks.within, is.place, is.limit, ap length bytes);
+        piece = lacks.piece;
+        following = lacks.following;
+        parts = bytes ∙ lacks.parts;
+        none = lacks.none;
+        long = omega (arith, lacks.long, room_is);
+      }
+
   -- more was read, or not
   module _ (f : WindowState) (y : Option (List ℕ)) (fills : Fills w f x y) (piece : HasNoFeed w.held) (all : f.over ≡ Some Source → IfSome y (λ left. left ≡ []))
       (within : IsWithin f.place (length f.held) f.limit f.over) where
@@ -188,6 +230,7 @@ module _ {most : ℕ} (old w : WindowState) (first x : Option (List ℕ)) (seen 
 
     pub search_more : f.over ≡ w.over → IsSearching most old f first y (length w.held)
     search_more same = record {
+      same = same ∙ is.same;
       joined = is.joined ++ fills.joined;
       takes = further (λ e. is.is_open.unlimited (sym same ∙ e));
       limit = filled_limit w f x y fills ∙ is.limit;
@@ -268,26 +311,48 @@ module _ {most : ℕ} (old w : WindowState) (first x : Option (List ℕ)) (seen 
       search_ended over short found some none either =
           ⊎_elim (λ last. subst (λ (n : Next). FindsNextWithin most old f first y n) (sym last) (search_last over (some last) short)) (λ end. subst (λ (n : Next). FindsNextWithin most old f first y n) (sym end) (search_end over (none end))) either
 
+-- what the window holds, or that there is no line, is found alike where a long line is kept
+pub found_alike : {most : ℕ} (old new : WindowState) (long : List ℕ) (before after : Option (List ℕ)) (found : Next) → IsInWindow found → (old.over ≢ None → new.over ≡ old.over) → FindsNextWithin most old new before after found → FindsWholeWithin most old new long before after found
+found_alike old new long before after (next.Line size) short stays f = record { joined = f.joined; past = f.past; takes = f.takes; limit = f.limit; within = f.within; stays = stays; is = f.is }
+found_alike old new long before after next.Last short stays f = record { joined = f.joined; past = f.past; takes = f.takes; limit = f.limit; within = f.within; stays = stays; is = f.is }
+found_alike old new long before after next.End short stays f = record { joined = f.joined; past = f.past; takes = f.takes; limit = f.limit; within = f.within; stays = stays; is = f.is }
+found_alike old new long before after next.Limit short stays f = record { joined = f.joined; past = f.past; takes = f.takes; limit = f.limit; within = f.within; stays = stays; is = f.is }
+found_alike old new long before after next.Long short stays f = absurd short
+found_alike old new long before after next.LongLast short stays f = absurd short
+
 -- ---- a long line is passed over
 
-pub passing_none : {most : ℕ} (w : WindowState) (x : Option (List ℕ)) → IsOpenFor most w x → HasNoFeed w.held → most < length w.held → IsPassing most w w x x
+pub passing_none : {most : ℕ} (w : WindowState) (x : Option (List ℕ)) → IsOpenFor most w x → HasNoFeed w.held → most < length w.held → IsPassing most w w x x []
 passing_none w x is_open piece long = record {
   joined = [];
-  gone = [];
   takes = Takes-nothing x;
   limit = refl;
   parts = append-nil w.held;
   place = omega arith;
+  same = refl;
   piece = piece;
   long = long;
   is_open = is_open;
 }
 
+-- there is no memory for the bytes that are held
+pub passing_long : {most : ℕ} (old w : WindowState) (first x : Option (List ℕ)) (gone : List ℕ) → IsPassing most old w first x gone → FindsLongWithin most old first x
+passing_long old w first x gone is = record {
+  joined = is.joined;
+  takes = is.takes;
+  within = omega (arith, is.is_open.within, is.place, is.limit, ap length is.parts, length-append gone w.held);
+  piece = gone ++ w.held;
+  following = [];
+  parts = is.parts ∙ sym (append-nil (gone ++ w.held));
+  none = is.piece;
+  long = is.long;
+}
+
 -- the held bytes were given up, and the window `g` was filled to `f`
-module _ {most : ℕ} (old w g f : WindowState) (first x y : Option (List ℕ)) (is : IsPassing most old w first x) (gives : g ≡ record w { held = drop (length w.held) w.held; place = w.place + length w.held })
+module _ {most : ℕ} (old w g f : WindowState) (first x y : Option (List ℕ)) (gone : List ℕ) (is : IsPassing most old w first x gone) (gives : g ≡ record w { held = drop (length w.held) w.held; place = w.place + length w.held })
     (fills : Fills g f x y) (all : f.over ≡ Some Source → IfSome y (λ left. left ≡ [])) (within : IsWithin f.place (length f.held) f.limit f.over) where
   abbrev whole : List ℕ
-  whole = is.gone ++ w.held
+  whole = gone ++ w.held
 
   none_held : g.held ≡ []
   none_held = ap (λ (s : WindowState). s.held) gives ∙ drop-length w.held
@@ -299,7 +364,7 @@ module _ {most : ℕ} (old w g f : WindowState) (first x y : Option (List ℕ)) 
   now_held = filled_held g f x y fills ∙ ap (λ (l : List ℕ). l ++ fills.joined) none_held
 
   now_place : f.place ≡ old.place + length whole
-  now_place = omega (arith, filled_place g f x y fills, ap (λ (s : WindowState). s.place) gives, is.place, length-append is.gone w.held)
+  now_place = omega (arith, filled_place g f x y fills, ap (λ (s : WindowState). s.place) gives, is.place, length-append gone w.held)
 
   now_limit : f.limit ≡ old.limit
   now_limit = filled_limit g f x y fills ∙ ap (λ (s : WindowState). s.limit) gives ∙ is.limit
@@ -325,22 +390,22 @@ module _ {most : ℕ} (old w g f : WindowState) (first x y : Option (List ℕ)) 
   }
 
   -- no line feed is among the bytes that were read
-  pub passing_more : f.over ≡ g.over → IsFirstByte (is_byte 10) f.held None → IsPassing most old f first y
+  pub passing_more : f.over ≡ g.over → IsFirstByte (is_byte 10) f.held None → IsPassing most old f first y whole
   passing_more same none = record {
     joined = is.joined ++ fills.joined;
-    gone = whole;
     takes = now_takes (λ e. is.is_open.unlimited (sym over_same ∙ sym same ∙ e));
     limit = now_limit;
     parts = now_parts;
     place = now_place;
+    same = same ∙ over_same ∙ is.same;
     piece = pieces_join whole f.held is.piece (no_line_found f.held none);
     long = omega (arith, is.long, length-append whole f.held);
     is_open = still_open same;
   }
 
   -- one is, and the window begins after it
-  pub passing_found : (size : ℕ) (b : WindowState) → f.over ≡ g.over → IsFirstByte (is_byte 10) f.held (Some size) → b ≡ record f { held = drop (size + 1) f.held; place = f.place + (size + 1) } → FindsNextWithin most old b first y next.Long
-  passing_found size b same found following =
+  pub kept_found : (size : ℕ) (b : WindowState) → f.over ≡ g.over → IsFirstByte (is_byte 10) f.held (Some size) → b ≡ record f { held = drop (size + 1) f.held; place = f.place + (size + 1) } → FindsWholeWithin most old b (whole ++ take size f.held) first y next.Long
+  kept_found size b same found following =
       let one = line_found f.held size found in
       let line = whole ++ take size f.held in
       let held : b.held ≡ drop (size + 1) f.held = ap (λ (s : WindowState). s.held) following in
@@ -351,8 +416,8 @@ module _ {most : ℕ} (old w g f : WindowState) (first x y : Option (List ℕ)) 
         takes = subst (Takes first y) (sym (append-nil (is.joined ++ fills.joined))) (now_takes (λ e. is.is_open.unlimited (sym over_same ∙ sym same ∙ e)));
         limit = ap (λ (s : WindowState). s.limit) following ∙ now_limit;
         within = now_within;
-        is = subst (λ (l : List ℕ). Found most old b y [] l next.Long) (sym now_parts) (
-          line,
+        stays = λ not. ap (λ (s : WindowState). s.over) following ∙ same ∙ over_same ∙ is.same;
+        is = subst (λ (l : List ℕ). FoundWhole most old b y [] l line next.Long) (sym now_parts) (
           omega (arith, is.long, length-append whole (take size f.held)),
           pieces_join whole (take size f.held) is.piece one.0.0,
           ap (λ (l : List ℕ). whole ++ l) (one.0.1 ∙ append_assoc (take size f.held) (10 ∷ []) (drop (size + 1) f.held)) ∙ sym (append_assoc whole (take size f.held) (10 ∷ drop (size + 1) f.held)) ∙ ap (λ (l : List ℕ). line ++ 10 ∷ l) (sym held),
@@ -367,6 +432,24 @@ module _ {most : ℕ} (old w g f : WindowState) (first x y : Option (List ℕ)) 
         );
       }
 
+  pub passing_found : (size : ℕ) (b : WindowState) → f.over ≡ g.over → IsFirstByte (is_byte 10) f.held (Some size) → b ≡ record f { held = drop (size + 1) f.held; place = f.place + (size + 1) } → FindsNextWithin most old b first y next.Long
+  passing_found size b same found following =
+      let kept = kept_found size b same found following in
+      record { joined = kept.joined; past = kept.past; takes = kept.takes; limit = kept.limit; within = kept.within; is = (whole ++ take size f.held, kept.is) }
+
+  -- there is no memory for its bytes
+  pub kept_long : f.over ≡ g.over → FindsLongWithin most old first y
+  kept_long same = record {
+    joined = is.joined ++ fills.joined;
+    takes = now_takes (λ e. is.is_open.unlimited (sym over_same ∙ sym same ∙ e));
+    within = now_within;
+    piece = whole;
+    following = f.held;
+    parts = now_parts;
+    none = is.piece;
+    long = is.long;
+  }
+
   -- nothing was read
   module _ (few : length f.held < 1) where
     none_joined : fills.joined ≡ []
@@ -376,7 +459,7 @@ module _ {most : ℕ} (old w g f : WindowState) (first x y : Option (List ℕ)) 
     all_is = is.parts
 
     all_in : old.place + length (old.held ++ is.joined) ≤ old.limit
-    all_in = omega (arith, is.is_open.within, is.place, is.limit, ap length is.parts, length-append is.gone w.held)
+    all_in = omega (arith, is.is_open.within, is.place, is.limit, ap length is.parts, length-append gone w.held)
 
     pub passing_limit : f.over ≡ Some Limit → (g.over ≢ None → f.over ≡ g.over) → FindsNextWithin most old f first y next.Limit
     passing_limit over kept =
@@ -394,15 +477,26 @@ module _ {most : ℕ} (old w g f : WindowState) (first x y : Option (List ℕ)) 
           );
         }
 
-    pub passing_last : f.over ≡ Some Source → FindsNextWithin most old f first y next.LongLast
-    passing_last over = record {
+    pub kept_last : f.over ≡ Some Source → (g.over ≢ None → f.over ≡ g.over) → FindsWholeWithin most old f whole first y next.LongLast
+    kept_last over kept = record {
       joined = is.joined;
       past = [];
       takes = subst (λ (l : List ℕ). Takes first y (is.joined ++ l)) none_joined (now_takes (λ e. not_none f.over over e));
       limit = now_limit;
       within = all_in;
-      is = subst (λ (l : List ℕ). Found most old f y [] l next.LongLast) (sym all_is) (is.long, is.piece, refl, (over, all over));
+      stays = λ not. kept (λ e. not (sym (over_same ∙ is.same) ∙ e)) ∙ over_same ∙ is.same;
+      is = (sym all_is, subst (λ (l : List ℕ). Found most old f y [] l next.LongLast) (sym all_is) (is.long, is.piece, refl, (over, all over)));
     }
+
+    pub passing_last : f.over ≡ Some Source → (g.over ≢ None → f.over ≡ g.over) → FindsNextWithin most old f first y next.LongLast
+    passing_last over kept =
+        let last = kept_last over kept in
+        record { joined = last.joined; past = last.past; takes = last.takes; limit = last.limit; within = last.within; is = last.is.1 }
+
+    pub kept_limit : f.over ≡ Some Limit → (g.over ≢ None → f.over ≡ g.over) → (long : List ℕ) → FindsWholeWithin most old f long first y next.Limit
+    kept_limit over kept long =
+        let finds = passing_limit over kept in
+        record { joined = finds.joined; past = finds.past; takes = finds.takes; limit = finds.limit; within = finds.within; stays = λ not. kept (λ e. not (sym (over_same ∙ is.same) ∙ e)) ∙ over_same ∙ is.same; is = finds.is }
 
     pub passing_unread : f.over ≡ None → FindsNoFeed old first y
     passing_unread over = record {

@@ -2,7 +2,6 @@
 use Rattle.std.proofs.Common.{◌≡◌, ◌≢◌, ℕ, ◌+◌, ◌-◌, ◌≤◌, ◌^◌, List, [], ◌∷◌, ◌++◌, Option, None, Some, Result, Err, length, length-append, refl, sym, ap, subst, ◌∙◌, arith, append_assoc}
 use Rattle.std.proofs.lemmas.List.{append-nil}
 use Rattle.std.proofs.lemmas.List.Elements.{All-push, All-nil}
-use Rattle.std.proofs.lemmas.Grind.{flat_map-append}
 use Rattle.market_rules.specs.Market.{Market}
 use Rattle.flow_io.specs.Streams.{Takes}
 use Rattle.flow_io.specs.Windows.{WindowState}
@@ -19,6 +18,7 @@ use Rattle.journal_keeping.specs.declared.fault.ServeFault.TheVariants.{Disk, Wr
 use Rattle.journal_keeping.proofs.Stopping.{stops_after, stops_wider, stops_later}
 use Rattle.journal_keeping.proofs.Turns.{added_none}
 use Rattle.input_lines.specs.Finding.{IsOpen}
+use Rattle.input_lines.proofs.Endings.{feeds_more}
 use Rattle.line_keeping.specs.Answers.{IsLineBegun, AreAnsweredInto}
 use Rattle.journal_keeping.specs.Outputs.{Output}
 use Rattle.line_keeping.specs.Private.{AnswersLine, Breaks, BreaksLine, HasGone, StopAt, AreRead, AreDone, AnswersOn}
@@ -30,10 +30,6 @@ use Rattle.journal_keeping.proofs.Adding.{added_more}
 Takes-nothing : (told : Option (List ℕ)) → Takes told told []
 Takes-nothing None = tt
 Takes-nothing (Some left) = refl
-
--- lines with their feeds, and one more
-pub feeds_more : (lines : Texts) (line : List ℕ) → ended_by_feeds (lines ++ line ∷ []) ≡ ended_by_feeds lines ++ (line ++ 10 ∷ [])
-feeds_more lines line = flat_map-append (λ (piece : List ℕ). piece ++ 10 ∷ []) lines (line ∷ []) ∙ ap (λ (l : List ℕ). ended_by_feeds lines ++ l) (append-nil (line ++ 10 ∷ []))
 
 module _ (first : WindowState) (rest : Option (List ℕ)) (old : Market) (count from : ℕ) (start : DiskState) (out : Output) where
   -- nothing was answered yet

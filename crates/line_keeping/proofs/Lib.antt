@@ -1,7 +1,6 @@
 pub mod Gaining
 pub mod Joining
 pub mod Going
-pub mod Endings
 pub mod Served
 pub mod Looking
 pub mod Keeping

@@ -14,7 +14,7 @@ use Rattle.input_lines.specs.Finding.{HasEnded}
 use Rattle.input_lines.proofs.Finding.{filled_held, filled_place, filled_limit, filled_room, taken_whole, joined_none, stays_open}
 use Rattle.line_keeping.specs.Inputs.{IsUnopened}
 use Rattle.line_keeping.specs.Private.{HasLooked, ShowsStart, ShowsNone}
-use Rattle.line_keeping.proofs.Endings.{known_is}
+use Rattle.input_lines.proofs.Endings.{known_is}
 
 magic_size : length checkpoint_magic ≡ 8
 magic_size = refl

@@ -33,8 +33,8 @@ use Rattle.journal_keeping.proofs.Adding.{added_more}
 use Rattle.journal_keeping.proofs.Gaining.{gains_more, gains_wider}
 use Rattle.line_keeping.proofs.Keeping.{keeps_on}
 use Rattle.line_keeping.proofs.Lines.{line_refused, line_unwritten}
-use Rattle.line_keeping.proofs.Going.{feeds_more, gone_more, ends_so, breaks_so}
-use Rattle.line_keeping.proofs.Endings.{known_is, lines_end, lines_last, lines_limit, lines_taken, lines_stop}
+use Rattle.line_keeping.proofs.Going.{gone_more, ends_so, breaks_so}
+use Rattle.input_lines.proofs.Endings.{feeds_more, known_is, lines_end, lines_last, lines_limit, lines_taken, lines_stop}
 
 -- each line has a line feed at least
 lines_below : (lines : Texts) → length lines ≤ length (ended_by_feeds lines)

@@ -50,7 +50,7 @@ use Rattle.line_keeping.specs.Ended.{HasAnswered, BreaksOff, ComesTo, LeavesNone
 use Rattle.line_keeping.specs.Private.{lines_format, StopAt, AreRead, AreDone, AnswersOn}
 use Rattle.line_keeping.proofs.Joining.{Pairs, Texts}
 use Rattle.journal_keeping.proofs.Gaining.{gains_none}
-use Rattle.line_keeping.proofs.Endings.{less_or_not}
+use Rattle.input_lines.proofs.Endings.{less_or_not}
 use Rattle.line_keeping.proofs.Looking.{too_few}
 
 -- ---- nothing was answered

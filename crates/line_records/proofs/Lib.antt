@@ -3,4 +3,4 @@ pub mod Saying
 pub mod OneSplits
 pub mod OneReadings
 pub mod Fitting
-mod Going
+pub mod LineWritten

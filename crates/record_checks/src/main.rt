@@ -14,9 +14,9 @@
 //! | `pair: BYTES` | `next_pair`, `reply`, `is_overlong` | `whole TAKEN RECORD` and the reply, `end` or `broken`; then `overlong` |
 //! | `reply: RECORD` | `reply`, `to_cleared` | the reply, or `none` |
 //! | `line TICKERS: TEXT` | `read_line`, with the tickers of the lines before | the command, `many` and how many commands with these, `blank` or `no_command`; then `of` how many tickers |
-//! | `lines: TEXT` | `encode_lines` | `done`, or `no_command` and the line's number. Then the records. With `lines more:` there is more of the text |
-//! | `line_2`, `lines_2` | `read_line`, `encode_lines` in version Two | as for `line` and `lines` |
-//! | `line_3`, `lines_3` | `read_line`, `encode_lines` in version Three | as for `line` and `lines` |
+//! | `lines: TEXT` | `encode_line`, line by line | `done`, or `no_command` and the line's number. Then the records. With `lines more:` there is more of the text |
+//! | `line_2`, `lines_2` | `read_line`, `encode_line` in version Two | as for `line` and `lines` |
+//! | `line_3`, `lines_3` | `read_line`, `encode_line` in version Three | as for `line` and `lines` |
 //! | `sample NUMBER ORDERS:` | `sample_commands` | how many bytes, their sum (FNV-1a of 64 bits), and the last seven records |
 //! | `put FIELDS: BYTES` | `put_u8` and its like for `u8/NUMBER`, `put_bytes` of the bytes for `bytes` | the bytes |
 //! | `take FIELDS: BYTES` | `Cursor::take_u8` and its like for `u8`, `take` for a number | the fields, a number with its type; the type alone or `none` if too few bytes are left; then `left` how many |

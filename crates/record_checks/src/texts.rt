@@ -2,7 +2,8 @@
 use crate::telling::{put, put_command};
 use check_lines::Told;
 use curve_ladder::CommandList;
-use line_records::{EncodeFault, encode_lines};
+use line_records::{EncodeFault, LineEncoder};
+use memchr::memchr;
 use memory_io::SteadySink;
 use order_text::{LineFault, LineRead, read_line};
 use std::alloc::Global;
@@ -71,6 +72,28 @@ fn put_encoded(encoded: Result<(), EncodeFault>, told: &mut Told) {
     told.put("\n");
 }
 
+// Encodes the lines of a text one after the other. If there is more of it, what is after the last line feed is no line.
+fn encode_each(
+    version: Version,
+    encoder: &mut LineEncoder,
+    lines: &[u8],
+    more: bool,
+    out: &mut SteadySink,
+) -> Result<(), EncodeFault> {
+    let mut place = 0;
+    let mut number = 1;
+    while let Some(length) = memchr(b'\n', &lines[place..]) {
+        encoder.encode_line(version, &lines[place..place + length], number, out)?;
+        place += length + 1;
+        number += 1;
+    }
+    let last = &lines[place..];
+    if more || last.is_empty() {
+        return Ok(());
+    }
+    encoder.encode_line(version, last, number, out)
+}
+
 fn put_lines_in(
     alloc: Global,
     version: Version,
@@ -80,10 +103,8 @@ fn put_lines_in(
     out: &mut SteadySink,
     told: &mut Told,
 ) {
-    put_encoded(
-        encode_lines(alloc, version, tickers, lines, more, out),
-        told,
-    );
+    let mut encoder = LineEncoder::new(alloc, tickers);
+    put_encoded(encode_each(version, &mut encoder, lines, more, out), told);
     told.put_records(out.bytes(), MOST_OUT);
 }
 

@@ -1,4 +1,3 @@
-use Rattle.std.proofs.Common.{ap}
 use Rattle.flow_io.specs.Changes.{change}
 use Rattle.encode_word.specs.Tasks.{encode_task}
 use Rattle.flow_exchange.specs.declared.form.Form.TheVariants.{Encode}
@@ -13,5 +12,5 @@ returns g c =
     let out = change g.K.Sink.held g.K.Sink.faults c.args.out.now c.encode_source-ended.new.out in
     record {
       asked = rw c.lines_status.ensures (not_asked (encode_task c.args.version) (Encode c.args.version) c.args.limit unencoded (encode_form c.args.version) c.encode_source-ended.result);
-      does = rw c.lines_status.ensures (does (encode_task c.args.version) (Encode c.args.version) c.args.limit unencoded (encode_form c.args.version) c.encode_source-ended.result source out (λ e. ap g.K.Sink.held (c.encode_source-ended.ensures.unread e)) c.encode_source-ended.ensures.does);
+      does = rw c.lines_status.ensures (does (encode_task c.args.version) (Encode c.args.version) c.args.limit unencoded (encode_form c.args.version) c.encode_source-ended.result source out (λ e. tt) c.encode_source-ended.ensures.does);
     }

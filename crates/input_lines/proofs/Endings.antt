@@ -1,6 +1,7 @@
 -- Which lines the bytes of an input have, from what was read of them.
 use Rattle.std.proofs.Common.{◌≡◌, ◌≢◌, ◌⊎◌, ⊎_elim, inl, inr, ℕ, ◌+◌, ◌-◌, ◌<◌, ◌≤◌, List, [], ◌∷◌, ◌++◌, Option, None, Some, IfSome, length, take, refl, sym, ap, subst, ◌∙◌, arith, append_assoc}
 use Rattle.std.specs.Prelude.{All}
+use Rattle.std.proofs.lemmas.Grind.{flat_map-append}
 use Rattle.std.proofs.lemmas.List.{append-nil, take_all}
 use Rattle.std.proofs.lemmas.Bool.{cases_lt}
 use Rattle.std.proofs.lemmas.List.Elements.{All-push}
@@ -8,8 +9,10 @@ use Rattle.std.proofs.Math.Seq.{take-append_seam, take-append-add}
 use Rattle.file_units.specs.Inputs.{known}
 use Rattle.line_records.specs.Lines.{HasNoFeed, AreLines, ended_by_feeds}
 use Rattle.line_records.proofs.Pieces.{lines_after}
-use Rattle.line_keeping.proofs.Joining.{Texts}
-use Rattle.line_keeping.proofs.Going.{feeds_more}
+
+-- lines with their feeds, and one more
+pub feeds_more : (lines : List (List ℕ)) (line : List ℕ) → ended_by_feeds (lines ++ line ∷ []) ≡ ended_by_feeds lines ++ (line ++ 10 ∷ [])
+feeds_more lines line = flat_map-append (λ (piece : List ℕ). piece ++ 10 ∷ []) lines (line ∷ []) ∙ ap (λ (l : List ℕ). ended_by_feeds lines ++ l) (append-nil (line ++ 10 ∷ []))
 
 -- the known bytes are those that were taken, and what is left
 pub known_is : (taken : List ℕ) (after : Option (List ℕ)) → (l : List ℕ) × (known taken after ≡ taken ++ l) × (IfSome after (λ left. left ≡ []) → l ≡ [])
@@ -19,7 +22,7 @@ known_is taken (Some left) = (left, refl, λ is. is)
 pub less_or_not : (limit size : ℕ) → (limit < size) ⊎ (¬ (limit < size))
 less_or_not limit size = ⊎_elim (λ more. inl more) (λ few. inr (λ more. omega (arith, more, few))) (cases_lt limit size)
 
-module _ (limit : ℕ) (all : List ℕ) (read : Texts) (pieces : All HasNoFeed read) where
+module _ (limit : ℕ) (all : List ℕ) (read : List (List ℕ)) (pieces : All HasNoFeed read) where
   -- the input ends after the lines
   pub lines_end : all ≡ ended_by_feeds read → length all ≤ limit → AreLines (limit < length all) (take limit all) read
   lines_end is few = record {
@@ -71,7 +74,7 @@ module _ (limit : ℕ) (all : List ℕ) (read : Texts) (pieces : All HasNoFeed r
           ∙ ap (take (length seen)) (take-append-add seen following (limit - length seen)) ∙ take-append_seam seen (take (limit - length seen) following)
 
   -- there is a line that ends, and more after it
-  pub lines_stop : (line following : List ℕ) → HasNoFeed line → all ≡ ended_by_feeds read ++ (line ++ 10 ∷ following) → length (ended_by_feeds (read ++ line ∷ [])) ≤ limit → (more : Texts) × AreLines (limit < length all) (take limit all) (read ++ line ∷ more)
+  pub lines_stop : (line following : List ℕ) → HasNoFeed line → all ≡ ended_by_feeds read ++ (line ++ 10 ∷ following) → length (ended_by_feeds (read ++ line ∷ [])) ≤ limit → (more : List (List ℕ)) × AreLines (limit < length all) (take limit all) (read ++ line ∷ more)
   lines_stop line following lawful is few =
       let lines = read ++ line ∷ [] in
       let prefixes = ended_by_feeds lines in
@@ -79,4 +82,4 @@ module _ (limit : ℕ) (all : List ℕ) (read : Texts) (pieces : All HasNoFeed r
       let spare : limit ≡ length prefixes + (limit - length prefixes) = omega (arith, few) in
       let cut : take limit all ≡ prefixes ++ take (limit - length prefixes) following = ap (take limit) parts ∙ ap (λ (n : ℕ). take n (prefixes ++ following)) spare ∙ take-append-add prefixes following (limit - length prefixes) in
       let found = lines_after (limit < length all) (less_or_not limit (length all)) (take limit all) (take (limit - length prefixes) following) lines cut (All-push HasNoFeed read line pieces lawful) in
-      (found.0, subst (λ (l : Texts). AreLines (limit < length all) (take limit all) l) (append_assoc read (line ∷ []) found.0) found.1)
+      (found.0, subst (λ (l : List (List ℕ)). AreLines (limit < length all) (take limit all) l) (append_assoc read (line ∷ []) found.0) found.1)

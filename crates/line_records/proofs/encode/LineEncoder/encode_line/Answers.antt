@@ -1,8 +1,8 @@
 use Rattle.std.proofs.Common.{rules, map}
 use Rattle.wire_records.specs.Views.{command_in}
 use Rattle.order_text.specs.Lines.{OfLadder}
-use Rattle.line_records.proofs.Going.{command_encoded, commands_encoded}
-use Rattle.line_records.proofs.encode.Encoding.encode_line.Goals as goal
+use Rattle.line_records.proofs.LineWritten.{command_encoded, commands_encoded}
+use Rattle.line_records.proofs.encode.LineEncoder.encode_line.Goals as goal
 
 pub returns-in-Ok-Asks-clause-encoded : goal.returns-in-Ok-Asks-clause-encoded
 returns-in-Ok-Asks-clause-encoded g c =
