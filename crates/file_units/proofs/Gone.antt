@@ -13,10 +13,11 @@ use Rattle.flow_io.proofs.Reading.{Takes-more}
 use Rattle.wire_records.specs.Records.{AreBytes}
 use Rattle.wire_records.specs.Grammars.{BeginsWithNone, encode_all}
 use Rattle.wire_records.specs.Reading.{Format}
+use Rattle.file_units.specs.declared.units.Ending.{Ending}
 use Rattle.file_units.specs.declared.units.Ending.TheVariants.{End, Torn, TooLong}
 use Rattle.file_units.specs.declared.input.TakeFault.TheVariants.{Read, Broken}
 use Rattle.file_units.specs.Units.{TakesOne, Leads, BreaksOff}
-use Rattle.file_units.specs.Inputs.{HasLongest, known, GoesFrom}
+use Rattle.file_units.specs.Inputs.{HasLongest, known, GoesFrom, IsStop, StopsAt}
 use Rattle.file_units.proofs.Taking.{leads_more}
 
 -- what went well didn't fail
@@ -224,6 +225,26 @@ module _ {V U S O : Type 0} (format : Format V U) (Steps : S → U → S → O �
             );
           }
 
+      -- and the window is where the reading ends
+      pub stops_overlong : HasLongest format first.room → (new : S) (after : O) → new ≡ middle → after ≡ between → format.IsOverlong now.held → IsWithin now.place (length now.held) now.limit now.over → StopsAt format Steps first now (rest from) (rest source) (Torn now.place) old new before after
+      stops_overlong longest new after state output over inside = record {
+        units = so.units;
+        taken = so.taken;
+        past = [];
+        takes = subst (λ (xs : List ℕ). Takes (rest from) (rest source) xs) (sym (append-nil so.taken)) so.takes;
+        whole = so.whole;
+        each = so.each;
+        leads = rw (state, output) so.leads;
+        none = longest.none now.held over;
+        place = so.reached;
+        room = so.room;
+        limit = so.limit;
+        within = inside;
+        beyond = subst (λ (o : Option InputEnd). IsPast None o []) (sym so.unended) refl;
+        all = λ e. absurd (let no = sym so.unended ∙ e in cc);
+        stop = (refl, inl (over, so.unended));
+      }
+
       -- taking a unit broke off
       pub gone_broken : (fault : F) (new : S) (after : O) → length now.held ≤ now.room → BreaksOff format Breaks now.held middle fault between after → GoesFrom format Steps Breaks first (rest from) (rest source) (Err (Broken fault)) old new before after
       gone_broken fault new after few off =
@@ -259,6 +280,32 @@ module _ {V U S O : Type 0} (format : Format V U) (Steps : S → U → S → O �
         past_alone =
             let nothing = none_joined now.held fills.joined (sym (ap (λ (w : WindowState). w.held) fills.holds) ∙ same) in
             Takes-more (rest from) (rest source) (rest now_source) so.taken fills.past so.takes (subst (λ (xs : List ℕ). Takes (rest source) (rest now_source) (xs ++ fills.past)) nothing fills.taken)
+
+        -- where the reading ends, the window is as before but for the end that was seen
+        pub stops : (ending : Ending) → IsWithin next.place (length next.held) next.limit next.over → (next.over ≡ Some Source → IfSome (rest now_source) (λ left. left ≡ [])) → IsStop format ending next → StopsAt format Steps first next (rest from) (rest now_source) ending old new before after
+        stops ending inside ended stop =
+            let place : next.place ≡ now.place = ap (λ (w : WindowState). w.place) fills.holds in
+            record {
+              units = so.units;
+              taken = so.taken;
+              past = fills.past;
+              takes = past_alone;
+              whole = so.whole ∙ ap (λ xs. encode_all format.units so.units ++ xs) (sym same);
+              each = so.each;
+              leads = rw (state, output) so.leads;
+              none = subst (λ (xs : List ℕ). BeginsWithNone format.units xs) (sym same) none;
+              place = place ∙ so.reached;
+              room = ap (λ (w : WindowState). w.room) fills.holds ∙ so.room;
+              limit = ap (λ (w : WindowState). w.limit) fills.holds ∙ so.limit;
+              within = inside;
+              beyond = subst (λ (o : Option InputEnd). IsPast o next.over fills.past) so.unended fills.beyond;
+              all = ended;
+              stop = stop;
+            }
+
+        -- the held bytes are as they were, and so state no body above its limit
+        pub short_still : ¬ format.IsOverlong next.held
+        short_still = subst (λ (xs : List ℕ). ¬ format.IsOverlong xs) (sym same) short
 
         -- a read failed
         pub gone_unread : next.over ≡ None → GoesFrom format Steps Breaks first (rest from) (rest now_source) (Err Read) old new before after

@@ -1,16 +1,17 @@
 -- Reading the units of an input one after the other, which is read as they are taken.
-use Rattle.std.specs.Prelude.{◌≡◌, ◌+◌, ◌-◌, ◌<◌, ◌≤◌, ℕ, List, [], ◌++◌, length, take, Option, Some, None, IfSome, Result, Ok, Err}
+use Rattle.std.specs.Prelude.{◌≡◌, ◌≢◌, ◌⊎◌, ◌+◌, ◌-◌, ◌<◌, ◌≤◌, ℕ, List, [], ◌++◌, length, take, All, Option, Some, None, IfSome, Result, Ok, Err}
 use Rattle.flow_io.specs.Streams.{Takes}
-use Rattle.flow_io.specs.Windows.{WindowState}
+use Rattle.flow_io.specs.Windows.{WindowState, IsPast, IsWithin}
+use Rattle.flow_io.specs.declared.window.InputEnd.TheVariants.{Source, Limit}
 use Rattle.wire_records.specs.Records.{AreBytes}
 use Rattle.wire_records.specs.Grammars.{BeginsWithNone, encode_all}
 use Rattle.wire_records.specs.Reading.{Format}
 use Rattle.wire_records.specs.Reading as reading
 use Rattle.file_units.specs.declared.units.Ending.{Ending}
-use Rattle.file_units.specs.declared.units.Ending.TheVariants.{End}
+use Rattle.file_units.specs.declared.units.Ending.TheVariants.{End, Torn, TooLong}
 use Rattle.file_units.specs.declared.input.TakeFault.{TakeFault}
 use Rattle.file_units.specs.declared.input.TakeFault.TheVariants.{Read, Broken}
-use Rattle.file_units.specs.Units.{ending_of, GoesToEnd, GoesToBreak}
+use Rattle.file_units.specs.Units.{ending_of, Leads, GoesToEnd, GoesToBreak}
 
 -- Any `most` bytes show whether they begin with a unit, or with one that states a body above its limit. The latter stays so
 -- whatever follows, and is no unit.
@@ -40,3 +41,30 @@ module _ {V U S O F : Type 0} (format : Format V U) (Steps : S → U → S → O
     pub takes : Takes before after taken
     pub few : length window.held + length taken ≤ (window.limit - window.place) + 1
     pub goes : GoesBy (window.limit - window.place) window.place window.room (window.held ++ taken) after (window.held ++ known taken after) result old new out now
+
+-- why a window whose held bytes begin with no complete unit is where the reading ends
+abbrev pub IsStop : {V U : Type 0} → Format V U → Ending → WindowState → Type 0
+IsStop format End window = (window.held ≡ []) × (window.over ≡ Some Source)
+IsStop format TooLong window = (¬ format.IsOverlong window.held) × (window.over ≡ Some Limit)
+IsStop format (Torn place) window =
+    (place ≡ window.place) × ((format.IsOverlong window.held × (window.over ≡ None)) ⊎ ((¬ format.IsOverlong window.held) × (window.held ≢ []) × (window.over ≡ Some Source)))
+
+module _ {V U S O : Type 0} (format : Format V U) (Steps : S → U → S → O → O → Type 0) where
+  -- The window where the reading ended: all complete units of the bytes seen so far were taken, and it holds those after them. No more was
+  -- taken of the source but for the byte past the limit.
+  pub record StopsAt (old new : WindowState) (before after : Option (List ℕ)) (ending : Ending) (state now : S) (out later : O) : Type 0 where
+    pub units : List U
+    pub taken : List ℕ
+    pub past : List ℕ
+    pub takes : Takes before after (taken ++ past)
+    pub whole : old.held ++ taken ≡ encode_all format.units units ++ new.held
+    pub each : All format.units.IsLawful units
+    pub leads : Leads format Steps state out units now later
+    pub none : BeginsWithNone format.units new.held
+    pub place : new.place ≡ old.place + length (encode_all format.units units)
+    pub room : new.room ≡ old.room
+    pub limit : new.limit ≡ old.limit
+    pub within : IsWithin new.place (length new.held) new.limit new.over
+    pub beyond : IsPast None new.over past
+    pub all : new.over ≡ Some Source → IfSome after (λ left. left ≡ [])
+    pub stop : IsStop format ending new

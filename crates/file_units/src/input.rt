@@ -4,7 +4,7 @@ ghost use Rattle.flow_io.specs.Faults.{Blames};
 ghost use Rattle.flow_io.specs.Windows.{Fills, IsWithin};
 ghost use Rattle.flow_io.specs.declared.window.InputEnd.TheVariants.{Source as source_end, Limit as limit_end};
 ghost use Rattle.wire_records.specs.Records.{AreBytes};
-ghost use Rattle.file_units.specs.Inputs.{HasLongest, GoesFrom};
+ghost use Rattle.file_units.specs.Inputs.{HasLongest, GoesFrom, StopsAt};
 
 use crate::units::{Ending, Prefix, TakesUnits};
 use flow_io::{Filled, ReadFailed, Source, Window};
@@ -48,7 +48,7 @@ fn read_on<S: Source>(window: &mut Window, source: &mut S) -> Result<Filled, Rea
 /// taken before more is asked for.
 ///
 /// The window has to hold the longest unit. Each unit is looked at in place, and again for each read that ended
-/// within it.
+/// within it. Where the reading ended, the window holds what was read after the last complete unit.
 pub fn take_from<S: Source, O, T: TakesUnits<O>>(
     window: &mut Window,
     source: &mut S,
@@ -60,6 +60,8 @@ pub fn take_from<S: Source, O, T: TakesUnits<O>>(
     requires ready { T.is_ready taker.old (window.old.limit - window.old.place) }
     ensures goes { GoesFrom T.format T.steps T.breaks window.old (S.rest source.old) (S.rest source.new) result
         (T.state taker.old) (T.state taker.new) out.old out.new }
+    ensures stops { IfOk result (λ ending. StopsAt T.format T.steps window.old window.new (S.rest source.old) (S.rest source.new) ending
+        (T.state taker.old) (T.state taker.new) out.old out.new) }
     ensures cause { Blames (result ≡ Err TakeFault.Read) (S.faults source.old) (S.faults source.new) }
 {
     'units: loop {

@@ -1,6 +1,7 @@
-use Rattle.std.proofs.Common.{◌≤◌, length, ap, ◌∙◌, arith}
+use Rattle.std.proofs.Common.{◌≡◌, ◌≤◌, [], length, refl, inr, sym, ap, ◌∙◌, arith}
 use Rattle.flow_io.specs.Windows.{WindowState}
-use Rattle.file_units.proofs.Gone.{went_well, fewer_than_room, within_limit, falls, none_gone, one_more_gone, read_gone, gone_overlong, gone_broken, gone_unread, gone_limited, gone_to_end, gone_torn, limit_reached}
+use Rattle.file_units.proofs.Gone.{went_well, fewer_than_room, within_limit, falls, none_gone, one_more_gone, read_gone, gone_overlong, gone_broken, gone_unread, gone_limited, gone_to_end, gone_torn, limit_reached, stops_overlong, stops, short_still}
+use Rattle.file_units.specs.declared.units.Ending.TheVariants.{End, Torn, TooLong}
 use Rattle.file_units.proofs.input.take_from.Goals as goal
 
 pub units-init : goal.units-init
@@ -116,3 +117,59 @@ read_on-requires-clause-room g c =
     let w = c.units.window in
     let none = rw (c.in-Short.is, c.bytes_of.ensures.value, c.held.ensures.held) at c.in-Ok.ensures.taken in
     omega (arith, fewer_than_room g.T.TakesUnits.format c.args.window.now.room w.held c.requires.longest (rw c.held.ensures.held at c.bytes_of.ensures.bytes) none.0.none none.2, c.units.invariant.room)
+
+pub returns-in-Overlong-clause-stops : goal.returns-in-Overlong-clause-stops
+returns-in-Overlong-clause-stops g c =
+    let w = c.units.window in
+    let inside = within_limit w.place (length w.held) w.limit w.over c.held.ensures.within in
+    let none = rw (c.in-Overlong.is, c.bytes_of.ensures.value, c.held.ensures.held) at c.in-Ok.ensures.taken in
+    rw c.place.ensures (stops_overlong g.T.TakesUnits.format g.T.TakesUnits.steps g.S.Source.rest g.S.Source.faults c.args.window.now w c.args.source.now c.units.source (g.T.TakesUnits.state c.args.taker.now) (g.T.TakesUnits.state c.units.taker) c.args.out.now c.units.out
+    g.T.TakesUnits.breaks (g.T.TakesUnits.is_ready c.units.taker) c.units.invariant inside c.requires.longest (g.T.TakesUnits.state c.take.new.self) c.take.new.out none.0.state none.0.output none.1 c.held.ensures.within)
+
+pub returns-in-Ok-Limited-clause-stops : goal.returns-in-Ok-Limited-clause-stops
+returns-in-Ok-Limited-clause-stops g c =
+    let w = c.units.window in
+    let inside = within_limit w.place (length w.held) w.limit w.over c.held.ensures.within in
+    let none = rw (c.in-Short.is, c.bytes_of.ensures.value, c.held.ensures.held) at c.in-Ok.ensures.taken in
+    let how = c.in-Ok-Limited.ensures.limited c.in-Ok-Limited.field-0-is in
+    let next = c.read_on.new.window in
+    let short = short_still g.T.TakesUnits.format g.T.TakesUnits.steps g.S.Source.rest g.S.Source.faults c.args.window.now w c.args.source.now c.units.source (g.T.TakesUnits.state c.args.taker.now) (g.T.TakesUnits.state c.units.taker) c.args.out.now c.units.out
+    g.T.TakesUnits.breaks (g.T.TakesUnits.is_ready c.units.taker) c.units.invariant inside next c.read_on.new.source c.read_on.ensures.fills how.0 (g.T.TakesUnits.state c.take.new.self) c.take.new.out none.0.state none.0.output none.0.none none.2 in
+    stops g.T.TakesUnits.format g.T.TakesUnits.steps g.S.Source.rest g.S.Source.faults c.args.window.now w c.args.source.now c.units.source (g.T.TakesUnits.state c.args.taker.now) (g.T.TakesUnits.state c.units.taker) c.args.out.now c.units.out
+    g.T.TakesUnits.breaks (g.T.TakesUnits.is_ready c.units.taker) c.units.invariant inside next c.read_on.new.source c.read_on.ensures.fills how.0 (g.T.TakesUnits.state c.take.new.self) c.take.new.out none.0.state none.0.output none.0.none none.2 TooLong c.read_on.ensures.within c.read_on.ensures.all (short, how.1)
+
+pub returns-in-Ok-Ended-clause-stops : goal.returns-in-Ok-Ended-clause-stops
+returns-in-Ok-Ended-clause-stops g c =
+    let w = c.units.window in
+    let inside = within_limit w.place (length w.held) w.limit w.over c.held.ensures.within in
+    let none = rw (c.in-Short.is, c.bytes_of.ensures.value, c.held.ensures.held) at c.in-Ok.ensures.taken in
+    let how = c.in-Ok-Ended.ensures.ended c.in-Ok-Ended.field-0-is in
+    let next = c.read_on.new.window in
+    let short = short_still g.T.TakesUnits.format g.T.TakesUnits.steps g.S.Source.rest g.S.Source.faults c.args.window.now w c.args.source.now c.units.source (g.T.TakesUnits.state c.args.taker.now) (g.T.TakesUnits.state c.units.taker) c.args.out.now c.units.out
+    g.T.TakesUnits.breaks (g.T.TakesUnits.is_ready c.units.taker) c.units.invariant inside next c.read_on.new.source c.read_on.ensures.fills how.0 (g.T.TakesUnits.state c.take.new.self) c.take.new.out none.0.state none.0.output none.0.none none.2 in
+    rw c.place-in-Ok-Ended.ensures (stops g.T.TakesUnits.format g.T.TakesUnits.steps g.S.Source.rest g.S.Source.faults c.args.window.now w c.args.source.now c.units.source (g.T.TakesUnits.state c.args.taker.now) (g.T.TakesUnits.state c.units.taker) c.args.out.now c.units.out
+    g.T.TakesUnits.breaks (g.T.TakesUnits.is_ready c.units.taker) c.units.invariant inside next c.read_on.new.source c.read_on.ensures.fills how.0 (g.T.TakesUnits.state c.take.new.self) c.take.new.out none.0.state none.0.output none.0.none none.2 (Torn next.place) c.read_on.ensures.within c.read_on.ensures.all (refl, inr (short, (λ e. none.1 (sym how.0 ∙ e)), how.1)))
+
+pub returns-in-Ok-Limited-read_on-clause-stops : goal.returns-in-Ok-Limited-read_on-clause-stops
+returns-in-Ok-Limited-read_on-clause-stops g c =
+    let w = c.units.window in
+    let inside = within_limit w.place (length w.held) w.limit w.over c.held.ensures.within in
+    let none = rw (c.in-NoBytes.is, c.bytes_of.ensures.value, c.held.ensures.held) at c.in-Ok.ensures.taken in
+    let how = c.in-Ok-Limited-read_on.ensures.limited c.in-Ok-Limited-read_on.field-0-is in
+    let next = c.read_on-in-NoBytes.new.window in
+    let short = short_still g.T.TakesUnits.format g.T.TakesUnits.steps g.S.Source.rest g.S.Source.faults c.args.window.now w c.args.source.now c.units.source (g.T.TakesUnits.state c.args.taker.now) (g.T.TakesUnits.state c.units.taker) c.args.out.now c.units.out
+    g.T.TakesUnits.breaks (g.T.TakesUnits.is_ready c.units.taker) c.units.invariant inside next c.read_on-in-NoBytes.new.source c.read_on-in-NoBytes.ensures.fills how.0 (g.T.TakesUnits.state c.take.new.self) c.take.new.out none.0.state none.0.output none.0.none none.2 in
+    stops g.T.TakesUnits.format g.T.TakesUnits.steps g.S.Source.rest g.S.Source.faults c.args.window.now w c.args.source.now c.units.source (g.T.TakesUnits.state c.args.taker.now) (g.T.TakesUnits.state c.units.taker) c.args.out.now c.units.out
+    g.T.TakesUnits.breaks (g.T.TakesUnits.is_ready c.units.taker) c.units.invariant inside next c.read_on-in-NoBytes.new.source c.read_on-in-NoBytes.ensures.fills how.0 (g.T.TakesUnits.state c.take.new.self) c.take.new.out none.0.state none.0.output none.0.none none.2 TooLong c.read_on-in-NoBytes.ensures.within c.read_on-in-NoBytes.ensures.all (short, how.1)
+
+pub returns-in-Ok-Ended-read_on-clause-stops : goal.returns-in-Ok-Ended-read_on-clause-stops
+returns-in-Ok-Ended-read_on-clause-stops g c =
+    let w = c.units.window in
+    let inside = within_limit w.place (length w.held) w.limit w.over c.held.ensures.within in
+    let none = rw (c.in-NoBytes.is, c.bytes_of.ensures.value, c.held.ensures.held) at c.in-Ok.ensures.taken in
+    let how = c.in-Ok-Ended-read_on.ensures.ended c.in-Ok-Ended-read_on.field-0-is in
+    let next = c.read_on-in-NoBytes.new.window in
+    let short = short_still g.T.TakesUnits.format g.T.TakesUnits.steps g.S.Source.rest g.S.Source.faults c.args.window.now w c.args.source.now c.units.source (g.T.TakesUnits.state c.args.taker.now) (g.T.TakesUnits.state c.units.taker) c.args.out.now c.units.out
+    g.T.TakesUnits.breaks (g.T.TakesUnits.is_ready c.units.taker) c.units.invariant inside next c.read_on-in-NoBytes.new.source c.read_on-in-NoBytes.ensures.fills how.0 (g.T.TakesUnits.state c.take.new.self) c.take.new.out none.0.state none.0.output none.0.none none.2 in
+    stops g.T.TakesUnits.format g.T.TakesUnits.steps g.S.Source.rest g.S.Source.faults c.args.window.now w c.args.source.now c.units.source (g.T.TakesUnits.state c.args.taker.now) (g.T.TakesUnits.state c.units.taker) c.args.out.now c.units.out
+    g.T.TakesUnits.breaks (g.T.TakesUnits.is_ready c.units.taker) c.units.invariant inside next c.read_on-in-NoBytes.new.source c.read_on-in-NoBytes.ensures.fills how.0 (g.T.TakesUnits.state c.take.new.self) c.take.new.out none.0.state none.0.output none.0.none none.2 End c.read_on-in-NoBytes.ensures.within c.read_on-in-NoBytes.ensures.all (how.0 ∙ none.1, how.1)
