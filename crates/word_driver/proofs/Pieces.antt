@@ -1,16 +1,26 @@
 -- What taking a unit writes, and how it breaks off.
-use Rattle.std.proofs.Common.{◌≡◌, ◌≢◌, ℕ, List, [], Option, Some, drop, inl, inr, refl}
+use Rattle.std.proofs.Common.{◌≡◌, ◌≢◌, ◌≤◌, ℕ, List, [], Option, Some, drop, inl, inr, refl, arith}
 use Rattle.flow_io.specs.Faults.{Blames}
 use Rattle.flow_io.specs.Streams.{Grows, GrowsByPrefix, HandsOver}
 use Rattle.flow_io.specs.Changes.{change}
 use Rattle.file_units.specs.declared.units.Prefix.{Prefix}
 use Rattle.file_units.specs.declared.units.Prefix.TheVariants.{Taken, NoBytes, Overlong, Short}
 use Rattle.file_units.specs.Units.{IsTaken, BreaksOff}
+use Rattle.file_units.specs.Inputs.{HasLongest}
+use Rattle.wire_records.specs.Reading.{Format}
 use Rattle.word_driver.specs.declared.fault.Fault.{Fault}
 use Rattle.word_driver.specs.declared.fault.Fault.TheVariants.{Write}
 use Rattle.word_driver.specs.Word.{Word}
 use Rattle.word_driver.specs.Pieces.{piece}
 use Rattle.word_driver.specs.Private.{IsTakenBy, WritesStep, BreaksStep, PutsStep, PutsLast}
+
+-- more bytes than the longest unit has show as much
+pub longest_within : {V U : Type 0} (format : Format V U) (longest room : ℕ) → HasLongest format longest → longest ≤ room → HasLongest format room
+longest_within format longest room has wide = record {
+  seen = λ bytes are long none. has.seen bytes are (omega (arith, long, wide)) none;
+  stays = has.stays;
+  none = has.none;
+}
 
 module _ {U S B O : Type 0} (w : Word U S B) (held : O → Option (List ℕ)) (faults : O → ℕ) where
   -- what a step writes to an output

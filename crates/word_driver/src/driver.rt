@@ -38,8 +38,8 @@ fn close<K: Sink, W: ServesWord + Drop>(
 }
 
 /// Continues a subcommand from a window: hands it the units from what the window holds on, one after the other, to the end of the input.
-/// `go` does so after the magic; others do so after a longer beginning. The window has room for the longest unit, and the end of the
-/// input hasn't been seen.
+/// `go` does so after the magic; others do so after a longer beginning. The window has room for the longest unit or more, and the end of
+/// the input hasn't been seen.
 pub fn go_on<S: Source, K: Sink, W: ServesWord + Drop>(
     window: Window,
     source: &mut S,
@@ -48,11 +48,11 @@ pub fn go_on<S: Source, K: Sink, W: ServesWord + Drop>(
     out: &mut K,
 ) -> Result<(), Fault<W::Stop>>
     requires exact { IsExact W.word }
-    requires wide { window.room ≡ W.word.longest }
+    requires wide { W.word.longest ≤ window.room }
     requires open { window.over ≡ None }
     requires room { W.ROOM ≤ vec_capacity text }
     requires ready { W.is_ready word (window.limit - window.place) }
-    ensures goes { ContinuesFrom W.word (W.word.longest + 1) window (W.state word) result
+    ensures goes { ContinuesFrom W.word (window.room + 1) window (W.state word) result
         (change S.rest S.faults source.old source.new) (change K.held K.faults out.old out.new) }
     ensures reads { Blames (result ≡ Err Fault.Read) (S.faults source.old) (S.faults source.new) }
     ensures writes { Blames (result ≡ Err Fault.Write) (K.faults out.old) (K.faults out.new) }

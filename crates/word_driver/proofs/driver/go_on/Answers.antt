@@ -1,4 +1,5 @@
 use Rattle.std.proofs.Common.{◌-◌, ◌+◌, ◌<◌, ◌++◌, length, take, refl}
+use Rattle.word_driver.proofs.Pieces.{longest_within}
 use Rattle.file_units.specs.Inputs.{known}
 use Rattle.word_driver.specs.declared.fault.Fault.TheVariants.{Write}
 use Rattle.word_driver.proofs.Going.{blames_nobody, blames_later, has_written, to_torn, to_limit, to_unread, to_end, to_break, break_blames, near_where_ended, no_read_broken, err_alike, broken_is_no_read}
@@ -17,7 +18,7 @@ returns-in-Ok-End-clause-goes g c =
     let more = w.limit - w.place < length all in
     let bytes = take (w.limit - w.place) all in
     let seen = w.held ++ goes.taken in
-    record { taken = goes.taken; takes = goes.takes; few = goes.few; ends = to_end W.word g.K.Sink.held g.K.Sink.faults more w.place bytes (W.state c.args.word) (W.state c.take_from.new.taker.word) c.args.out.now c.take_from.new.out c.close.new.out (W.word.longest + 1) seen after c.close.result ends (done.1 refl) (near_where_ended W.word g.K.Sink.held g.K.Sink.faults (w.limit - w.place) w.place w.held goes.taken after (W.state c.args.word) (W.state c.take_from.new.taker.word) c.args.out.now c.take_from.new.out ends (W.word.longest + 1)) c.close.ensures.closed }
+    record { taken = goes.taken; takes = goes.takes; few = goes.few; ends = to_end W.word g.K.Sink.held g.K.Sink.faults more w.place bytes (W.state c.args.word) (W.state c.take_from.new.taker.word) c.args.out.now c.take_from.new.out c.close.new.out (w.room + 1) seen after c.close.result ends (done.1 refl) (near_where_ended W.word g.K.Sink.held g.K.Sink.faults (w.limit - w.place) w.place w.held goes.taken after (W.state c.args.word) (W.state c.take_from.new.taker.word) c.args.out.now c.take_from.new.out ends (w.room + 1)) c.close.ensures.closed }
 
 pub returns-in-Ok-Torn-clause-goes : goal.returns-in-Ok-Torn-clause-goes
 returns-in-Ok-Torn-clause-goes g c =
@@ -31,7 +32,7 @@ returns-in-Ok-Torn-clause-goes g c =
     let more = w.limit - w.place < length all in
     let bytes = take (w.limit - w.place) all in
     let seen = w.held ++ goes.taken in
-    record { taken = goes.taken; takes = goes.takes; few = goes.few; ends = to_torn W.word g.K.Sink.held g.K.Sink.faults more w.place bytes (W.state c.args.word) (W.state c.take_from.new.taker.word) c.args.out.now c.take_from.new.out c.take_from.new.out (W.word.longest + 1) seen after c.in-Ok-Torn.place ends }
+    record { taken = goes.taken; takes = goes.takes; few = goes.few; ends = to_torn W.word g.K.Sink.held g.K.Sink.faults more w.place bytes (W.state c.args.word) (W.state c.take_from.new.taker.word) c.args.out.now c.take_from.new.out c.take_from.new.out (w.room + 1) seen after c.in-Ok-Torn.place ends }
 
 pub returns-in-Ok-TooLong-clause-goes : goal.returns-in-Ok-TooLong-clause-goes
 returns-in-Ok-TooLong-clause-goes g c =
@@ -45,7 +46,7 @@ returns-in-Ok-TooLong-clause-goes g c =
     let more = w.limit - w.place < length all in
     let bytes = take (w.limit - w.place) all in
     let seen = w.held ++ goes.taken in
-    record { taken = goes.taken; takes = goes.takes; few = goes.few; ends = to_limit W.word g.K.Sink.held g.K.Sink.faults more w.place bytes (W.state c.args.word) (W.state c.take_from.new.taker.word) c.args.out.now c.take_from.new.out c.take_from.new.out (W.word.longest + 1) seen after ends }
+    record { taken = goes.taken; takes = goes.takes; few = goes.few; ends = to_limit W.word g.K.Sink.held g.K.Sink.faults more w.place bytes (W.state c.args.word) (W.state c.take_from.new.taker.word) c.args.out.now c.take_from.new.out c.take_from.new.out (w.room + 1) seen after ends }
 
 pub returns-in-Err-Read-clause-goes : goal.returns-in-Err-Read-clause-goes
 returns-in-Err-Read-clause-goes g c =
@@ -59,7 +60,7 @@ returns-in-Err-Read-clause-goes g c =
     let more = w.limit - w.place < length all in
     let bytes = take (w.limit - w.place) all in
     let seen = w.held ++ goes.taken in
-    record { taken = goes.taken; takes = goes.takes; few = goes.few; ends = to_unread W.word g.K.Sink.held g.K.Sink.faults more w.place bytes seen (W.state c.args.word) (W.state c.take_from.new.taker.word) c.args.out.now c.take_from.new.out (W.word.longest + 1) after ends }
+    record { taken = goes.taken; takes = goes.takes; few = goes.few; ends = to_unread W.word g.K.Sink.held g.K.Sink.faults more w.place bytes seen (W.state c.args.word) (W.state c.take_from.new.taker.word) c.args.out.now c.take_from.new.out (w.room + 1) after ends }
 
 pub returns-clause-goes : goal.returns-clause-goes
 returns-clause-goes g c =
@@ -73,7 +74,7 @@ returns-clause-goes g c =
     let more = w.limit - w.place < length all in
     let bytes = take (w.limit - w.place) all in
     let seen = w.held ++ goes.taken in
-    record { taken = goes.taken; takes = goes.takes; few = goes.few; ends = to_break W.word g.K.Sink.held g.K.Sink.faults c.requires.exact more w.place bytes (W.state c.args.word) c.args.out.now c.take_from.new.out (W.word.longest + 1) seen after c.in-Err-Broken.fault off (break_few W.word g.K.Sink.calls g.K.Sink.held g.K.Sink.faults _ _ _ _ _ done.0 seen w.room W.word.longest c.requires.wide done.1) }
+    record { taken = goes.taken; takes = goes.takes; few = goes.few; ends = to_break W.word g.K.Sink.held g.K.Sink.faults c.requires.exact more w.place bytes (W.state c.args.word) c.args.out.now c.take_from.new.out (w.room + 1) seen after c.in-Err-Broken.fault off (break_few W.word g.K.Sink.calls g.K.Sink.held g.K.Sink.faults _ _ _ _ _ done.0 seen w.room w.room refl done.1) }
 
 pub returns-in-Ok-End-clause-writes : goal.returns-in-Ok-End-clause-writes
 returns-in-Ok-End-clause-writes g c =
@@ -123,7 +124,7 @@ returns-clause-writes g c =
     let more = w.limit - w.place < length all in
     let bytes = take (w.limit - w.place) all in
     let seen = w.held ++ goes.taken in
-    err_alike c.in-Err-Broken.fault Write _ _ (break_blames W.word g.K.Sink.held g.K.Sink.faults c.requires.exact more w.place bytes (W.state c.args.word) c.args.out.now c.take_from.new.out (W.word.longest + 1) seen after c.in-Err-Broken.fault off)
+    err_alike c.in-Err-Broken.fault Write _ _ (break_blames W.word g.K.Sink.held g.K.Sink.faults c.requires.exact more w.place bytes (W.state c.args.word) c.args.out.now c.take_from.new.out (w.room + 1) seen after c.in-Err-Broken.fault off)
 
 pub returns-clause-reads : goal.returns-clause-reads
 returns-clause-reads g c =
@@ -137,7 +138,7 @@ returns-clause-reads g c =
     let more = w.limit - w.place < length all in
     let bytes = take (w.limit - w.place) all in
     let seen = w.held ++ goes.taken in
-    no_read_broken W.word g.K.Sink.held g.K.Sink.faults c.requires.exact more w.place bytes (W.state c.args.word) c.args.out.now c.take_from.new.out (W.word.longest + 1) seen after c.in-Err-Broken.fault off _ _ ((rw c.in-Err-Broken.field-0-is at c.in-Err-Broken.ensures.cause).quiet (broken_is_no_read c.in-Err-Broken.fault))
+    no_read_broken W.word g.K.Sink.held g.K.Sink.faults c.requires.exact more w.place bytes (W.state c.args.word) c.args.out.now c.take_from.new.out (w.room + 1) seen after c.in-Err-Broken.fault off _ _ ((rw c.in-Err-Broken.field-0-is at c.in-Err-Broken.ensures.cause).quiet (broken_is_no_read c.in-Err-Broken.fault))
 
 pub returns-in-Ok-End-clause-pieces : goal.returns-in-Ok-End-clause-pieces
 returns-in-Ok-End-clause-pieces g c =
@@ -168,3 +169,6 @@ returns-clause-pieces g c =
     let W = g.W.ServesWord in
     let done = rw c.in-Err-Broken.field-0-is at c.in-Err-Broken.ensures.goes.goes in
     on_broken W.word g.K.Sink.calls g.K.Sink.held g.K.Sink.faults _ c.in-Err-Broken.fault (W.state c.args.word) c.args.out.now c.take_from.new.out done.0
+
+pub take_from-requires-clause-longest : goal.take_from-requires-clause-longest
+take_from-requires-clause-longest g c = longest_within g.W.ServesWord.word.format g.W.ServesWord.word.longest c.args.window.room c.requires.exact.longest c.requires.wide
