@@ -10,7 +10,6 @@ pub mod Pace
 pub mod HistoryForms
 pub mod ExplainForm
 pub mod EncodeForm
-pub mod CommandFiles
 pub mod CheckpointForm
 pub mod ResumeForm
 mod SampleForm

@@ -4,7 +4,7 @@ use Rattle.flow_io.specs.Streams.{Grows}
 use Rattle.flow_io.specs.Changes.{Change}
 use Rattle.word_driver.specs.Does.{IsTaken}
 use Rattle.encode_word.specs.Encoding.{EncodesShort}
-use Rattle.session_resume.specs.Resuming.{ResumesShort}
+use Rattle.session_resume.specs.Resuming.{ResumesLacks}
 use Rattle.flow_exchange.specs.declared.form.Form.{Form}
 use Rattle.flow_exchange.specs.declared.form.Form.TheVariants.{Run, Audit, Explain, Report, Encode, Sample, Statement, Checkpoint, Resume}
 use Rattle.exit_status.specs.declared.status.Status.{Status}
@@ -25,7 +25,7 @@ LacksAt (Encode version) limit bytes text = (text ≡ []) ⊎ EncodesShort versi
 LacksAt (Sample number orders) limit bytes text = ⊥
 LacksAt (Statement number) limit bytes text = StatesShort number limit bytes text
 LacksAt Checkpoint limit bytes text = CheckpointsShort limit bytes text
-LacksAt Resume limit bytes text = (text ≡ []) ⊎ ResumesShort (take limit bytes) text
+LacksAt Resume limit bytes text = ResumesLacks (take limit bytes) text
 
 -- how memory ran out: before anything was read or written, or where it may, and what was appended to the output
 abbrev pub RunsOut : Form → ℕ → List ℕ → Option (List ℕ) → Option (List ℕ) → Option (List ℕ) → Type 0

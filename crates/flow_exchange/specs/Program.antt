@@ -78,7 +78,7 @@ WritesSoFar (Encode version) bytes text = text ≡ []
 WritesSoFar (Sample number orders) bytes text = text ≡ []
 WritesSoFar (Statement number) bytes text = ComesToIfMore (Statement number) bytes text
 WritesSoFar Checkpoint bytes text = ComesToIfMore Checkpoint bytes text
-WritesSoFar Resume bytes text = text ≡ []
+WritesSoFar Resume bytes text = ComesToIfMore Resume bytes text
 
 -- ---- what all forms do
 

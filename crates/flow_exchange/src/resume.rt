@@ -10,8 +10,8 @@ use flow_io::{Sink, Source};
 use session_resume::resume_source;
 use std::alloc::Global;
 
-/// Reads the source to its end or the limit, resumes from the journal or the checkpoint with which it begins, and writes the entries
-/// of the commands that follow, by one call each. Holds the whole input, and one buffer for an entry.
+/// Reads the source as it is taken, to its end or the limit, resumes from the journal or the checkpoint with which it begins, and writes the
+/// entries of the commands that follow, by one call each. Holds a window of the longest entry, and one buffer for an entry.
 pub(crate) fn resume<S: Source, K: Sink>(
     alloc: Global,
     limit: u64,

@@ -66,10 +66,10 @@ pub told : (more : Bool) → IsTrue more ⊎ (¬ IsTrue more)
 told true = inl refl
 told false = inr (λ e. absurd cc)
 
-module _ {O : Type 0} (version : Version) (place : ℕ) (more : Bool) (bytes : List ℕ) (start new : State) (before after : O) where
+module _ {O : Type 0} (version : Version) (place : ℕ) (More : Type 0) (bytes : List ℕ) (start new : State) (before after : O) where
   -- all complete units are valid
-  pub all_legal : (ending : Ending) → (goes : GoesToEnd journals Counts place (IsTrue more) bytes ending start new before after) → start.market ≡ empty_market version
-      → (are : AreLegal start new goes.units) × AuditsOn version place (IsTrue more) bytes are.legal [] ending new.market
+  pub all_legal : (ending : Ending) → (goes : GoesToEnd journals Counts place More bytes ending start new before after) → start.market ≡ empty_market version
+      → (are : AreLegal start new goes.units) × AuditsOn version place More bytes are.legal [] ending new.market
   all_legal ending goes begins =
       let are = are_legal start new before after goes.units goes.reads.each goes.leads in (
         are,
@@ -109,8 +109,8 @@ read_more place More dec bytes left rest units bad begins each lawful prefix =
     )
 
 -- a unit is invalid, or its command may allocate
-pub some_fault : {O : Type 0} (version : Version) (place : ℕ) (more : Bool) (bytes : List ℕ) (start : State) (fault : PairFault) (before after : O) → GoesToBreak journals Counts Breaks bytes fault start before after → start.market ≡ empty_market version → start.pairs ≡ 0 → FindsFault version place (IsTrue more) bytes fault
-some_fault version place more bytes start Memory before after goes begins none =
+pub some_fault : {O : Type 0} (version : Version) (place : ℕ) (More : Type 0) → More ⊎ (¬ More) → (bytes : List ℕ) (start : State) (fault : PairFault) (before after : O) → GoesToBreak journals Counts Breaks bytes fault start before after → start.market ≡ empty_market version → start.pairs ≡ 0 → FindsFault version place More bytes fault
+some_fault version place More dec bytes start Memory before after goes begins none =
     let are = are_legal start goes.middle before goes.between goes.units goes.each goes.leads in
     let off = goes.breaks in
     record {
@@ -123,10 +123,10 @@ some_fault version place more bytes start Memory before after goes begins none =
       begins = goes.begins ∙ ap (λ units. encode_all journals.units units ++ goes.left) are.parts ∙ ap (λ left. encode_all journals.units (map records_of are.legal) ++ left) off.prefix;
       allocates = off.broken;
     }
-some_fault version place more bytes start (Illegal number) before after goes begins none =
+some_fault version place More dec bytes start (Illegal number) before after goes begins none =
     let are = are_legal start goes.middle before goes.between goes.units goes.each goes.leads in
     let off = goes.breaks in
-    let on = read_more place (IsTrue more) (told more) bytes goes.left off.rest goes.units off.unit goes.begins goes.each off.lawful off.prefix in
+    let on = read_more place More dec bytes goes.left off.rest goes.units off.unit goes.begins goes.each off.lawful off.prefix in
     record {
       legal = are.legal;
       bad = off.unit;

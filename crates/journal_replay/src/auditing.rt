@@ -1,12 +1,16 @@
 //! The audit of the entries of a journal, one after the other.
-ghost use Rattle.std.specs.Prelude.{ℕ, ◌≤◌, IfOk, IfErr, IsTrue, drop, length};
+ghost use Rattle.std.specs.Prelude.{ℕ, ◌≡◌, ◌≤◌, ◌<◌, ◌^◌, Err, None, IfOk, IfErr, IsTrue, drop, length};
+ghost use Rattle.flow_io.specs.Faults.{Blames};
 ghost use Rattle.wire_records.specs.Records.{Record};
 ghost use Rattle.journal_records.specs.Formats.{journals};
+ghost use Rattle.journal_records.specs.Pairs.{longest_pair};
 ghost use Rattle.journal_replay.specs.Private.{State, CountsLegal, BreaksOffWith, CountersFit};
 ghost use Rattle.journal_replay.specs.Replays.{FindsLegal, FindsFault};
+ghost use Rattle.journal_replay.specs.Inputs.{FindsFrom};
 
 use batch_audit::{Audit, Legality};
-use file_units::{Ending, Prefix, TakesUnits, take_units};
+use file_units::{Ending, Prefix, TakeFault, TakesUnits, take_from, take_units};
+use flow_io::{Source, Window};
 use journal_records::{PairFramed, PairView, is_overlong, next_pair};
 use market_core::Market;
 use std::alloc::Global;
@@ -116,4 +120,38 @@ pub fn audit_pairs(
         ending,
         market: auditing.audit.into_market(),
     })
+}
+
+/// Audits the entries of a journal from a window on, which begins after the magic, one after the other, from the empty market of the
+/// journal's version, and returns how the reading ends and the market, if all complete entries are valid. The source is read only if no
+/// complete entry is held. Then the window holds what was read after the last complete entry.
+///
+/// The window has room for the longest entry. `Read` comes only if the source's count of faults rose. Returns `Illegal` if some complete
+/// entry isn't valid, with the number of the first, counted from 1, without a look at what follows it. Returns `Memory` as [`audit_pairs`]
+/// does.
+pub fn audit_from<S: Source>(
+    alloc: Global,
+    version: Version,
+    window: &mut Window,
+    source: &mut S,
+) -> Result<Audited, TakeFault<PairFault>>
+    requires wide { longest_pair ≤ window.old.room }
+    requires open { window.old.over ≡ None }
+    requires begun { 8 ≤ window.old.place }
+    requires few { window.old.limit < 2 ^ 64 }
+    ensures finds { FindsFrom version window.old window.new (S.rest source.old) (S.rest source.new) result }
+    ensures cause { Blames (result ≡ Err TakeFault.Read) (S.faults source.old) (S.faults source.new) }
+{
+    let mut auditing = Auditing {
+        audit: Audit::over(Market::new_in(alloc, version)),
+        pairs: 0,
+    };
+    match take_from(window, source, &mut auditing, &mut ()) {
+        Ok(ending) => Ok(Audited {
+            ending,
+            market: auditing.audit.into_market(),
+        }),
+        Err(TakeFault::Read) => Err(TakeFault::Read),
+        Err(TakeFault::Broken(fault)) => Err(TakeFault::Broken(fault)),
+    }
 }

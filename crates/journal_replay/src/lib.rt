@@ -1,6 +1,7 @@
 //! Journals from end to end: whether each entry is valid, and the market that they make.
 //!
-//! [`audit_pairs`] audits the entries that follow a magic, and [`replay`] a complete journal in memory. The laws of
+//! [`audit_pairs`] audits the entries that follow a magic in memory, [`audit_from`] those that are read through a window, and [`replay`] a
+//! complete journal in memory. The laws of
 //! audits and replays, whatever code there is, are in [`laws`].
 //!
 //! # Costs
@@ -13,5 +14,5 @@ mod auditing;
 pub mod laws;
 mod replaying;
 
-pub use auditing::{Audited, PairFault, audit_pairs};
+pub use auditing::{Audited, PairFault, audit_from, audit_pairs};
 pub use replaying::{ReplayFault, replay};

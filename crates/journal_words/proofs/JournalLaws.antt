@@ -34,7 +34,7 @@ use Rattle.journal_words.specs.Findings.{finding_line, IsExplained}
 use Rattle.journal_words.specs.Watching.{Watch, Watched, SeesOne, StopsOne, over_pairs}
 use Rattle.journal_words.specs.Words.{Counts, CountsOne, counting, explaining, telling, audit, explain, report}
 use Rattle.journal_words.specs.Private.{NumbersFit}
-use Rattle.journal_words.proofs.LongestPair.{longest}
+use Rattle.journal_replay.proofs.LongestPair.{longest}
 use Rattle.batch_report.proofs.SomeText.{some_text}
 
 -- The entry determines what is watched: what is seen, the reason and the text if it is invalid, and the text at the end.

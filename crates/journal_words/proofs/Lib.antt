@@ -1,2 +1,1 @@
-mod LongestPair
 pub mod JournalLaws

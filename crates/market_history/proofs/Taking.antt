@@ -11,8 +11,8 @@ use Rattle.file_units.proofs.Gone.{considered, within_limit}
 use Rattle.market_rules.specs.Market.{Market}
 use Rattle.market_snapshot.specs.Checkpoints.{IsCheckpoint, BeginsWithNoCheckpoint}
 use Rattle.market_history.specs.declared.start.StartFault.TheVariants.{Read, Memory, NoCheckpoint}
-use Rattle.market_history.specs.Kept.{TakesOn, FindsNone}
-use Rattle.market_history.specs.Private.{IsJoined, TakesAll, HasLeast, IsWholeIfAny}
+use Rattle.market_history.specs.Kept.{TakesOn, TakesSome, FindsNone}
+use Rattle.market_history.specs.Private.{IsJoined, TakesAll, TakesEnd, HasLeast, IsWholeIfAny}
 
 nothing_taken : (told : Option (List ℕ)) → Takes told told []
 nothing_taken None = tt
@@ -147,6 +147,70 @@ module _ (old new : WindowState) (prefix now : List ℕ) (x y : Option (List ℕ
     within = omega (arith, place, limit, few);
     all = known_all over is ended;
   }
+
+  -- and the end that was seen
+  pub read_end : new.over ≢ None → (new.over ≡ Some Source → IfSome y (λ left. left ≡ [])) → TakesEnd old new prefix now x y
+  read_end seen ended = record {
+    more = fills.joined;
+    past = fills.past;
+    takes = fills.taken;
+    grew = grown;
+    place = place;
+    held = held;
+    limit = limit;
+    room = ap (λ (w : WindowState). w.room) fills.holds;
+    within = inside;
+    beyond = beyond;
+    ended = seen;
+    all = ended;
+  }
+
+-- a step, and then the end of the input
+pub end_taken : (a b c : WindowState) (f g h : List ℕ) (x y z : Option (List ℕ)) → TakesOn a b f g x y → TakesEnd b c g h y z → TakesEnd a c f h x z
+end_taken a b c f g h x y z one end = record {
+  more = one.more ++ end.more;
+  past = end.past;
+  takes = subst (λ (xs : List ℕ). Takes x z xs) (sym (append_assoc one.more end.more end.past)) (Takes-more x y z one.more (end.more ++ end.past) one.takes end.takes);
+  grew = end.grew ∙ ap (λ xs. xs ++ end.more) one.grew ∙ append_assoc (f ++ a.held) one.more end.more;
+  place = end.place;
+  held = end.held;
+  limit = end.limit ∙ one.limit;
+  room = end.room ∙ one.room;
+  within = end.within;
+  beyond = end.beyond;
+  ended = end.ended;
+  all = end.all;
+}
+
+-- what was taken of a window's input, if its end was seen
+pub some_end : (a b : WindowState) (prefix : List ℕ) (x y : Option (List ℕ)) → TakesEnd a b [] prefix x y → TakesSome a b x y
+some_end a b prefix x y end = record {
+  more = end.more;
+  past = end.past;
+  takes = end.takes;
+  size = omega (arith, end.place, ap length end.held, ap length end.grew);
+  limit = end.limit;
+  room = end.room;
+  within = end.within;
+  beyond = end.beyond;
+  all = end.all;
+  empty = λ seen. end.held;
+}
+
+-- and if it wasn't seen
+pub some_on : (a b : WindowState) (prefix : List ℕ) (x y : Option (List ℕ)) → TakesOn a b [] prefix x y → TakesSome a b x y
+some_on a b prefix x y on = record {
+  more = on.more;
+  past = [];
+  takes = subst (λ (xs : List ℕ). Takes x y xs) (sym (append-nil on.more)) on.takes;
+  size = omega (arith, on.place, ap length on.grew, length-append prefix b.held);
+  limit = on.limit;
+  room = on.room;
+  within = subst (λ (o : Option InputEnd). IsWithin b.place (length b.held) b.limit o) (sym on.unended) on.within;
+  beyond = subst (λ (o : Option InputEnd). IsPast None o []) (sym on.unended) refl;
+  all = λ e. absurd (let no = sym on.unended ∙ e in cc);
+  empty = λ seen. absurd (seen on.unended);
+}
 
 -- a step, and then all bytes that are considered
 pub all_taken : (a b : WindowState) (f g h : List ℕ) (x y z : Option (List ℕ)) → TakesOn a b f g x y → TakesAll b g h y z → TakesAll a f h x z

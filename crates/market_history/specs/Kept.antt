@@ -1,7 +1,8 @@
 -- What reading a checkpoint from a source answers; the prefix here is the bytes of the checkpoint that were read so far.
-use Rattle.std.specs.Prelude.{◌≡◌, ◌+◌, ◌≤◌, ℕ, List, [], ◌++◌, length, take, Option, None}
+use Rattle.std.specs.Prelude.{◌≡◌, ◌≢◌, ◌+◌, ◌≤◌, ℕ, List, [], ◌++◌, length, take, Option, Some, None, IfSome}
 use Rattle.flow_io.specs.Streams.{Takes}
-use Rattle.flow_io.specs.Windows.{WindowState}
+use Rattle.flow_io.specs.Windows.{WindowState, IsPast, IsWithin}
+use Rattle.flow_io.specs.declared.window.InputEnd.TheVariants.{Source}
 use Rattle.file_units.specs.Inputs.{known}
 use Rattle.market_rules.specs.Market.{Market}
 use Rattle.market_snapshot.specs.Checkpoints.{IsCheckpoint, BeginsWithNoCheckpoint}
@@ -18,6 +19,20 @@ pub record TakesOn (old new : WindowState) (prefix now : List ℕ) (before after
   pub room : new.room ≡ old.room
   pub within : new.place + length new.held ≤ new.limit
   pub unended : new.over ≡ None
+
+-- Bytes were taken from a source through a window that began with its first byte: those given up since and those held, and perhaps the byte
+-- past the limit. Nothing is held if the end of the input was seen.
+pub record TakesSome (old new : WindowState) (before after : Option (List ℕ)) : Type 0 where
+  pub more : List ℕ
+  pub past : List ℕ
+  pub takes : Takes before after (more ++ past)
+  pub size : new.place + length new.held ≡ length (old.held ++ more)
+  pub limit : new.limit ≡ old.limit
+  pub room : new.room ≡ old.room
+  pub within : IsWithin new.place (length new.held) new.limit new.over
+  pub beyond : IsPast None new.over past
+  pub all : new.over ≡ Some Source → IfSome after (λ left. left ≡ [])
+  pub empty : new.over ≢ None → new.held ≡ []
 
 -- why no market was found where the magic of a checkpoint is, by the bytes that were taken after those that a window held
 abbrev pub FindsNone : (old : WindowState) (before after : Option (List ℕ)) → StartFault → Type 0

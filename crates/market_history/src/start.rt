@@ -5,8 +5,8 @@ ghost use Rattle.flow_io.specs.Streams.{Takes};
 ghost use Rattle.flow_io.specs.Windows.{empty_window};
 ghost use Rattle.market_snapshot.specs.Checkpoints.{checkpoint_bytes, HasCheckpointMagic, BeginsWithNoCheckpoint};
 ghost use Rattle.market_history.specs.Reading.{FindsStart};
-ghost use Rattle.market_history.specs.Kept.{TakesOn, FindsNone, FindsKept};
-ghost use Rattle.market_history.specs.Private.{IsJoined, TakesAll, IsWholeIfAny};
+ghost use Rattle.market_history.specs.Kept.{TakesOn, TakesSome, FindsNone, FindsKept};
+ghost use Rattle.market_history.specs.Private.{IsJoined, TakesAll, TakesEnd, IsWholeIfAny};
 
 use flow_io::{Filled, ReadAllFault, Source, Window};
 use journal_records::journal_version;
@@ -59,6 +59,7 @@ fn read_to<S: Source>(
     ensures there { IfOk result (λ there. IsTrue there → length prefix.new.items ≡ want) }
     ensures taken { IfOk result (λ there. IsTrue there → TakesOn window.old window.new prefix.old.items prefix.new.items (S.rest source.old) (S.rest source.new)) }
     ensures all { IfOk result (λ there. there ≡ false → TakesAll window.old prefix.old.items prefix.new.items (S.rest source.old) (S.rest source.new)) }
+    ensures ended { IfOk result (λ there. there ≡ false → TakesEnd window.old window.new prefix.old.items prefix.new.items (S.rest source.old) (S.rest source.new)) }
     ensures fewer { IfOk result (λ there. there ≡ false → length prefix.new.items < want) }
     ensures failed { OnErr result (TakesOn window.old window.new prefix.old.items prefix.new.items (S.rest source.old) (S.rest source.new)) }
     ensures unread { result ≡ Err ReadAllFault.Read → (window.new.held ≡ []) × (length prefix.new.items < want) }
@@ -93,6 +94,7 @@ fn read_checkpoint<S: Source>(
     ensures whole { OnOk result (IsWholeIfAny prefix.new.items) }
     ensures taken { OnOk result (TakesOn window.old window.new [] prefix.new.items (S.rest source.old) (S.rest source.new)) }
     ensures none { IfErr result (FindsNone window.old (S.rest source.old) (S.rest source.new)) }
+    ensures unsound { IfErr result (λ fault. fault ≡ StartFault.NoCheckpoint → TakesSome window.old window.new (S.rest source.old) (S.rest source.new)) }
     ensures cause { Blames (result ≡ Err StartFault.Read) (S.faults source.old) (S.faults source.new) }
 {
     'sizes: loop {
@@ -124,8 +126,8 @@ pub struct KeptCheckpoint {
 /// Reads the checkpoint of a market from a source, through a window that holds the first bytes of its input, and returns the market with
 /// the bytes that were read. The window then holds what was read after the checkpoint.
 ///
-/// `NoCheckpoint`: the input begins with no checkpoint of a consistent market within the window's limit. `Read`: only if the source's
-/// count of faults rose. Never returns `NotFlow`.
+/// `NoCheckpoint`: the input begins with no checkpoint of a consistent market within the window's limit; the window is then where the
+/// reading stopped, so that the rest of the input can be read on. `Read`: only if the source's count of faults rose. Never returns `NotFlow`.
 ///
 /// The checkpoint is read to its length, which its counts say, into memory of its own: what the window holds of it is copied, and what is
 /// missing is read straight into that memory, by reads of at most 65,536 bytes. Costs its bytes, once, and what [`read_market`] costs.
@@ -140,6 +142,7 @@ pub fn kept_checkpoint<S: Source>(
     ensures kept { IfOk result (λ kept. FindsKept window.old window.new (S.rest source.old) (S.rest source.new) kept.market) }
     ensures bytes { IfOk result (λ kept. kept.bytes.items ≡ checkpoint_bytes kept.market) }
     ensures none { IfErr result (FindsNone window.old (S.rest source.old) (S.rest source.new)) }
+    ensures unsound { IfErr result (λ fault. fault ≡ StartFault.NoCheckpoint → TakesSome window.old window.new (S.rest source.old) (S.rest source.new)) }
     ensures cause { Blames (result ≡ Err StartFault.Read) (S.faults source.old) (S.faults source.new) }
 {
     let mut bytes = Vec::new(alloc);
@@ -165,6 +168,7 @@ pub fn kept_market<S: Source>(
     requires first { window.old.place ≡ 0 }
     ensures kept { IfOk result (FindsKept window.old window.new (S.rest source.old) (S.rest source.new)) }
     ensures none { IfErr result (FindsNone window.old (S.rest source.old) (S.rest source.new)) }
+    ensures unsound { IfErr result (λ fault. fault ≡ StartFault.NoCheckpoint → TakesSome window.old window.new (S.rest source.old) (S.rest source.new)) }
     ensures cause { Blames (result ≡ Err StartFault.Read) (S.faults source.old) (S.faults source.new) }
 {
     match kept_checkpoint(alloc, window, source) {

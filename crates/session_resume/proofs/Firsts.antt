@@ -27,19 +27,19 @@ use Rattle.journal_replay.proofs.Replayed.{after_magic}
 use Rattle.session_resume.specs.Firsts.{BeginsWithJournal, BeginsIllegal}
 
 -- the entries of a journal are encoded as their records are
-file_in : (version : Version) (pairs : List (Pair Record Outcome)) → journal_in version pairs ≡ journal_magic_of version ++ encode_all journals.units (map records_of pairs)
+pub file_in : (version : Version) (pairs : List (Pair Record Outcome)) → journal_in version pairs ≡ journal_magic_of version ++ encode_all journals.units (map records_of pairs)
 file_in version pairs = journal_is_file.file version pairs
 
 module _ (version : Version) (bytes : List ℕ) (begins : (body : List ℕ) × BeginsWith journals.magics bytes version body) (More : Type 0) (legal : List (Pair Record Outcome)) (ending : Ending) (market : Market) where
   module _ (on : AuditsOn version 8 More (drop 8 bytes) legal [] ending market) where
-    abbrev rest : List ℕ
+    abbrev pub rest : List ℕ
     rest = on.reads.rest
 
     units_are : on.units ≡ map records_of legal
     units_are = on.judged.parts ∙ append-nil (map records_of legal)
 
     -- the bytes are the journal, and then the rest
-    whole : bytes ≡ journal_in version legal ++ rest
+    pub whole : bytes ≡ journal_in version legal ++ rest
     whole =
         let magic = journal_magic_of version in
         begins.1.1 ∙ ap (λ xs. magic ++ xs) (after_magic version bytes begins.0 begins.1 ∙ on.reads.whole ∙ ap (λ us. encode_all journals.units us ++ rest) units_are)

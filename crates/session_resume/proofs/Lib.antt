@@ -1,8 +1,15 @@
+pub mod CommandFiles
 mod Firsts
 mod Magics
 mod Written
 pub mod OneFirst
 pub mod OneResumption
-mod After
-mod Taken
 pub mod SomeResumption
+pub mod Alike
+mod Came
+mod Starts
+mod Parts
+mod Journals
+mod Unsound
+mod Served
+mod Done

@@ -1,7 +1,6 @@
 -- What records that were served have written, from a market on.
-use Rattle.std.proofs.Common.{◌≡◌, ◌+◌, ℕ, List, [], ◌∷◌, ◌++◌, length, take, drop, Ok, Err, append-nil, append_assoc, refl, sym, ap, ◌∙◌, arith, inl, inr}
+use Rattle.std.proofs.Common.{◌≡◌, ◌+◌, ℕ, List, [], ◌∷◌, ◌++◌, length, Ok, Err, append-nil, refl, ap, ◌∙◌, arith, inl, inr}
 use Rattle.std.specs.Prelude.{All}
-use Rattle.std.proofs.lemmas.List.{take-append-drop}
 use Rattle.std.proofs.lemmas.List.Elements.{All-nil, All-cons}
 use Rattle.wire_records.specs.Records.{Record}
 use Rattle.wire_records.specs.Commands.{Pair}
@@ -16,12 +15,12 @@ use Rattle.word_driver.specs.declared.fault.Fault.TheVariants.{Read, Write, Memo
 use Rattle.word_driver.specs.declared.fault.Never.{Never}
 use Rattle.word_driver.specs.Ended.{Ended}
 use Rattle.word_driver.specs.Word.{Goes, AtEnd, Halts, Passes, ComesOn, LacksOn}
-use Rattle.word_driver.specs.Private.{GetsTo}
 use Rattle.exchange_session.specs.Serving.{AnswersOne}
 use Rattle.exchange_session.specs.Running.{run}
+use Rattle.session_resume.specs.declared.first.Unfit.{Unfit}
 use Rattle.session_resume.specs.Continuing.{Continues}
 use Rattle.session_resume.specs.Rests.{ServesAll, ended_by}
-use Rattle.session_resume.specs.Private.{WritesInto, WritesShort}
+use Rattle.session_resume.specs.Private.{WritesShort}
 
 -- entries that answer records from a market on: none, and one more before others
 pub none_continues : (old : Market) → Continues old [] old []
@@ -85,20 +84,16 @@ module _ (old : Market) (More : Type 0) (place : ℕ) (body : List ℕ) where
   pub to_limit : (text : List ℕ) → ComesOn run More place body old (Err TooLong) text → ServesAll old More place body (Err TooLong) text
   to_limit text on = rw (so_far (Err TooLong) text on) (serves reading.TooLong on.units on.rest on.state on.so_far on.passes on.halts.0)
 
-  -- the entry of a record wasn't written completely
-  pub to_cut : (text : List ℕ) → GetsTo run More place body old text → WritesInto old body text
-  to_cut text (inl (n, ended, on)) = rw (so_far ended text on) (
-    on.units,
-    on.rest ++ drop n body,
-    on.state,
-    record {
-      whole = sym (take-append-drop n body) ∙ ap (λ xs. xs ++ drop n body) on.passes.whole ∙ append_assoc (encode_all commands.units on.units) on.rest (drop n body);
-      each = on.passes.each;
-      writes = written on.units on.rest on.state (take n body) on.so_far on.passes;
-    },
-  )
-  to_cut text (inr (ended, on)) = rw (so_far ended text on)
-      (on.units, on.rest, on.state, record { whole = on.passes.whole; each = on.passes.each; writes = written on.units on.rest on.state body on.so_far on.passes })
+  -- whatever ended it
+  pub serves_any : (ended : Ended Never) (text : List ℕ) → ComesOn run More place body old ended text → (other : Ended Unfit) × ServesAll old More place body other text
+  serves_any (Ok done) text on = (Ok tt, to_end text on)
+  serves_any (Err (Torn n)) text on = (Err (Torn n), to_torn n text on)
+  serves_any (Err TooLong) text on = (Err TooLong, to_limit text on)
+  serves_any (Err (Stopped why)) text on = elim why [ ]
+  serves_any (Err NotFlow) text on = absurd on.halts
+  serves_any (Err Read) text on = absurd on.halts
+  serves_any (Err Write) text on = absurd on.halts
+  serves_any (Err Memory) text on = absurd on.halts
 
   -- memory ran out at a record
   pub to_want : (text : List ℕ) → LacksOn run More place body old text → WritesShort old body text
@@ -116,7 +111,3 @@ module _ (old : Market) (More : Type 0) (place : ℕ) (body : List ℕ) where
         }
         | inr at ↦ absurd at.1
       ]
-
-  -- it never stops
-  pub no_stop : (why : Never) (text : List ℕ) → ComesOn run More place body old (Err (Stopped why)) text → ⊥
-  no_stop why text on = elim on.halts [ inl stops ↦ stops.3 | inr stops ↦ stops.1 ]

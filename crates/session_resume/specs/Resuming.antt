@@ -1,10 +1,16 @@
 -- `flow resume`: what it makes of the bytes of its source.
 use Rattle.std.specs.Prelude.{◌≡◌, ◌⊎◌, ℕ, List, [], ◌++◌, All, Err}
 use Rattle.wire_records.specs.Records.{Record}
+use Rattle.wire_records.specs.Commands.{Pair}
 use Rattle.wire_records.specs.Grammars.{BeginsWith, encode_all}
 use Rattle.wire_records.specs.Formats.{commands, command_magic_of}
+use Rattle.wire_records.specs.declared.version.Version.{Version}
+use Rattle.flow_orders.specs.Outcomes.{Outcome}
+use Rattle.journal_records.specs.Formats.{journals, journal_in}
 use Rattle.market_rules.specs.Market.{Market}
 use Rattle.market_rules.specs.Allocating.{RecordMayAllocate}
+use Rattle.batch_audit.specs.Legal.{IsLegalJournal}
+use Rattle.market_snapshot.specs.Checkpoints.{HasCheckpointMagic}
 use Rattle.word_driver.specs.Ended.{Ended}
 use Rattle.word_driver.specs.declared.fault.Fault.TheVariants.{NotFlow, TooLong, Stopped}
 use Rattle.session_resume.specs.declared.first.Origin.{Origin}
@@ -48,6 +54,18 @@ module _ (bytes : List ℕ) where
     pub each : All commands.units.IsLawful records
     pub writes : Continues market records new text
 
+  -- The bytes begin with a valid journal, followed by a complete entry whose command may allocate.
+  pub record LacksEntry : Type 0 where
+    pub version : Version
+    pub pairs : List (Pair Record Outcome)
+    pub market : Market
+    pub next : Record × Record
+    pub rest : List ℕ
+    pub legal : IsLegalJournal version pairs market
+    pub lawful : journals.units.IsLawful next
+    pub whole : bytes ≡ journal_in version pairs ++ (journals.units.encode next ++ rest)
+    pub allocates : RecordMayAllocate market next.0
+
   -- The text is that of the entries of the first records.
   pub record ResumesInto (text : List ℕ) : Type 0 where
     pub records : List Record
@@ -65,3 +83,8 @@ module _ (bytes : List ℕ) where
     pub first : ResumesFirst records left new text
     pub stands : BeginsWith commands.units left next following
     pub allocates : RecordMayAllocate new next
+
+  -- Memory may run out, and this is the text: none at an entry of the journal whose command may allocate, nor at a checkpoint; or that of the
+  -- entries of the records before one that may allocate.
+  abbrev pub ResumesLacks : List ℕ → Type 0
+  ResumesLacks text = (LacksEntry × (text ≡ [])) ⊎ (HasCheckpointMagic bytes × (text ≡ [])) ⊎ ResumesShort text

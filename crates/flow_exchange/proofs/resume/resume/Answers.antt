@@ -1,4 +1,3 @@
-use Rattle.std.proofs.Common.{ap}
 use Rattle.flow_io.specs.Changes.{change}
 use Rattle.session_resume.specs.Tasks.{resuming}
 use Rattle.flow_exchange.specs.declared.form.Form.TheVariants.{Resume}
@@ -13,5 +12,5 @@ returns g c =
     let out = change g.K.Sink.held g.K.Sink.faults c.args.out.now c.resume_source-ended.new.out in
     record {
       asked = rw c.resumed_status.ensures (not_asked resuming Resume c.args.limit unfit_status resume_form c.resume_source-ended.result);
-      does = rw c.resumed_status.ensures (does resuming Resume c.args.limit unfit_status resume_form c.resume_source-ended.result source out (λ e. ap g.K.Sink.held (c.resume_source-ended.ensures.unread e)) c.resume_source-ended.ensures.does);
+      does = rw c.resumed_status.ensures (does resuming Resume c.args.limit unfit_status resume_form c.resume_source-ended.result source out (λ e. tt) c.resume_source-ended.ensures.does);
     }

@@ -1,4 +1,4 @@
-use Rattle.market_history.proofs.Taking.{none_at, whole_one, none_after}
+use Rattle.market_history.proofs.Taking.{none_at, whole_one, none_after, some_on}
 use Rattle.market_history.proofs.start.kept_checkpoint.Goals as goal
 
 pub returns-in-Ok-read_market-clause-kept : goal.returns-in-Ok-read_market-clause-kept
@@ -23,3 +23,7 @@ returns-in-Ok-read_market-clause-bytes g c =
     let prefix = c.read_checkpoint.new.prefix.items in
     let read = rw c.deref.ensures.value at c.in-Ok-read_market.ensures in
     (whole_one prefix c.in-Ok-read_market.market _ c.in-Ok.ensures.whole read.0 read.1).encoded
+
+pub returns-in-Err-NotSound-clause-unsound : goal.returns-in-Err-NotSound-clause-unsound
+returns-in-Err-NotSound-clause-unsound g c = λ e.
+    some_on c.args.window.now c.read_checkpoint.new.window c.read_checkpoint.new.prefix.items (g.S.Source.rest c.args.source.now) (g.S.Source.rest c.read_checkpoint.new.source) c.in-Ok.ensures.taken

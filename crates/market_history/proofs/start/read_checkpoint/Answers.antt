@@ -1,6 +1,6 @@
 use Rattle.std.proofs.Common.{◌≡◌, ◌≤◌, ◌++◌, [], Err, length, length-append, drop, append_assoc, sym, ap, ◌∙◌, arith}
 use Rattle.flow_io.specs.declared.whole.ReadAllFault.{ReadAllFault}
-use Rattle.market_history.proofs.Taking.{more_taken, prefix_of, none_at, may_run_out, not_read, all_short}
+use Rattle.market_history.proofs.Taking.{more_taken, end_taken, prefix_of, none_at, may_run_out, not_read, all_short, some_on, some_end}
 use Rattle.market_history.proofs.start.read_checkpoint.Goals as goal
 
 pub returns-in-None-clause-none : goal.returns-in-None-clause-none
@@ -46,3 +46,15 @@ returns-in-Err-Memory-clause-none g c =
     let l = c.sizes in
     let all = more_taken c.args.window.now l.window c.read_to.new.window [] l.prefix.items c.read_to.new.prefix.items (g.S.Source.rest c.args.source.now) (g.S.Source.rest l.source) (g.S.Source.rest c.read_to.new.source) l.invariant.taken c.in-Err-Memory.ensures.failed in
     may_run_out c.args.window.now c.read_to.new.window c.read_to.new.prefix.items (g.S.Source.rest c.args.source.now) (g.S.Source.rest c.read_to.new.source) all
+
+pub returns-in-None-clause-unsound : goal.returns-in-None-clause-unsound
+returns-in-None-clause-unsound g c = λ e.
+    let l = c.sizes in
+    some_on c.args.window.now l.window l.prefix.items (g.S.Source.rest c.args.source.now) (g.S.Source.rest l.source) l.invariant.taken
+
+pub returns-in-Ok-false-clause-unsound : goal.returns-in-Ok-false-clause-unsound
+returns-in-Ok-false-clause-unsound g c = λ e.
+    let l = c.sizes in
+    let new = c.read_to.new.prefix.items in
+    some_end c.args.window.now c.read_to.new.window new (g.S.Source.rest c.args.source.now) (g.S.Source.rest c.read_to.new.source)
+    (end_taken c.args.window.now l.window c.read_to.new.window [] l.prefix.items new (g.S.Source.rest c.args.source.now) (g.S.Source.rest l.source) (g.S.Source.rest c.read_to.new.source) l.invariant.taken (c.in-Ok-false.ensures.ended c.in-Ok-false.field-0-test))

@@ -1,5 +1,5 @@
 -- A command file states a length above any record's, and so begins no entry.
-use Rattle.std.proofs.Common.{◌+◌, ℕ, List, ◌∷◌, ◌++◌, refl, arith}
+use Rattle.std.proofs.Common.{◌+◌, ℕ, List, ◌∷◌, ◌++◌, inl, refl, arith}
 use Rattle.wire_records.specs.Records.{head, StatesLength, most_body}
 use Rattle.wire_records.specs.Grammars.{BeginsWithNone}
 use Rattle.wire_records.specs.Formats.{command_magic_of}
@@ -23,3 +23,7 @@ pub command_files_begin_no_pair : (version : Version) (body : List ℕ) → Begi
 command_files_begin_no_pair version body =
     let bytes = command_magic_of version ++ body in
     no_pair-from_first most_body most_reply_body bytes (no_prefix-from_overlong most_body stated bytes (omega arith) (states version body) (omega arith))
+
+-- it is overlong as an entry
+pub command_files_are_overlong : (version : Version) (body : List ℕ) → journals.IsOverlong (command_magic_of version ++ body)
+command_files_are_overlong version body = inl (stated, states version body, omega arith)

@@ -8,6 +8,7 @@ use Rattle.wire_records.proofs.Encoded.{length-encoding}
 use Rattle.file_units.specs.Inputs.{HasLongest}
 use Rattle.file_units.proofs.Longest.{record_or_over, over_stays}
 use Rattle.journal_records.specs.Formats.{journals}
+use Rattle.journal_records.specs.Pairs.{longest_pair}
 use Rattle.journal_records.proofs.PairPrefixes.{no_pair-from_first, no_pair-from_second}
 
 -- a complete first record, and then the second, or one that is too long
@@ -36,3 +37,7 @@ no_pair bytes (inr (first, rest, begins, over)) =
 
 pub longest : HasLongest journals 263178
 longest = record { seen = seen; stays = stays; none = no_pair }
+
+-- a window with room for the longest entry shows as much
+pub longest_within : (room : ℕ) → longest_pair ≤ room → HasLongest journals room
+longest_within room wide = record { seen = λ bytes are long none. longest.seen bytes are (omega (arith, long, wide)) none; stays = longest.stays; none = longest.none }
